@@ -22,9 +22,9 @@ MOST_BYTES = 20000
 # The pages, each with its crates.
 GROUPS = {
     "outside": ("The outside, numbers and lattices", ["sv_num", "sv_io", "sv_lattice", "sv_system"]),
-    "texts": ("Reading a text", ["sv_token", "sv_ast", "sv_grammar", "sv_read", "sv_statement", "sv_parse"]),
-    "elaboration": ("Elaboration", ["sv_walk", "sv_width", "sv_body", "sv_declare", "sv_elab", "sv_flatten", "sv_text_laws"]),
-    "designs": ("Flat designs, runs and traces", ["sv_flat", "sv_design", "sv_sim", "sv_event", "sv_trace", "sv_simulate", "sv_tworun", "sv_compare"]),
+    "texts": ("Reading a text", ["sv_token", "sv_ast", "sv_parse_machine", "sv_parse_expr", "sv_parse_stmt", "sv_parse"]),
+    "elaboration": ("Elaboration", ["sv_elab_rules", "sv_width", "sv_elab_stmt", "sv_elab_decl", "sv_elab", "sv_elab_laws", "sv_run_laws"]),
+    "designs": ("Flat designs, runs and traces", ["sv_flat", "sv_design", "sv_sim", "sv_event", "sv_trace", "sv_sim_run", "sv_tworun", "sv_compare"]),
     "obligations": ("Obligations, their clauses and proofs",
                     ["sv_obl", "sv_clause", "sv_gates", "sv_circuits", "sv_encoding", "sv_encoding_laws", "sv_blast", "sv_proof", "sv_solve", "sv_decide",
                      "sv_accept", "sv_judge"]),

@@ -22,7 +22,7 @@ BEGIN, END = "<!-- reading list: made by tools/reading.py --write -->", "<!-- en
 # What is read, from which function of which file, by which of its clauses (None: by all).
 READINGS = [
     ("The headline: `noninterference` of `run`", "sv_cli/src/top.rt", "run", "noninterference"),
-    ("The whole language: `valid_bytes_are_noninterferent`", "sv_text_laws/src/lib.rt", "valid_bytes_are_noninterferent", None),
+    ("The whole language: `valid_bytes_are_noninterferent`", "sv_run_laws/src/lib.rt", "valid_bytes_are_noninterferent", None),
     ("All clauses of `run`", "sv_cli/src/top.rt", "run", None),
 ]
 USE = re.compile(r"^\s*(?:pub |ghost )?use ([\w.+-]+?)(?:\.\{([^}]*)\})?(?: as (\S+?))?;?$", re.M)

@@ -5,11 +5,11 @@ use Rattle.std.specs.Prelude.{IsTrue, position, option_map}
 use Rattle.std.specs.Option.{is_some}
 use Rattle.std.specs.Str.{bytes_eq}
 use Rattle.sv_io.specs.Exchange.{Exchange}
-use Rattle.sv_flatten.specs.FlattenedTexts.{CanBeFlattened}
+use Rattle.sv_elab_laws.specs.FlattenedTexts.{CanBeFlattened}
 use Rattle.sv_trace.specs.Forms.{StimForm, form_of}
-use Rattle.sv_text_laws.specs.SimulatedTexts.{text_form}
-use Rattle.sv_text_laws.proofs.TextLaws.{read_flattened}
-use Rattle.sv_text_laws.proofs.TextNames as names
+use Rattle.sv_run_laws.specs.SimulatedTexts.{text_form}
+use Rattle.sv_run_laws.proofs.TextLaws.{read_flattened}
+use Rattle.sv_run_laws.proofs.TextNames as names
 use Rattle.sv_compare.proofs.TextFindings.{same_form, point_sees, compared_alike}
 use Rattle.sv_compare.proofs.ToldSignals.{told_itself}
 use Rattle.sv_cli.specs.Answer.{Answer}

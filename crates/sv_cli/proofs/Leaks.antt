@@ -7,14 +7,14 @@ use Rattle.sv_ast.specs.TextSystem.{text_system}
 use Rattle.sv_ast.specs.Tree.{TextTree}
 use Rattle.sv_flat.specs.Design.{FlatDesign}
 use Rattle.sv_io.specs.Exchange.{Exchange}
-use Rattle.sv_simulate.specs.declared.endings.Ending.{Ending}
-use Rattle.sv_simulate.specs.declared.endings.Ending.TheVariants as endings
+use Rattle.sv_sim_run.specs.declared.endings.Ending.{Ending}
+use Rattle.sv_sim_run.specs.declared.endings.Ending.TheVariants as endings
 use Rattle.sv_tworun.specs.Comparisons.{FindsNoLeak}
 use Rattle.sv_tworun.specs.Forms.{Finding}
 use Rattle.sv_tworun.specs.Forms as finding
-use Rattle.sv_text_laws.specs.FalsifiedTexts.{number_of}
-use Rattle.sv_text_laws.specs.Signals.{text_signals}
-use Rattle.sv_text_laws.specs.SimulatedTexts.{text_form}
+use Rattle.sv_run_laws.specs.FalsifiedTexts.{number_of}
+use Rattle.sv_run_laws.specs.Signals.{text_signals}
+use Rattle.sv_run_laws.specs.SimulatedTexts.{text_form}
 use Rattle.sv_compare.specs.ComparedTexts.{IsTextCompared, numbered}
 use Rattle.sv_words.specs.Words.{Request, check, verify, list, cnf, sim, compare, gen}
 use Rattle.sv_report.specs.declared.styles.Style.{Style}

@@ -6,11 +6,11 @@ use Rattle.std.specs.Prelude.{decimal, nat_lt, IsFalse}
 use Rattle.std.proofs.lemmas.Bool.{both_ways, le-ltb, lt-ltb}
 use Rattle.sv_ast.specs.GrammarMeaning.{Means}
 use Rattle.sv_ast.specs.Tree.{TextTree}
-use Rattle.sv_grammar.proofs.OneText.{one_meaning}
+use Rattle.sv_parse_machine.proofs.OneText.{one_meaning}
 use Rattle.sv_flat.specs.Admission.{IsAdmitted}
 use Rattle.sv_flat.specs.Design.{FlatDesign}
-use Rattle.sv_flatten.specs.FlattenedTexts.{EachItem, ReleasesNothing}
-use Rattle.sv_walk.specs.Texts.{flat_of}
+use Rattle.sv_elab_laws.specs.FlattenedTexts.{EachItem, ReleasesNothing}
+use Rattle.sv_elab_rules.specs.Texts.{flat_of}
 use Rattle.sv_io.specs.Exchange.{Exchange}
 use Rattle.sv_gates.specs.Formulas.{most_variables}
 use Rattle.sv_obl.specs.Limits.{Excess, excess}
@@ -18,8 +18,8 @@ use Rattle.sv_obl.specs.ListLines.{list_text}
 use Rattle.sv_obl.specs.Obligations.{Obligation}
 use Rattle.sv_encoding.specs.CnfText.{cnf_text}
 use Rattle.sv_encoding.specs.Encoding.{encoding}
-use Rattle.sv_simulate.specs.declared.endings.Ending.{Ending}
-use Rattle.sv_text_laws.specs.SimulatedTexts.{IsTextSimulated, HasOneWrittenText}
+use Rattle.sv_sim_run.specs.declared.endings.Ending.{Ending}
+use Rattle.sv_run_laws.specs.SimulatedTexts.{IsTextSimulated, HasOneWrittenText}
 use Rattle.sv_words.specs.Words.{Request, check, verify, list, cnf, sim, compare, gen}
 use Rattle.sv_report.specs.Styles.{limit_in}
 use Rattle.sv_report.specs.declared.styles.Style.{Style}

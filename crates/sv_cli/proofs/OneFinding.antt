@@ -10,20 +10,20 @@ use Rattle.sv_ast.specs.GrammarMeaning.{Means}
 use Rattle.sv_ast.specs.Reach.{holds}
 use Rattle.sv_ast.specs.SourceLabels.{points}
 use Rattle.sv_ast.specs.Tree.{TextTree}
-use Rattle.sv_grammar.proofs.OneText.{one_meaning}
+use Rattle.sv_parse_machine.proofs.OneText.{one_meaning}
 use Rattle.sv_flat.specs.Admission.{IsAdmitted}
 use Rattle.sv_flat.specs.Design.{FlatDesign}
-use Rattle.sv_flatten.specs.FlattenedTexts.{EachItem, ReleasesNothing}
-use Rattle.sv_walk.specs.Texts.{flat_of}
+use Rattle.sv_elab_laws.specs.FlattenedTexts.{EachItem, ReleasesNothing}
+use Rattle.sv_elab_rules.specs.Texts.{flat_of}
 use Rattle.sv_trace.specs.declared.faults.StimFault.{StimFault}
 use Rattle.sv_trace.specs.declared.faults.StimFault.TheVariants.{Line}
 use Rattle.sv_texts.specs.declared.stimuli.StimKind.{StimKind}
 use Rattle.sv_trace.specs.Forms.{StimForm}
 use Rattle.sv_trace.specs.Stimulus.{LinesRead, read_whole}
 use Rattle.sv_tworun.specs.Forms.{Finding}
-use Rattle.sv_text_laws.specs.FalsifiedTexts.{number_of}
-use Rattle.sv_text_laws.specs.Signals.{text_signals, dotted}
-use Rattle.sv_text_laws.specs.SimulatedTexts.{text_form}
+use Rattle.sv_run_laws.specs.FalsifiedTexts.{number_of}
+use Rattle.sv_run_laws.specs.Signals.{text_signals, dotted}
+use Rattle.sv_run_laws.specs.SimulatedTexts.{text_form}
 use Rattle.sv_compare.specs.ComparedTexts.{IsTextCompared, HasOneFinding, numbered, named}
 use Rattle.sv_texts.specs.Texts.{stimulus_text}
 use Rattle.sv_report.specs.declared.styles.Style.TheVariants.{Lines}

@@ -6,13 +6,13 @@ use Rattle.std.proofs.lemmas.Bool.{both_ways}
 use Rattle.sv_num.specs.declared.faults.Place.{Place}
 use Rattle.sv_ast.specs.Tree.{TextTree}
 use Rattle.sv_ast.specs.GrammarMeaning.{Means, BreaksSyntax}
-use Rattle.sv_grammar.proofs.OneText.{one_meaning}
-use Rattle.sv_grammar.proofs.Syntax.{text_breaks_nothing, one_syntax_rule}
+use Rattle.sv_parse_machine.proofs.OneText.{one_meaning}
+use Rattle.sv_parse_machine.proofs.Syntax.{text_breaks_nothing, one_syntax_rule}
 use Rattle.sv_flat.specs.Design.{FlatDesign}
 use Rattle.sv_flat.specs.Admission.{IsRefused}
-use Rattle.sv_walk.specs.Walks.{Step}
-use Rattle.sv_walk.specs.Rules.{step}
-use Rattle.sv_walk.specs.Texts.{flat_of, value_in, BreaksRule}
+use Rattle.sv_elab_rules.specs.Walks.{Step}
+use Rattle.sv_elab_rules.specs.Rules.{step}
+use Rattle.sv_elab_rules.specs.Texts.{flat_of, value_in, BreaksRule}
 use Rattle.sv_report.specs.Styles.{refusal_in}
 use Rattle.sv_report.specs.declared.styles.Style.{Style}
 use Rattle.sv_cli.specs.Answer.{Answer, rule_broken}

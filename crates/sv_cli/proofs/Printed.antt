@@ -7,9 +7,9 @@ use Rattle.sv_obl.specs.Obligations.{Obligation, obligations}
 use Rattle.sv_obl.specs.declared.valuations.Valuation.{Valuation as Listed}
 use Rattle.sv_judge.specs.Verdicts.{IsNumbered, IsFalsified}
 use Rattle.sv_flat.specs.Design.{FlatDesign}
-use Rattle.sv_text_laws.specs.FalsifiedTexts.{ListsFalsifyText}
-use Rattle.sv_text_laws.proofs.ListedValues.{listed_alike}
-use Rattle.sv_text_laws.proofs.TextLaws.{read_flattened}
+use Rattle.sv_run_laws.specs.FalsifiedTexts.{ListsFalsifyText}
+use Rattle.sv_run_laws.proofs.ListedValues.{listed_alike}
+use Rattle.sv_run_laws.proofs.TextLaws.{read_flattened}
 use Rattle.sv_cli.specs.Texts.{Passes}
 use Rattle.sv_cli.proofs.TreeAnswers.{releases_nothing}
 

@@ -5,10 +5,10 @@ use Rattle.std.specs.List.{AllZip}
 use Rattle.std.proofs.lemmas.Bool.{both_ways}
 use Rattle.std.proofs.lemmas.List.Elements.{All-nil, All-cons, All-head, All-tail}
 use Rattle.sv_num.specs.declared.faults.Place.{Place}
-use Rattle.sv_grammar.proofs.OneText.{one_meaning}
+use Rattle.sv_parse_machine.proofs.OneText.{one_meaning}
 use Rattle.sv_clause.specs.Logs.{Step}
 use Rattle.sv_flat.specs.Design.{FlatDesign}
-use Rattle.sv_flatten.specs.FlattenedTexts.{CanBeFlattened}
+use Rattle.sv_elab_laws.specs.FlattenedTexts.{CanBeFlattened}
 use Rattle.sv_obl.specs.DesignQueries.{IsQueryOf}
 use Rattle.sv_obl.specs.Noninterference.{IsChecked}
 use Rattle.sv_obl.specs.Obligations.{Obligation, obligations}
@@ -17,8 +17,8 @@ use Rattle.sv_obl.proofs.DesignQueryFacts.{all_are}
 use Rattle.sv_encoding.specs.Deciding.{IsRefutedBy, IsProved}
 use Rattle.sv_judge.specs.Certified.{IsShown}
 use Rattle.sv_judge.specs.Verdicts.{IsProvedFor}
-use Rattle.sv_text_laws.proofs.CheckedDesigns.{admitted_checked}
-use Rattle.sv_text_laws.proofs.TextLaws.{read_flattened, valid_noninterferent, admitted_one_trace}
+use Rattle.sv_run_laws.proofs.CheckedDesigns.{admitted_checked}
+use Rattle.sv_run_laws.proofs.TextLaws.{read_flattened, valid_noninterferent, admitted_one_trace}
 use Rattle.sv_io.specs.Exchange.{Exchange}
 use Rattle.sv_gen.specs.Sample.{sample_text}
 use Rattle.sv_words.specs.Words.{Request, check, verify, list, cnf, sim, compare, gen}

@@ -6,8 +6,8 @@ use Rattle.std.proofs.lemmas.List.{append-nil, append_cancel_left}
 use Rattle.sv_io.specs.Sink.{WritesFront}
 use Rattle.sv_io.specs.Source.{WhateverFollows}
 use Rattle.sv_flat.specs.Design.{FlatDesign}
-use Rattle.sv_simulate.specs.declared.endings.Ending.{Ending}
-use Rattle.sv_simulate.specs.Simulated.{largest_stimulus, IsSimulated, WritesFrontFor}
+use Rattle.sv_sim_run.specs.declared.endings.Ending.{Ending}
+use Rattle.sv_sim_run.specs.Simulated.{largest_stimulus, IsSimulated, WritesFrontFor}
 use Rattle.sv_cli.specs.Answer.{Answer}
 use Rattle.sv_cli.specs.Prepared.{EndsAs, Performs}
 use Rattle.sv_cli.specs.Simulates.{answer_by}

@@ -2,10 +2,10 @@
 use Rattle.std.proofs.Common.{ℕ, List, Option, sym, subst}
 use Rattle.sv_flat.specs.Design.{FlatDesign}
 use Rattle.sv_io.specs.Exchange.{Exchange}
-use Rattle.sv_simulate.specs.Simulated.{WritesAllCycles}
-use Rattle.sv_text_laws.specs.SimulatedTexts.{IsWrittenAlike, WritesTextCycles}
-use Rattle.sv_text_laws.proofs.TextLaws.{read_flattened}
-use Rattle.sv_text_laws.proofs.TextSimulations.{written_alike}
+use Rattle.sv_sim_run.specs.Simulated.{WritesAllCycles}
+use Rattle.sv_run_laws.specs.SimulatedTexts.{IsWrittenAlike, WritesTextCycles}
+use Rattle.sv_run_laws.proofs.TextLaws.{read_flattened}
+use Rattle.sv_run_laws.proofs.TextSimulations.{written_alike}
 use Rattle.sv_cli.specs.Answer.{Answer}
 use Rattle.sv_cli.specs.Prepared.{EndsAs, MaySimulateDesign}
 use Rattle.sv_cli.specs.Runs.{WritesCycles}

@@ -10,7 +10,7 @@ use Rattle.sv_io.specs.Sink.{WritesFront}
 use Rattle.sv_io.specs.Source.{WhateverFollows}
 use Rattle.sv_io.specs.Traffic.{Files, Input, Output, Traffic, IsFailed, FailsToFetch}
 use Rattle.sv_io.specs.Traffic.{FailsToStore, input_by}
-use Rattle.sv_simulate.specs.Simulated.{largest_stimulus, level_asked, WritesAllCycles}
+use Rattle.sv_sim_run.specs.Simulated.{largest_stimulus, level_asked, WritesAllCycles}
 use Rattle.sv_words.specs.Words.{Request, request_of, usage_of}
 use Rattle.sv_words.specs.declared.command.UsageKind.{UsageKind}
 use Rattle.sv_cli.specs.declared.outcome.Outcome.{Outcome}

@@ -22,15 +22,15 @@ use Rattle.sv_ast.specs.Tree.{ModuleTree as WholeModule}
 use Rattle.sv_ast.specs.Shape.{is_shaped}
 use Rattle.sv_ast.specs.Views.{item_tree, module_tree, pair_tree, lattice_tree, map_tree, text_tree}
 use Rattle.sv_ast.specs.GrammarMeaning.{Means}
-use Rattle.sv_grammar.proofs.ShapedTexts.{text_is_shaped}
+use Rattle.sv_parse_machine.proofs.ShapedTexts.{text_is_shaped}
 use Rattle.sv_flat.specs.declared.designs.Flat.{Flat}
 use Rattle.sv_flat.specs.Admission.{IsRefused, IsAdmitted}
 use Rattle.sv_flat.specs.Design.{FlatDesign}
 use Rattle.sv_flat.specs.Views.{design_of}
 use Rattle.sv_design.specs.Faults.{IsFaultOf}
-use Rattle.sv_walk.specs.Texts.{walk_of, value_in}
+use Rattle.sv_elab_rules.specs.Texts.{walk_of, value_in}
 use Rattle.sv_width.specs.Answers.{IsBreach}
-use Rattle.sv_flatten.specs.FlattenedTexts.{ReleasesNothing, EachItem}
+use Rattle.sv_elab_laws.specs.FlattenedTexts.{ReleasesNothing, EachItem}
 use Rattle.sv_cli.specs.Texts.{largest_file, is_unbuilt_item, has_unbuilt_item, StandsFor}
 use Rattle.sv_cli.specs.Texts.{BreaksFirst}
 use Rattle.sv_cli.specs.Report.{IsFaultBy, BreaksAsTree, IsFlatOf}

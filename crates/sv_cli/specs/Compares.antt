@@ -6,16 +6,16 @@ use Rattle.sv_io.specs.Exchange.{Exchange, fetched, whole, too_long}
 use Rattle.sv_ast.specs.Reach.{holds}
 use Rattle.sv_ast.specs.SourceLabels.{points}
 use Rattle.sv_ast.specs.Tree.{TextTree}
-use Rattle.sv_flatten.specs.SideBySide.{text_signals}
+use Rattle.sv_elab_laws.specs.SideBySide.{text_signals}
 use Rattle.sv_trace.specs.declared.faults.StimFault.TheVariants.{Line}
 use Rattle.sv_texts.specs.declared.stimuli.StimKind.{StimKind}
 use Rattle.sv_trace.specs.Forms.{StimForm}
 use Rattle.sv_trace.specs.Stimulus.{LinesRead, read_whole, fault_of}
 use Rattle.sv_tworun.specs.Forms.{Finding}
 use Rattle.sv_tworun.specs.Forms as finding
-use Rattle.sv_text_laws.specs.FalsifiedTexts.{number_of}
-use Rattle.sv_text_laws.specs.Signals.{dotted}
-use Rattle.sv_text_laws.specs.SimulatedTexts.{text_form}
+use Rattle.sv_run_laws.specs.FalsifiedTexts.{number_of}
+use Rattle.sv_run_laws.specs.Signals.{dotted}
+use Rattle.sv_run_laws.specs.SimulatedTexts.{text_form}
 use Rattle.sv_compare.specs.ComparedTexts.{IsTextCompared, numbered, named}
 use Rattle.sv_report.specs.Text.{equal_text, input_text, view_text, lengths_text}
 use Rattle.sv_texts.specs.Texts.{stimulus_text}

@@ -17,8 +17,8 @@ use Rattle.sv_encoding.specs.Encoding.{encoding}
 use Rattle.sv_encoding.specs.CnfText.{cnf_text}
 use Rattle.sv_blast.specs.Coded.{encoding_of}
 use Rattle.sv_blast.specs.declared.coded.Coded.{Coded}
-use Rattle.sv_simulate.specs.Simulated.{IsSimulated}
-use Rattle.sv_simulate.specs.declared.endings.Ending.{Ending}
+use Rattle.sv_sim_run.specs.Simulated.{IsSimulated}
+use Rattle.sv_sim_run.specs.declared.endings.Ending.{Ending}
 use Rattle.sv_words.specs.Words.{Request, check, verify, list, cnf, sim, compare, gen}
 use Rattle.sv_words.specs.Words.{request_of, usage_of}
 use Rattle.sv_cli.specs.declared.prepared.NoReport.{NoReport}

@@ -5,7 +5,7 @@ use Rattle.sv_num.specs.declared.faults.Fault.{Fault}
 use Rattle.sv_num.specs.declared.faults.Fault.TheVariants.{Rule, OutOfMemory}
 use Rattle.sv_ast.specs.Tree.{TextTree}
 use Rattle.sv_flat.specs.Design.{FlatDesign}
-use Rattle.sv_walk.specs.Texts.{flat_of, BreaksRule}
+use Rattle.sv_elab_rules.specs.Texts.{flat_of, BreaksRule}
 use Rattle.sv_cli.specs.Texts.{has_unbuilt_item, IsNotBuilt}
 
 -- the fault is want of memory, or tells of a rule of which this holds

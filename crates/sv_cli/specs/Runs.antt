@@ -8,8 +8,8 @@ use Rattle.sv_io.specs.Sink.{WritesFront}
 use Rattle.sv_io.specs.Source.{WhateverFollows}
 use Rattle.sv_io.specs.Traffic.{Traffic, Files, Input, Output, Passed, IsFailed, FailsToFetch}
 use Rattle.sv_io.specs.Traffic.{FailsToStore}
-use Rattle.sv_simulate.specs.Simulated.{largest_stimulus, level_asked}
-use Rattle.sv_text_laws.specs.SimulatedTexts.{WritesTextCycles}
+use Rattle.sv_sim_run.specs.Simulated.{largest_stimulus, level_asked}
+use Rattle.sv_run_laws.specs.SimulatedTexts.{WritesTextCycles}
 use Rattle.sv_words.specs.Words.{sim, request_of, usage_of}
 use Rattle.sv_cli.specs.declared.outcome.Outcome.{Outcome}
 use Rattle.sv_cli.specs.declared.outcome.Outcome.TheVariants.{ReadFault, WriteFault}

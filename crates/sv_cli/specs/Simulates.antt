@@ -1,9 +1,9 @@
 -- What `sim` answers for a text that breaks no rule and a stimulus, and what it prints.
 use Rattle.std.specs.Prelude.{◌≡◌, ℕ, List, [], Option}
-use Rattle.sv_simulate.specs.declared.endings.Ending.{Ending}
-use Rattle.sv_simulate.specs.declared.endings.Ending.TheVariants as endings
+use Rattle.sv_sim_run.specs.declared.endings.Ending.{Ending}
+use Rattle.sv_sim_run.specs.declared.endings.Ending.TheVariants as endings
 use Rattle.sv_texts.specs.declared.stimuli.StimSource.TheVariants.{Input}
-use Rattle.sv_text_laws.specs.SimulatedTexts.{IsTextSimulated}
+use Rattle.sv_run_laws.specs.SimulatedTexts.{IsTextSimulated}
 use Rattle.sv_cli.specs.Answer.{Answer, done, limit_exceeded, stimulus_refused}
 use Rattle.sv_cli.specs.Texts.{Passes}
 

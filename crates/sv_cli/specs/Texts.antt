@@ -8,7 +8,7 @@ use Rattle.sv_ast.specs.GrammarMeaning.{Means, BreaksSyntax}
 use Rattle.sv_ast.specs.TextSystem.{text_system}
 use Rattle.sv_flat.specs.Design.{FlatDesign}
 use Rattle.sv_flat.specs.Admission.{IsAdmitted, IsRefused}
-use Rattle.sv_walk.specs.Texts.{flat_of, BreaksRule}
+use Rattle.sv_elab_rules.specs.Texts.{flat_of, BreaksRule}
 use Rattle.sv_obl.specs.Asked.{AskedHold}
 use Rattle.sv_report.specs.Styles.{refusal_in}
 use Rattle.sv_report.specs.declared.styles.Style.{Style}

@@ -6,7 +6,7 @@ ghost use Rattle.sv_io.specs.Exchange.{Exchange};
 ghost use Rattle.sv_obl.specs.Asked.{AskedHold};
 ghost use Rattle.sv_obl.specs.declared.valuations.Valuation.{Valuation as Listed};
 ghost use Rattle.sv_judge.specs.Verdicts.{IsAccepted, IsFalsified};
-ghost use Rattle.sv_text_laws.specs.FalsifiedTexts.{ListsFalsifyText};
+ghost use Rattle.sv_run_laws.specs.FalsifiedTexts.{ListsFalsifyText};
 ghost use Rattle.sv_words.specs.Words.{Request};
 ghost use Rattle.sv_cli.specs.Answer.{Answer, done, views_differ};
 ghost use Rattle.sv_cli.specs.Checks.{IsCertificate};
@@ -22,7 +22,7 @@ ghost use Rattle.sv_cli.specs.Verifies.{Judges};
 use sv_clause::refuted_has_no_solution;
 use sv_compare::{each_pair_of_stimuli_has_one_finding, secret_keeping_texts_show_no_leak};
 use sv_encoding_laws::unmet_clauses_mean_valid;
-use sv_text_laws::each_stimulus_of_a_text_has_one_text;
+use sv_run_laws::each_stimulus_of_a_text_has_one_text;
 
 /// For what was asked, exchanged and given as stimulus there is at most one right answer, with one
 /// text that is printed for it, but for another circle of rule 607: of every command but `check`

@@ -11,7 +11,7 @@
 //! `Answer.antt` which answers and statuses there are, `Texts.antt` which rule a text breaks first,
 //! and `Limits.antt` what is told of limits. The texts of verdicts stand in `sv_report`, what
 //! `check` and `verify` come to in `sv_judge`, what `cnf` writes in `CnfText.antt` of `sv_encoding`,
-//! and what `sim` writes in `SimulatedTexts.antt` of `sv_text_laws`. `Report.antt`, `Clauses.antt`
+//! and what `sim` writes in `SimulatedTexts.antt` of `sv_run_laws`. `Report.antt`, `Clauses.antt`
 //! and `Prepared.antt` are private: they say what the code holds on the way; the meaning stands in
 //! the files before.
 #![tactic(auto)]

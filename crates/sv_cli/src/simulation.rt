@@ -7,7 +7,7 @@ ghost use Rattle.sv_flat.specs.Views.{design_of};
 ghost use Rattle.sv_io.specs.Count.{Rose};
 ghost use Rattle.sv_io.specs.Sink.{WritesFront};
 ghost use Rattle.sv_io.specs.Source.{WhateverFollows};
-ghost use Rattle.sv_simulate.specs.Simulated.{largest_stimulus, level_asked, WritesAllCycles};
+ghost use Rattle.sv_sim_run.specs.Simulated.{largest_stimulus, level_asked, WritesAllCycles};
 ghost use Rattle.sv_cli.specs.Answer.{Answer, answer_of, limit_exceeded};
 ghost use Rattle.sv_cli.specs.Prepared.{EndsAs, Performs};
 ghost use Rattle.sv_cli.specs.Simulates.{answer_by};
@@ -18,7 +18,7 @@ use sv_design::Design;
 use sv_io::{Sink, Source};
 use sv_num::Rule;
 use sv_report::{Broken, StimSource};
-use sv_simulate::{Ending, SimFault, simulate};
+use sv_sim_run::{Ending, SimFault, simulate};
 
 /// Simulates the design on the input, for a level or for all, and says how that ends.
 pub fn simulation<S: Source, K: Sink>(

@@ -11,7 +11,7 @@ ghost use Rattle.sv_obl.specs.Limits.{excess};
 ghost use Rattle.sv_obl.specs.ListLines.{list_text};
 ghost use Rattle.sv_encoding.specs.CnfText.{cnf_text};
 ghost use Rattle.sv_blast.specs.Coded.{encoding_of};
-ghost use Rattle.sv_simulate.specs.Simulated.{largest_stimulus, level_asked, WritesAllCycles};
+ghost use Rattle.sv_sim_run.specs.Simulated.{largest_stimulus, level_asked, WritesAllCycles};
 ghost use Rattle.sv_words.specs.Words.{Request, request_of, words_of, plain, HasBudget};
 ghost use Rattle.sv_cli.specs.Answer.{Answer, answer_of, done, views_differ};
 ghost use Rattle.sv_cli.specs.Command.{file_in, top_in, Claims};

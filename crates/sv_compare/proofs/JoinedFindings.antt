@@ -10,9 +10,9 @@ use Rattle.sv_system.proofs.JoinedCycles.{renamed, by_name, agree_back, agree_ov
 use Rattle.sv_system.proofs.Lists.{Contains-head, Contains-later}
 use Rattle.sv_trace.specs.Forms.{StimForm}
 use Rattle.sv_trace.specs.Stimulus.{read_whole, start_of, cycles_of}
-use Rattle.sv_simulate.specs.Traces.{form_in, IsTraceFrom}
-use Rattle.sv_text_laws.proofs.SameSimulations.{SeeAlike, forms_same, trace_from_over}
-use Rattle.sv_text_laws.proofs.SameSimulations.{trace_from_back}
+use Rattle.sv_sim_run.specs.Traces.{form_in, IsTraceFrom}
+use Rattle.sv_run_laws.proofs.SameSimulations.{SeeAlike, forms_same, trace_from_over}
+use Rattle.sv_run_laws.proofs.SameSimulations.{trace_from_back}
 use Rattle.sv_tworun.specs.Forms.{Finding}
 use Rattle.sv_compare.specs.ComparedTexts.{IsComparisonOf, with_names}
 use Rattle.sv_compare.proofs.SameFindings.{SameNames, SayAlike, found_over}

@@ -17,12 +17,12 @@ use Rattle.sv_design.specs.Designs.{IsDesign}
 use Rattle.sv_sim.proofs.OneDesign.{design_has_one_trace}
 use Rattle.sv_trace.specs.Forms.{StimForm, form_of, name_in}
 use Rattle.sv_trace.specs.Stimulus.{read_whole, start_of, cycles_of}
-use Rattle.sv_simulate.specs.Traces.{form_in, IsTraceFrom}
-use Rattle.sv_simulate.proofs.DesignForms.{form_is, form_is_plain, from_given, start_fit}
-use Rattle.sv_simulate.proofs.DesignForms.{cycles_fit, inputs_listed, registers_listed}
-use Rattle.sv_simulate.proofs.OneText.{traced}
-use Rattle.sv_simulate.proofs.ReadFits.{whole_fits}
-use Rattle.sv_simulate.proofs.SameTraces.{same_from}
+use Rattle.sv_sim_run.specs.Traces.{form_in, IsTraceFrom}
+use Rattle.sv_sim_run.proofs.DesignForms.{form_is, form_is_plain, from_given, start_fit}
+use Rattle.sv_sim_run.proofs.DesignForms.{cycles_fit, inputs_listed, registers_listed}
+use Rattle.sv_sim_run.proofs.OneText.{traced}
+use Rattle.sv_sim_run.proofs.ReadFits.{whole_fits}
+use Rattle.sv_sim_run.proofs.SameTraces.{same_from}
 use Rattle.sv_tworun.specs.Comparisons.{IsFound}
 use Rattle.sv_tworun.specs.Forms.{Finding}
 use Rattle.sv_tworun.proofs.OneFinding.{one_finding}

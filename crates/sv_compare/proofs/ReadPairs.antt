@@ -16,8 +16,8 @@ use Rattle.sv_trace.specs.declared.stim.Stim.{Stim}
 use Rattle.sv_trace.specs.Forms.{StimForm, form_of, name_in}
 use Rattle.sv_trace.specs.Reading.{IsStim}
 use Rattle.sv_trace.specs.Stimulus.{LinesRead, read_whole, fault_of, start_of, cycles_of}
-use Rattle.sv_simulate.specs.Traces.{form_in, IsTraceFrom}
-use Rattle.sv_simulate.proofs.DesignForms.{form_is, from_given}
+use Rattle.sv_sim_run.specs.Traces.{form_in, IsTraceFrom}
+use Rattle.sv_sim_run.proofs.DesignForms.{form_is, from_given}
 use Rattle.sv_tworun.specs.declared.compared.Compared.{Compared}
 use Rattle.sv_tworun.specs.Comparisons.{IsComparison}
 use Rattle.sv_tworun.specs.Forms.{run_of, FitsRun, IsTraceOf, Finding, finding}

@@ -13,7 +13,7 @@ use Rattle.sv_system.proofs.JoinedViews.{told_as}
 use Rattle.sv_system.proofs.Lists.{Contains-head, Contains-later, Contains-map, Contains-from_map}
 use Rattle.sv_system.proofs.Pointwise.{each}
 use Rattle.sv_flat.proofs.LeastSets.{Contains-from_filter}
-use Rattle.sv_text_laws.proofs.SameSimulations.{filter_named}
+use Rattle.sv_run_laws.proofs.SameSimulations.{filter_named}
 use Rattle.sv_tworun.specs.Comparisons.{SaySame, IsFirstApart, is_given, InputsApart, ViewsApart}
 use Rattle.sv_tworun.specs.Comparisons.{SameViews, AtCycle, IsFound}
 use Rattle.sv_tworun.specs.Forms.{Finding, equal, inputs_differ, views_differ, lengths_differ}

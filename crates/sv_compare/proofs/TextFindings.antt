@@ -14,20 +14,20 @@ use Rattle.sv_ast.specs.Tree.{TextTree}
 use Rattle.sv_flat.specs.Admission.{IsAdmitted}
 use Rattle.sv_flat.specs.Design.{FlatDesign}
 use Rattle.sv_flat.specs.FlatSystem.{flat_system}
-use Rattle.sv_walk.specs.Texts.{flat_of}
+use Rattle.sv_elab_rules.specs.Texts.{flat_of}
 use Rattle.sv_design.specs.Designs.{IsDesign}
-use Rattle.sv_flatten.specs.FlattenedTexts.{CanBeFlattened}
-use Rattle.sv_flatten.proofs.JoinedNumbers.{at_number, from_is, signal_below, to_is}
-use Rattle.sv_flatten.proofs.PartsTexts.{SideBySide, side_by_side}
+use Rattle.sv_elab_laws.specs.FlattenedTexts.{CanBeFlattened}
+use Rattle.sv_elab_laws.proofs.JoinedNumbers.{at_number, from_is, signal_below, to_is}
+use Rattle.sv_elab_laws.proofs.PartsTexts.{SideBySide, side_by_side}
 use Rattle.sv_trace.specs.Forms.{form_of, name_in}
-use Rattle.sv_simulate.specs.Simulated.{level_asked}
-use Rattle.sv_simulate.proofs.DesignForms.{form_is}
-use Rattle.sv_text_laws.specs.FalsifiedTexts.{number_of}
-use Rattle.sv_text_laws.specs.Signals.{text_signals, dotted}
-use Rattle.sv_text_laws.specs.SimulatedTexts.{level_asked_of, text_form}
-use Rattle.sv_text_laws.proofs.CheckedDesigns.{admitted_checked}
-use Rattle.sv_text_laws.proofs.SameSimulations.{SeeAlike, forms_same}
-use Rattle.sv_text_laws.proofs.TextNames as names
+use Rattle.sv_sim_run.specs.Simulated.{level_asked}
+use Rattle.sv_sim_run.proofs.DesignForms.{form_is}
+use Rattle.sv_run_laws.specs.FalsifiedTexts.{number_of}
+use Rattle.sv_run_laws.specs.Signals.{text_signals, dotted}
+use Rattle.sv_run_laws.specs.SimulatedTexts.{level_asked_of, text_form}
+use Rattle.sv_run_laws.proofs.CheckedDesigns.{admitted_checked}
+use Rattle.sv_run_laws.proofs.SameSimulations.{SeeAlike, forms_same}
+use Rattle.sv_run_laws.proofs.TextNames as names
 use Rattle.sv_tworun.specs.Forms.{Finding}
 use Rattle.sv_compare.specs.ComparedTexts.{IsDesignCompared, IsTextCompared, with_names}
 use Rattle.sv_compare.specs.ComparedTexts.{SameFinding, AreComparedAlike, HasOneFinding}

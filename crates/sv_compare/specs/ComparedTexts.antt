@@ -10,9 +10,9 @@ use Rattle.sv_flat.specs.Design.{FlatDesign}
 use Rattle.sv_flat.specs.FlatSystem.{flat_system}
 use Rattle.sv_trace.specs.Forms.{name_in}
 use Rattle.sv_trace.specs.Stimulus.{read_whole, start_of, cycles_of}
-use Rattle.sv_simulate.specs.Traces.{form_in, IsTraceFrom}
-use Rattle.sv_text_laws.specs.FalsifiedTexts.{number_of}
-use Rattle.sv_text_laws.specs.Signals.{text_signals, dotted}
+use Rattle.sv_sim_run.specs.Traces.{form_in, IsTraceFrom}
+use Rattle.sv_run_laws.specs.FalsifiedTexts.{number_of}
+use Rattle.sv_run_laws.specs.Signals.{text_signals, dotted}
 use Rattle.sv_tworun.specs.Comparisons.{IsFound}
 use Rattle.sv_tworun.specs.Forms.{Finding, equal, inputs_differ, views_differ, lengths_differ}
 

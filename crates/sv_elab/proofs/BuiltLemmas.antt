@@ -16,14 +16,14 @@ use Rattle.sv_flat.specs.declared.designs.Process.{Process}
 use Rattle.sv_flat.specs.Views.{process_form}
 use Rattle.sv_flat.specs.Design.{SignalForm, ProcessForm, TypedTree, FlatStatement, ProcessKind}
 use Rattle.sv_flat.specs.Design.{continuous}
-use Rattle.sv_walk.specs.Walks.{Step}
-use Rattle.sv_walk.specs.Rules.{unknown_name}
-use Rattle.sv_walk.specs.Names.{Names}
-use Rattle.sv_walk.specs.ExpressionSteps.{expression_walk}
-use Rattle.sv_walk.specs.Targets.{assignment_walk}
-use Rattle.sv_walk.specs.Statements.{statement_walk}
-use Rattle.sv_walk.specs.Links.{whole_assignment}
-use Rattle.sv_walk.specs.InstanceSteps.{Built, with_process, value_walk, assign_walk, always_walk}
+use Rattle.sv_elab_rules.specs.Walks.{Step}
+use Rattle.sv_elab_rules.specs.Rules.{unknown_name}
+use Rattle.sv_elab_rules.specs.Names.{Names}
+use Rattle.sv_elab_rules.specs.ExpressionSteps.{expression_walk}
+use Rattle.sv_elab_rules.specs.Targets.{assignment_walk}
+use Rattle.sv_elab_rules.specs.Statements.{statement_walk}
+use Rattle.sv_elab_rules.specs.Links.{whole_assignment}
+use Rattle.sv_elab_rules.specs.InstanceSteps.{Built, with_process, value_walk, assign_walk, always_walk}
 use Rattle.sv_elab.specs.Instances.{always_kind_walk}
 
 module _ (names : Names) (built : Built) where

@@ -11,14 +11,14 @@ use Rattle.sv_ast.specs.Scopes.{Number, parameter, signal}
 use Rattle.sv_ast.specs.Instances.{entry, all_items, span_width, in_range}
 use Rattle.sv_ast.specs.Parts.{declarations, declaration_of}
 use Rattle.sv_flat.specs.Design.{SignalForm}
-use Rattle.sv_walk.specs.Walks.{Step, Walk, ask, done, then_walk, ◌>>=◌}
-use Rattle.sv_walk.specs.Rules.{twice}
-use Rattle.sv_walk.specs.Names.{Names, names_at, is_bound}
-use Rattle.sv_walk.specs.Declarations.{Site, Declared, nothing_declared, range_steps, override_of}
-use Rattle.sv_walk.specs.Declarations.{final_walk, parameter_walk}
-use Rattle.sv_walk.specs.Declarations.{declaration_walk, declarations_walk}
-use Rattle.sv_walk.specs.LabelSteps.{Tables, given_label, labels_walk}
-use Rattle.sv_declare.proofs.SameSites.{signal_signals}
+use Rattle.sv_elab_rules.specs.Walks.{Step, Walk, ask, done, then_walk, ◌>>=◌}
+use Rattle.sv_elab_rules.specs.Rules.{twice}
+use Rattle.sv_elab_rules.specs.Names.{Names, names_at, is_bound}
+use Rattle.sv_elab_rules.specs.Declarations.{Site, Declared, nothing_declared, range_steps, override_of}
+use Rattle.sv_elab_rules.specs.Declarations.{final_walk, parameter_walk}
+use Rattle.sv_elab_rules.specs.Declarations.{declaration_walk, declarations_walk}
+use Rattle.sv_elab_rules.specs.LabelSteps.{Tables, given_label, labels_walk}
+use Rattle.sv_elab_decl.proofs.SameSites.{signal_signals}
 
 -- where the walk ends well, the measure of what it found is this number
 record Measures {X : Type 0} (size : X → ℕ) (k : ℕ) (r : Result X Step) : Type 0 where

@@ -12,12 +12,12 @@ use Rattle.sv_num.specs.declared.faults.Fault.TheVariants.{Rule, OutOfMemory}
 use Rattle.sv_lattice.specs.Flows.{IsKnown}
 use Rattle.sv_ast.specs.Tree.{PlacedName, PairTree, LatticeTree}
 use Rattle.sv_ast.specs.Views.{placed_name, pair_tree}
-use Rattle.sv_walk.specs.Walks.{Step, Walk, ask, ◌>>=◌}
-use Rattle.sv_walk.specs.Rules.{lattice_size}
-use Rattle.sv_walk.specs.Lattices.{Order, point_questions, pair_questions, point_names}
-use Rattle.sv_walk.specs.Lattices.{numbered_pair, table_of, declared_order, checked_order}
-use Rattle.sv_walk.specs.Lattices.{lattice_walk}
-use Rattle.sv_walk.proofs.WalkLemmas.{end_after, end_broken}
+use Rattle.sv_elab_rules.specs.Walks.{Step, Walk, ask, ◌>>=◌}
+use Rattle.sv_elab_rules.specs.Rules.{lattice_size}
+use Rattle.sv_elab_rules.specs.Lattices.{Order, point_questions, pair_questions, point_names}
+use Rattle.sv_elab_rules.specs.Lattices.{numbered_pair, table_of, declared_order, checked_order}
+use Rattle.sv_elab_rules.specs.Lattices.{lattice_walk}
+use Rattle.sv_elab_rules.proofs.WalkLemmas.{end_after, end_broken}
 use Rattle.sv_width.specs.Answers.{IsBreach}
 use Rattle.sv_elab.specs.Earliest.{earlier, earliest, names_of, name_steps}
 use Rattle.sv_elab.proofs.EarliestLemmas.{end_at, ordered_end, earliest_append}

@@ -5,8 +5,8 @@ use Rattle.std.proofs.Common.{sym, ap, ◌∙◌, arith}
 use Rattle.std.specs.Prelude.{if◌then◌else◌, Result, Ok, Err}
 use Rattle.std.proofs.lemmas.Bool.Decides.{nat_tests}
 use Rattle.sv_num.specs.declared.faults.Place.{Place}
-use Rattle.sv_walk.specs.Walks.{Step, ask, each, ◌>>=◌}
-use Rattle.sv_walk.specs.Lattices.{Question, stands_before, placed, in_textual_order, answered}
+use Rattle.sv_elab_rules.specs.Walks.{Step, ask, each, ◌>>=◌}
+use Rattle.sv_elab_rules.specs.Lattices.{Question, stands_before, placed, in_textual_order, answered}
 use Rattle.sv_elab.specs.Earliest.{broken_step, earlier, earliest}
 
 -- ---- the order of places

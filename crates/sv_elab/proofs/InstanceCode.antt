@@ -13,15 +13,15 @@ use Rattle.sv_ast.specs.Shape.{is_shaped_parameter, are_ports, is_shaped_declara
 use Rattle.sv_ast.specs.Tree.{InstanceTree, ItemTree, ModuleTree}
 use Rattle.sv_ast.specs.Instances.{module_named}
 use Rattle.sv_flat.specs.Design.{ProcessForm}
-use Rattle.sv_walk.specs.Walks.{Step, Walk, ask, done, found, then_walk, ◌>>=◌}
-use Rattle.sv_walk.specs.Names.{Names}
-use Rattle.sv_walk.specs.Declarations.{Site, Declared, nothing_declared, declarations_walk}
-use Rattle.sv_walk.specs.LabelSteps.{Tables}
-use Rattle.sv_walk.specs.Overrides.{overrides_walk}
-use Rattle.sv_walk.specs.Links.{Ports, links_walk}
-use Rattle.sv_walk.specs.InstanceSteps.{Built, ports_of, instance_names, item_walk, items_from}
-use Rattle.sv_walk.proofs.WalkLemmas.{end_after, end_broken}
-use Rattle.sv_declare.specs.Sites.{SameSite, header_items}
+use Rattle.sv_elab_rules.specs.Walks.{Step, Walk, ask, done, found, then_walk, ◌>>=◌}
+use Rattle.sv_elab_rules.specs.Names.{Names}
+use Rattle.sv_elab_rules.specs.Declarations.{Site, Declared, nothing_declared, declarations_walk}
+use Rattle.sv_elab_rules.specs.LabelSteps.{Tables}
+use Rattle.sv_elab_rules.specs.Overrides.{overrides_walk}
+use Rattle.sv_elab_rules.specs.Links.{Ports, links_walk}
+use Rattle.sv_elab_rules.specs.InstanceSteps.{Built, ports_of, instance_names, item_walk, items_from}
+use Rattle.sv_elab_rules.proofs.WalkLemmas.{end_after, end_broken}
+use Rattle.sv_elab_decl.specs.Sites.{SameSite, header_items}
 use Rattle.sv_elab.specs.Instances.{master_walk, set_up_walk, linked_walk, Opened, opened_walk}
 use Rattle.sv_elab.proofs.NestLemmas.{new_last}
 use Rattle.sv_elab.proofs.InstanceEnds.{same_after, ports_same, opened_same, header_unopened}

@@ -11,20 +11,20 @@ use Rattle.sv_ast.specs.Tree.{ModuleTree}
 use Rattle.sv_ast.specs.Instances.{entry, all_items, module_named}
 use Rattle.sv_ast.specs.Parts.{declarations, most_levels}
 use Rattle.sv_flat.specs.Design.{SignalForm, ProcessForm}
-use Rattle.sv_walk.specs.Walks.{Step, Walk, ask, done, found, then_walk, ◌>>=◌}
-use Rattle.sv_walk.specs.Rules.{unknown_module, twice, recursive, too_many}
-use Rattle.sv_walk.specs.Names.{Names, names_of}
-use Rattle.sv_walk.specs.Declarations.{Site, Declared, nothing_declared, declarations_walk}
-use Rattle.sv_walk.specs.LabelSteps.{Tables, labels_walk}
-use Rattle.sv_walk.specs.Overrides.{overrides_walk}
-use Rattle.sv_walk.specs.Links.{Ports, links_walk}
-use Rattle.sv_walk.specs.InstanceSteps.{Built, ports_of, instance_walk, instance_names, item_walk}
-use Rattle.sv_walk.specs.InstanceSteps.{items_from, module_walk, site_walk}
-use Rattle.sv_walk.specs.Texts.{top_walk}
-use Rattle.sv_walk.proofs.WalkLemmas.{end_after, end_broken, joined_ends}
-use Rattle.sv_walk.proofs.DeclarationLemmas.{declared_in_two}
-use Rattle.sv_declare.specs.Sites.{SameSite, header_items}
-use Rattle.sv_declare.proofs.SameSites.{same_walk, same_until}
+use Rattle.sv_elab_rules.specs.Walks.{Step, Walk, ask, done, found, then_walk, ◌>>=◌}
+use Rattle.sv_elab_rules.specs.Rules.{unknown_module, twice, recursive, too_many}
+use Rattle.sv_elab_rules.specs.Names.{Names, names_of}
+use Rattle.sv_elab_rules.specs.Declarations.{Site, Declared, nothing_declared, declarations_walk}
+use Rattle.sv_elab_rules.specs.LabelSteps.{Tables, labels_walk}
+use Rattle.sv_elab_rules.specs.Overrides.{overrides_walk}
+use Rattle.sv_elab_rules.specs.Links.{Ports, links_walk}
+use Rattle.sv_elab_rules.specs.InstanceSteps.{Built, ports_of, instance_walk, instance_names, item_walk}
+use Rattle.sv_elab_rules.specs.InstanceSteps.{items_from, module_walk, site_walk}
+use Rattle.sv_elab_rules.specs.Texts.{top_walk}
+use Rattle.sv_elab_rules.proofs.WalkLemmas.{end_after, end_broken, joined_ends}
+use Rattle.sv_elab_rules.proofs.DeclarationLemmas.{declared_in_two}
+use Rattle.sv_elab_decl.specs.Sites.{SameSite, header_items}
+use Rattle.sv_elab_decl.proofs.SameSites.{same_walk, same_until}
 use Rattle.sv_elab.specs.Instances.{master_walk, set_up_walk, Opened, opened_walk, nothing_built}
 use Rattle.sv_elab.specs.Instances.{top_site}
 use Rattle.sv_elab.specs.Nests.{Nesting, entered, site_at}

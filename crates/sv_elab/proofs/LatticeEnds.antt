@@ -17,15 +17,15 @@ use Rattle.sv_lattice.specs.declared.points.LatticeFault.TheVariants.{Size, Unkn
 use Rattle.sv_lattice.specs.declared.points.LatticeFault.TheVariants.{NoMeet}
 use Rattle.sv_lattice.proofs.BoundLemmas.{turned_round, apart_along, join_along, meet_along}
 use Rattle.sv_lattice.proofs.OrderLemmas.{same_meets}
-use Rattle.sv_walk.specs.Walks.{Step, Steps, Walk, done, ◌>>=◌}
-use Rattle.sv_walk.specs.Rules.{circle, no_join, no_meet}
-use Rattle.sv_walk.specs.Lattices.{Order, are_apart, have_join, flowing_to, turned, table_of}
-use Rattle.sv_walk.specs.Lattices.{pair_steps, order_steps, checked_order}
-use Rattle.sv_walk.proofs.LatticeLemmas.{table_is_exact}
-use Rattle.sv_walk.proofs.WalkLemmas.{end_after, end_broken}
+use Rattle.sv_elab_rules.specs.Walks.{Step, Steps, Walk, done, ◌>>=◌}
+use Rattle.sv_elab_rules.specs.Rules.{circle, no_join, no_meet}
+use Rattle.sv_elab_rules.specs.Lattices.{Order, are_apart, have_join, flowing_to, turned, table_of}
+use Rattle.sv_elab_rules.specs.Lattices.{pair_steps, order_steps, checked_order}
+use Rattle.sv_elab_rules.proofs.LatticeLemmas.{table_is_exact}
+use Rattle.sv_elab_rules.proofs.WalkLemmas.{end_after, end_broken}
 use Rattle.sv_elab.proofs.PairSteps.{pairs_done, pairs_broken}
-use Rattle.sv_flatten.proofs.LatticeTests.{same_sets, gather, apart_test, join_test, turned_length}
-use Rattle.sv_flatten.proofs.LatticeTests.{turned_test}
+use Rattle.sv_elab_laws.proofs.LatticeTests.{same_sets, gather, apart_test, join_test, turned_length}
+use Rattle.sv_elab_laws.proofs.LatticeTests.{turned_test}
 
 -- two tables of the same pairs are the same
 pub one_table : (n : ℕ) (pairs : List (ℕ × ℕ)) (t u : List ℕ) → IsTableOf n pairs t →

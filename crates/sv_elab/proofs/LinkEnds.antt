@@ -14,14 +14,14 @@ use Rattle.sv_ast.specs.Scopes.{width_of}
 use Rattle.sv_ast.specs.Tree.{ExpressionTree, DeclarationTree, NamedLink, named_links}
 use Rattle.sv_ast.specs.Tree.{ordered_links}
 use Rattle.sv_flat.specs.Design.{TypedTree, port_in, port_out, ProcessForm}
-use Rattle.sv_walk.specs.Walks.{Step, Walk, ask, done, found, ◌>>=◌}
-use Rattle.sv_walk.specs.Rules.{wrong_link, links_over}
-use Rattle.sv_walk.specs.Names.{Names, place_of}
-use Rattle.sv_walk.specs.ExpressionSteps.{expression_walk}
-use Rattle.sv_walk.specs.Links.{Ports, whole_assignment, port_number, port_width, port_value}
-use Rattle.sv_walk.specs.Links.{input_link, output_link, link_walk, optional_link, named_links_walk}
-use Rattle.sv_walk.specs.Links.{ordered_links_walk, links_walk}
-use Rattle.sv_walk.proofs.WalkLemmas.{end_after, end_broken}
+use Rattle.sv_elab_rules.specs.Walks.{Step, Walk, ask, done, found, ◌>>=◌}
+use Rattle.sv_elab_rules.specs.Rules.{wrong_link, links_over}
+use Rattle.sv_elab_rules.specs.Names.{Names, place_of}
+use Rattle.sv_elab_rules.specs.ExpressionSteps.{expression_walk}
+use Rattle.sv_elab_rules.specs.Links.{Ports, whole_assignment, port_number, port_width, port_value}
+use Rattle.sv_elab_rules.specs.Links.{input_link, output_link, link_walk, optional_link, named_links_walk}
+use Rattle.sv_elab_rules.specs.Links.{ordered_links_walk, links_walk}
+use Rattle.sv_elab_rules.proofs.WalkLemmas.{end_after, end_broken}
 use Rattle.sv_elab.specs.Instances.{port_walk}
 
 -- ---- one link

@@ -14,13 +14,13 @@ use Rattle.sv_lattice.specs.declared.points.Point.{Point}
 use Rattle.sv_lattice.specs.Maps.{MapRows, IsMap}
 use Rattle.sv_ast.specs.Tree.{MapTree, SpanTree}
 use Rattle.sv_ast.specs.Instances.{span_width}
-use Rattle.sv_walk.specs.Walks.{Step, Walk, ask, done, ◌>>=◌}
-use Rattle.sv_walk.specs.Rules.{map_name, map_row, map_hole}
-use Rattle.sv_walk.specs.CaseChains.{numbers_below}
-use Rattle.sv_walk.specs.LabelMaps.{no_names, is_map_range, is_second_range, point_at, rows_walk}
-use Rattle.sv_walk.specs.LabelMaps.{default_walk, all_rows, has_all_rows, is_map, map_walk}
-use Rattle.sv_walk.specs.LabelMaps.{maps_walk}
-use Rattle.sv_walk.proofs.WalkLemmas.{end_after, end_broken, joined_ends}
+use Rattle.sv_elab_rules.specs.Walks.{Step, Walk, ask, done, ◌>>=◌}
+use Rattle.sv_elab_rules.specs.Rules.{map_name, map_row, map_hole}
+use Rattle.sv_elab_rules.specs.CaseChains.{numbers_below}
+use Rattle.sv_elab_rules.specs.LabelMaps.{no_names, is_map_range, is_second_range, point_at, rows_walk}
+use Rattle.sv_elab_rules.specs.LabelMaps.{default_walk, all_rows, has_all_rows, is_map, map_walk}
+use Rattle.sv_elab_rules.specs.LabelMaps.{maps_walk}
+use Rattle.sv_elab_rules.proofs.WalkLemmas.{end_after, end_broken, joined_ends}
 use Rattle.sv_elab.specs.declared.maps.Ranges.{Ranges}
 use Rattle.sv_elab.specs.MapParts.{first_width, second_width, bits_in, bits_of, has_ranges}
 use Rattle.sv_elab.specs.MapParts.{HasWidths, AreFilled, IsTable, table_point, is_whole, points_in}

@@ -14,11 +14,11 @@ use Rattle.sv_token.specs.declared.tokens.Lit.{Lit}
 use Rattle.sv_ast.specs.Tree.{literal, KeyTree, RowTree, MapTree}
 use Rattle.sv_ast.specs.Values.{value, length_of, signed_of, whole_number}
 use Rattle.sv_lattice.specs.declared.points.Point.{Point}
-use Rattle.sv_walk.specs.Walks.{ask, found, ◌>>=◌}
-use Rattle.sv_walk.specs.Rules.{map_row}
-use Rattle.sv_walk.specs.Lattices.{point_number}
-use Rattle.sv_walk.specs.LabelMaps.{no_names, key_number, key_value, point_at, rows_walk}
-use Rattle.sv_walk.specs.LabelMaps.{default_walk}
+use Rattle.sv_elab_rules.specs.Walks.{ask, found, ◌>>=◌}
+use Rattle.sv_elab_rules.specs.Rules.{map_row}
+use Rattle.sv_elab_rules.specs.Lattices.{point_number}
+use Rattle.sv_elab_rules.specs.LabelMaps.{no_names, key_number, key_value, point_at, rows_walk}
+use Rattle.sv_elab_rules.specs.LabelMaps.{default_walk}
 use Rattle.sv_elab.specs.MapParts.{bits_in, is_row_key, IsValue, IsTable, IsRow, IsWrongRow}
 use Rattle.sv_elab.specs.MapParts.{table_point}
 

@@ -13,10 +13,10 @@ use Rattle.sv_ast.specs.declared.modules.Module.{Module}
 use Rattle.sv_ast.specs.Tree.{InstanceTree, ItemTree, ModuleTree}
 use Rattle.sv_ast.specs.Instances.{instance_of, module_named, only, masters}
 use Rattle.sv_ast.specs.Views.{module_tree}
-use Rattle.sv_walk.specs.Walks.{ask, ◌>>=◌}
-use Rattle.sv_walk.specs.Rules.{twice}
-use Rattle.sv_walk.specs.Texts.{module_names}
-use Rattle.sv_walk.specs.Lattices.{is_point}
+use Rattle.sv_elab_rules.specs.Walks.{ask, ◌>>=◌}
+use Rattle.sv_elab_rules.specs.Rules.{twice}
+use Rattle.sv_elab_rules.specs.Texts.{module_names}
+use Rattle.sv_elab_rules.specs.Lattices.{is_point}
 use Rattle.sv_elab.specs.Modules.{names_of, is_apart_from}
 
 -- the names of the modules of the instances among some items

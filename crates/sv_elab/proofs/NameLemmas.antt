@@ -11,9 +11,9 @@ use Rattle.indexmap.specs.IndexSet.{insert_key}
 use Rattle.sv_num.specs.declared.faults.Place.{Place}
 use Rattle.sv_ast.specs.Tree.{PlacedName}
 use Rattle.sv_ast.specs.Views.{placed_name, pair_tree}
-use Rattle.sv_walk.specs.Walks.{Step}
-use Rattle.sv_walk.specs.Rules.{lattice_name}
-use Rattle.sv_walk.specs.Lattices.{Question, is_point, point_questions, pair_questions}
+use Rattle.sv_elab_rules.specs.Walks.{Step}
+use Rattle.sv_elab_rules.specs.Rules.{lattice_name}
+use Rattle.sv_elab_rules.specs.Lattices.{Question, is_point, point_questions, pair_questions}
 use Rattle.sv_elab.specs.Earliest.{broken_step, earlier, earliest, names_of}
 use Rattle.sv_elab.proofs.EarliestLemmas.{earlier_assoc}
 

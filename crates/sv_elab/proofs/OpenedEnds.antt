@@ -9,18 +9,18 @@ use Rattle.sv_ast.specs.Tree.{LinkTrees}
 use Rattle.sv_ast.specs.Instances.{entry, all_items}
 use Rattle.sv_ast.specs.Parts.{declarations}
 use Rattle.sv_flat.specs.Design.{SignalForm, ProcessForm}
-use Rattle.sv_walk.specs.Walks.{Step}
-use Rattle.sv_walk.specs.Names.{Names, names_of}
-use Rattle.sv_walk.specs.Declarations.{Site, Declared, nothing_declared, declarations_walk}
-use Rattle.sv_walk.specs.LabelSteps.{Tables, labels_walk}
-use Rattle.sv_walk.specs.InstanceSteps.{Built, ports_of}
-use Rattle.sv_walk.specs.Links.{Ports, links_walk}
-use Rattle.sv_walk.proofs.WalkLemmas.{end_after, end_broken}
+use Rattle.sv_elab_rules.specs.Walks.{Step}
+use Rattle.sv_elab_rules.specs.Names.{Names, names_of}
+use Rattle.sv_elab_rules.specs.Declarations.{Site, Declared, nothing_declared, declarations_walk}
+use Rattle.sv_elab_rules.specs.LabelSteps.{Tables, labels_walk}
+use Rattle.sv_elab_rules.specs.InstanceSteps.{Built, ports_of}
+use Rattle.sv_elab_rules.specs.Links.{Ports, links_walk}
+use Rattle.sv_elab_rules.proofs.WalkLemmas.{end_after, end_broken}
 use Rattle.sv_width.specs.declared.meanings.Meaning.{Meaning}
 use Rattle.sv_width.specs.Scopes.{Known, binding_of}
-use Rattle.sv_declare.specs.Sites.{bindings_in, header_items}
-use Rattle.sv_declare.specs.Steps.{HasHeader}
-use Rattle.sv_declare.proofs.NameLemmas.{bindings_same}
+use Rattle.sv_elab_decl.specs.Sites.{bindings_in, header_items}
+use Rattle.sv_elab_decl.specs.Steps.{HasHeader}
+use Rattle.sv_elab_decl.proofs.NameLemmas.{bindings_same}
 use Rattle.sv_elab.specs.Instances.{opened_walk, linked_walk, ports_with}
 
 module _ (tables : Tables) (site : Site) (built : Built) (base : ℕ)

@@ -5,10 +5,10 @@ use Rattle.std.specs.Prelude.{Result, Ok, Err, flat_map, slice_index_or}
 use Rattle.std.specs.List.{range_with_len}
 use Rattle.std.proofs.lemmas.Bool.{cases_eq, false_from_ne_true}
 use Rattle.sv_lattice.specs.Flows.{EachPair, IsFirstWithout}
-use Rattle.sv_walk.specs.Walks.{Step, Steps, ask, each, then_walk}
-use Rattle.sv_walk.specs.CaseChains.{numbers_below}
-use Rattle.sv_walk.specs.Lattices.{pair_steps}
-use Rattle.sv_walk.proofs.WalkLemmas.{end_after, end_broken}
+use Rattle.sv_elab_rules.specs.Walks.{Step, Steps, ask, each, then_walk}
+use Rattle.sv_elab_rules.specs.CaseChains.{numbers_below}
+use Rattle.sv_elab_rules.specs.Lattices.{pair_steps}
+use Rattle.sv_elab_rules.proofs.WalkLemmas.{end_after, end_broken}
 
 -- ---- a walk over a list
 

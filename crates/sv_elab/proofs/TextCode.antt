@@ -18,14 +18,14 @@ use Rattle.sv_ast.specs.declared.modules.Module.{Module}
 use Rattle.sv_ast.specs.declared.modules.Text.{Text}
 use Rattle.sv_flat.specs.Views.{invariant_form}
 use Rattle.sv_flat.specs.declared.expressions.FExpr.{FExpr}
-use Rattle.sv_walk.specs.InstanceSteps.{Built}
-use Rattle.sv_walk.specs.LabelMaps.{maps_walk}
-use Rattle.sv_walk.specs.LabelSteps.{Tables}
-use Rattle.sv_walk.specs.Lattices.{Order, lattice_walk, least_point}
-use Rattle.sv_walk.specs.Rules.{no_top}
-use Rattle.sv_walk.specs.Texts.{module_names, top_walk, tables_of, design_of, walk_of}
-use Rattle.sv_walk.specs.Walks.{found}
-use Rattle.sv_walk.proofs.WalkLemmas.{found_some}
+use Rattle.sv_elab_rules.specs.InstanceSteps.{Built}
+use Rattle.sv_elab_rules.specs.LabelMaps.{maps_walk}
+use Rattle.sv_elab_rules.specs.LabelSteps.{Tables}
+use Rattle.sv_elab_rules.specs.Lattices.{Order, lattice_walk, least_point}
+use Rattle.sv_elab_rules.specs.Rules.{no_top}
+use Rattle.sv_elab_rules.specs.Texts.{module_names, top_walk, tables_of, design_of, walk_of}
+use Rattle.sv_elab_rules.specs.Walks.{found}
+use Rattle.sv_elab_rules.proofs.WalkLemmas.{found_some}
 use Rattle.sv_width.specs.Answers.{IsBreach}
 use Rattle.sv_elab.specs.Texts.{modules_walk}
 use Rattle.sv_elab.proofs.DeclaredLattices.{breach_on}

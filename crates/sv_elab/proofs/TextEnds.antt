@@ -4,13 +4,13 @@ use Rattle.std.specs.Prelude.{Ok, Err}
 use Rattle.sv_lattice.specs.Maps.{MapRows}
 use Rattle.sv_ast.specs.Tree.{ModuleTree, TextTree}
 use Rattle.sv_ast.specs.Instances.{top_module}
-use Rattle.sv_walk.specs.Walks.{Step, Walk, done, found, ◌>>=◌}
-use Rattle.sv_walk.specs.Rules.{no_top}
-use Rattle.sv_walk.specs.Lattices.{Order, lattice_walk}
-use Rattle.sv_walk.specs.LabelMaps.{maps_walk}
-use Rattle.sv_walk.specs.InstanceSteps.{Built}
-use Rattle.sv_walk.specs.Texts.{module_names, top_walk, tables_of, design_of, walk_of}
-use Rattle.sv_walk.proofs.WalkLemmas.{end_after, end_broken, joined_ends}
+use Rattle.sv_elab_rules.specs.Walks.{Step, Walk, done, found, ◌>>=◌}
+use Rattle.sv_elab_rules.specs.Rules.{no_top}
+use Rattle.sv_elab_rules.specs.Lattices.{Order, lattice_walk}
+use Rattle.sv_elab_rules.specs.LabelMaps.{maps_walk}
+use Rattle.sv_elab_rules.specs.InstanceSteps.{Built}
+use Rattle.sv_elab_rules.specs.Texts.{module_names, top_walk, tables_of, design_of, walk_of}
+use Rattle.sv_elab_rules.proofs.WalkLemmas.{end_after, end_broken, joined_ends}
 use Rattle.sv_elab.specs.Texts.{modules_walk}
 use Rattle.sv_elab.proofs.InstanceEnds.{same_after}
 

@@ -10,8 +10,8 @@ use Rattle.sv_lattice.specs.Maps.{MapRows}
 use Rattle.sv_ast.specs.Tree.{MapTree, ModuleTree}
 use Rattle.sv_ast.specs.Instances.{only, top_module}
 use Rattle.sv_ast.specs.Shape.{is_shaped_module}
-use Rattle.sv_walk.specs.LabelMaps.{map_walk, maps_walk}
-use Rattle.sv_walk.proofs.WalkLemmas.{parts_done}
+use Rattle.sv_elab_rules.specs.LabelMaps.{map_walk, maps_walk}
+use Rattle.sv_elab_rules.proofs.WalkLemmas.{parts_done}
 
 module _ {X : Type 0} (p : X → Bool) where
   pub found_passes : (q : X → Bool) (xs : List X) (x : X) → list_all p xs ≡ true →

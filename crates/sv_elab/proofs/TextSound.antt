@@ -9,10 +9,10 @@ use Rattle.sv_ast.specs.Views.{text_tree}
 use Rattle.sv_flat.specs.Soundness.{sound}
 use Rattle.sv_flat.specs.Views.{design_of}
 use Rattle.sv_flat.specs.declared.designs.Flat.{Flat}
-use Rattle.sv_walk.specs.Texts.{walk_of, value_in}
-use Rattle.sv_flatten.proofs.PartsShapes.{all_flattened}
-use Rattle.sv_flatten.proofs.SoundDesigns.{design_sound}
-use Rattle.sv_flatten.proofs.SoundWritten.{text_lengths, text_fits}
+use Rattle.sv_elab_rules.specs.Texts.{walk_of, value_in}
+use Rattle.sv_elab_laws.proofs.PartsShapes.{all_flattened}
+use Rattle.sv_elab_laws.proofs.SoundDesigns.{design_sound}
+use Rattle.sv_elab_laws.proofs.SoundWritten.{text_lengths, text_fits}
 
 pub found_sound : (text : Text) (top : Option (List ℕ)) (result : Result Flat Fault)
     → IsTrue (is_shaped (text_tree text))

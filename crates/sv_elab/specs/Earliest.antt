@@ -1,14 +1,14 @@
 -- Private: how the code goes. How the code finds the broken question that stands first in the text,
 -- without sorting the questions. What it is to find is said by `in_textual_order` of the walk
--- (`sv_walk`, `specs/Lattices.antt`).
+-- (`sv_elab_rules`, `specs/Lattices.antt`).
 use Rattle.std.specs.Prelude.{ℕ, map, List, [], ◌∷◌, ◌++◌, Option, Some, None, option_map}
 use Rattle.std.specs.Prelude.{if◌then◌else◌}
 use Rattle.sv_num.specs.declared.faults.Place.{Place}
 use Rattle.sv_ast.specs.Tree.{LatticeTree}
-use Rattle.sv_walk.specs.Walks.{Step, Steps, each}
-use Rattle.sv_walk.specs.Rules.{lattice_name}
-use Rattle.sv_walk.specs.Lattices.{Question, stands_before, point_questions, pair_questions}
-use Rattle.sv_walk.specs.Lattices.{point_names, in_textual_order, answered}
+use Rattle.sv_elab_rules.specs.Walks.{Step, Steps, each}
+use Rattle.sv_elab_rules.specs.Rules.{lattice_name}
+use Rattle.sv_elab_rules.specs.Lattices.{Question, stands_before, point_questions, pair_questions}
+use Rattle.sv_elab_rules.specs.Lattices.{point_names, in_textual_order, answered}
 use Rattle.sv_elab.specs.declared.wrong_names.WrongName.{WrongName}
 
 -- the step that is broken, if the question's answer is no

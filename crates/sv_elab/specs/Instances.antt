@@ -15,20 +15,20 @@ use Rattle.sv_ast.specs.Tree.{ModuleTree, PlacedName}
 use Rattle.sv_ast.specs.Views.{declaration_tree, module_tree}
 use Rattle.sv_flat.specs.Design.{ProcessKind, combinational, clocked, ProcessForm}
 use Rattle.sv_flat.specs.Views.{signal_form, process_form}
-use Rattle.sv_walk.specs.Declarations.{Site, nothing_declared, declarations_walk}
-use Rattle.sv_walk.specs.InstanceSteps as walk
-use Rattle.sv_walk.specs.LabelSteps.{Tables, labels_walk}
-use Rattle.sv_walk.specs.Links as links
-use Rattle.sv_walk.specs.Names.{Names, names_of}
-use Rattle.sv_walk.specs.Overrides.{overrides_walk}
-use Rattle.sv_walk.specs.Rules.{unknown_name, unknown_module, twice, recursive, too_many}
-use Rattle.sv_walk.specs.Rules.{wrong_link}
-use Rattle.sv_walk.specs.Walks.{Step, Walk, ask, done, found, ◌>>=◌}
+use Rattle.sv_elab_rules.specs.Declarations.{Site, nothing_declared, declarations_walk}
+use Rattle.sv_elab_rules.specs.InstanceSteps as walk
+use Rattle.sv_elab_rules.specs.LabelSteps.{Tables, labels_walk}
+use Rattle.sv_elab_rules.specs.Links as links
+use Rattle.sv_elab_rules.specs.Names.{Names, names_of}
+use Rattle.sv_elab_rules.specs.Overrides.{overrides_walk}
+use Rattle.sv_elab_rules.specs.Rules.{unknown_name, unknown_module, twice, recursive, too_many}
+use Rattle.sv_elab_rules.specs.Rules.{wrong_link}
+use Rattle.sv_elab_rules.specs.Walks.{Step, Walk, ask, done, found, ◌>>=◌}
 use Rattle.sv_width.specs.Scopes as scopes
 use Rattle.sv_width.specs.Scopes.{Known}
 use Rattle.sv_width.specs.declared.meanings.KnownSignal.{KnownSignal}
 use Rattle.sv_width.specs.declared.meanings.Meaning.TheVariants as meaning
-use Rattle.sv_declare.specs.Sites.{header_items, tables_of}
+use Rattle.sv_elab_decl.specs.Sites.{header_items, tables_of}
 use Rattle.sv_elab.specs.Modules as modules
 use Rattle.sv_elab.specs.Nests.{Nesting, site_at}
 use Rattle.sv_elab.specs.declared.built.Built.{Built}

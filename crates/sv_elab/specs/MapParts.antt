@@ -9,12 +9,12 @@ use Rattle.sv_lattice.specs.declared.points.Point.{Point}
 use Rattle.sv_lattice.specs.Maps.{MapRows}
 use Rattle.sv_ast.specs.Tree.{SpanTree, RowTree, MapTree}
 use Rattle.sv_ast.specs.Instances.{span_width}
-use Rattle.sv_walk.specs.Walks.{Walk, ask, done, ◌>>=◌}
-use Rattle.sv_walk.specs.Rules.{map_row, map_hole}
-use Rattle.sv_walk.specs.Lattices.{point_number}
-use Rattle.sv_walk.specs.LabelMaps.{no_names, is_map_range, is_second_range, is_key, is_second_key}
-use Rattle.sv_walk.specs.LabelMaps.{key_value, point_at, rows_walk, default_walk, all_rows}
-use Rattle.sv_walk.specs.LabelMaps.{has_all_rows}
+use Rattle.sv_elab_rules.specs.Walks.{Walk, ask, done, ◌>>=◌}
+use Rattle.sv_elab_rules.specs.Rules.{map_row, map_hole}
+use Rattle.sv_elab_rules.specs.Lattices.{point_number}
+use Rattle.sv_elab_rules.specs.LabelMaps.{no_names, is_map_range, is_second_range, is_key, is_second_key}
+use Rattle.sv_elab_rules.specs.LabelMaps.{key_value, point_at, rows_walk, default_walk, all_rows}
+use Rattle.sv_elab_rules.specs.LabelMaps.{has_all_rows}
 use Rattle.sv_elab.specs.declared.maps.Ranges.{Ranges}
 
 -- the widths of the ranges

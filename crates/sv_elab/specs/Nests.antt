@@ -1,6 +1,6 @@
 -- Private: how the code goes. The instances that one stands in, as the code holds them.
 use Rattle.std.specs.Prelude.{ℕ, List, [], ◌∷◌, ◌++◌}
-use Rattle.sv_walk.specs.Declarations.{Site}
+use Rattle.sv_elab_rules.specs.Declarations.{Site}
 
 -- the names of the instances down to one, and the names of the modules that it stands inside of,
 -- with its own

@@ -3,11 +3,11 @@ use Rattle.std.specs.Prelude.{ℕ, List, [], Option}
 use Rattle.sv_lattice.specs.Maps.{MapRows}
 use Rattle.sv_ast.specs.Instances.{top_module}
 use Rattle.sv_ast.specs.Tree.{TextTree}
-use Rattle.sv_walk.specs.InstanceSteps.{Built}
-use Rattle.sv_walk.specs.Lattices.{Order}
-use Rattle.sv_walk.specs.Rules.{no_top}
-use Rattle.sv_walk.specs.Texts.{module_names, top_walk, tables_of}
-use Rattle.sv_walk.specs.Walks.{Walk, found, ◌>>=◌}
+use Rattle.sv_elab_rules.specs.InstanceSteps.{Built}
+use Rattle.sv_elab_rules.specs.Lattices.{Order}
+use Rattle.sv_elab_rules.specs.Rules.{no_top}
+use Rattle.sv_elab_rules.specs.Texts.{module_names, top_walk, tables_of}
+use Rattle.sv_elab_rules.specs.Walks.{Walk, found, ◌>>=◌}
 
 -- the names of its modules, its top, and what is built of that
 abbrev pub modules_walk : TextTree → (top : Option (List ℕ)) → Order

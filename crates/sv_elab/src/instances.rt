@@ -7,14 +7,14 @@ ghost use Rattle.sv_ast.specs.Shape.{are_shaped_links, is_shaped_instance, is_sh
 ghost use Rattle.sv_ast.specs.Shape.{is_shaped_module};
 ghost use Rattle.sv_ast.specs.Views.{instance_tree, item_tree, link_trees, module_tree};
 ghost use Rattle.sv_flat.specs.Views.{process_form};
-ghost use Rattle.sv_walk.specs.InstanceSteps.{ports_of, instance_names, items_from, site_walk};
-ghost use Rattle.sv_walk.specs.Links.{links_walk};
-ghost use Rattle.sv_walk.specs.Texts.{top_walk};
+ghost use Rattle.sv_elab_rules.specs.InstanceSteps.{ports_of, instance_names, items_from, site_walk};
+ghost use Rattle.sv_elab_rules.specs.Links.{links_walk};
+ghost use Rattle.sv_elab_rules.specs.Texts.{top_walk};
 ghost use Rattle.sv_width.specs.Answers.{IsBreach};
 ghost use Rattle.sv_width.specs.Scopes.{names_of};
-ghost use Rattle.sv_declare.specs.Sites.{tables_of, site_of, header_items};
-ghost use Rattle.sv_walk.specs.Declarations.{declarations_walk, nothing_declared};
-ghost use Rattle.sv_declare.specs.Steps.{AfterHeader};
+ghost use Rattle.sv_elab_decl.specs.Sites.{tables_of, site_of, header_items};
+ghost use Rattle.sv_elab_rules.specs.Declarations.{declarations_walk, nothing_declared};
+ghost use Rattle.sv_elab_decl.specs.Steps.{AfterHeader};
 ghost use Rattle.sv_elab.specs.Instances.{IsReady, built_form, declared_names, taken_in};
 ghost use Rattle.sv_elab.specs.Instances.{master_walk, linked_walk, opened, opened_walk};
 ghost use Rattle.sv_elab.specs.Instances.{set_up_walk, item_end, instance_end};
@@ -31,7 +31,7 @@ use crate::wrong_names::add_name;
 use indexmap::{IndexMap, IndexSet};
 use std::alloc::Global;
 use sv_ast::{Instance, Item, Links, Module};
-use sv_declare::{Declared, Header, Site, Tables, body, header, labels, overrides};
+use sv_elab_decl::{Declared, Header, Site, Tables, body, header, labels, overrides};
 use sv_flat::Process;
 use sv_num::{Fault, Name, Rule};
 use sv_width::{Scope, refusal_naming};
@@ -279,7 +279,7 @@ fn add_items(
 
 // One item. A parameter has no process; memories, releases and invariants are refused before the
 // walk.
-#[tactic(auto, unfolding(sv_walk::specs::InstanceSteps::item_walk))]
+#[tactic(auto, unfolding(sv_elab_rules::specs::InstanceSteps::item_walk))]
 #[cycle(instances)]
 fn add_item(
     alloc: Global,

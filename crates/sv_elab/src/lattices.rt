@@ -7,10 +7,10 @@ ghost use Rattle.sv_num.specs.Rules.{rule_number};
 ghost use Rattle.sv_lattice.specs.Flows.{IsKnown, IsPointCount};
 ghost use Rattle.sv_lattice.specs.Tables.{IsLatticeTable};
 ghost use Rattle.sv_ast.specs.Views.{lattice_tree, pair_tree, text_tree};
-ghost use Rattle.sv_walk.specs.Walks.{Step};
-ghost use Rattle.sv_walk.specs.Rules.{step};
-ghost use Rattle.sv_walk.specs.Lattices.{Order, two_points, table_of, point_number, numbered_pair};
-ghost use Rattle.sv_walk.specs.Lattices.{checked_order, lattice_walk, least_point};
+ghost use Rattle.sv_elab_rules.specs.Walks.{Step};
+ghost use Rattle.sv_elab_rules.specs.Rules.{step};
+ghost use Rattle.sv_elab_rules.specs.Lattices.{Order, two_points, table_of, point_number, numbered_pair};
+ghost use Rattle.sv_elab_rules.specs.Lattices.{checked_order, lattice_walk, least_point};
 ghost use Rattle.sv_width.specs.Answers.{IsBreach};
 
 use crate::wrong_names::distinct_names;
@@ -35,7 +35,7 @@ pub struct Points {
 impl Model for Points {
     ghost use Rattle.std.specs.Prelude.{◌≡◌, length};
     ghost use Rattle.sv_lattice.specs.Tables.{IsLatticeTable};
-    ghost use Rattle.sv_walk.specs.Lattices.{Order};
+    ghost use Rattle.sv_elab_rules.specs.Lattices.{Order};
 
     ghost Value = { Order };
 

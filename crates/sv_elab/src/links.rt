@@ -9,9 +9,9 @@ ghost use Rattle.sv_ast.specs.Shape.{is_shaped_expression, is_shaped_link, are_s
 ghost use Rattle.sv_ast.specs.Views.{expression_tree, declaration_tree, module_tree, named_link};
 ghost use Rattle.sv_ast.specs.Views.{link_trees};
 ghost use Rattle.sv_flat.specs.Views.{typed_tree, process_form};
-ghost use Rattle.sv_walk.specs.Links.{port_number, port_width, port_value, input_link, output_link};
-ghost use Rattle.sv_walk.specs.Links.{link_walk, optional_link, named_links_walk};
-ghost use Rattle.sv_walk.specs.Links.{ordered_links_walk, links_walk};
+ghost use Rattle.sv_elab_rules.specs.Links.{port_number, port_width, port_value, input_link, output_link};
+ghost use Rattle.sv_elab_rules.specs.Links.{link_walk, optional_link, named_links_walk};
+ghost use Rattle.sv_elab_rules.specs.Links.{ordered_links_walk, links_walk};
 ghost use Rattle.sv_width.specs.Answers.{IsBreach};
 ghost use Rattle.sv_width.specs.Scopes.{bindings_of, names_of};
 ghost use Rattle.sv_elab.specs.Instances.{ports_form, ports_with, first_of, place_from, HavePlaces};

@@ -5,9 +5,9 @@ ghost use Rattle.std.specs.List.{list_any};
 ghost use Rattle.std.specs.Str.{bytes_eq};
 ghost use Rattle.sv_ast.specs.Instances.{masters, only, top_module};
 ghost use Rattle.sv_ast.specs.Views.{module_tree};
-ghost use Rattle.sv_walk.specs.Walks.{found};
-ghost use Rattle.sv_walk.specs.Rules.{no_top};
-ghost use Rattle.sv_walk.specs.Texts.{module_names};
+ghost use Rattle.sv_elab_rules.specs.Walks.{found};
+ghost use Rattle.sv_elab_rules.specs.Rules.{no_top};
+ghost use Rattle.sv_elab_rules.specs.Texts.{module_names};
 ghost use Rattle.sv_width.specs.Answers.{IsBreach};
 ghost use Rattle.sv_elab.specs.Modules.{names_of, plain, asked_name, is_apart_from};
 

@@ -1,6 +1,6 @@
 // What all instances of a text share.
 use indexmap::IndexSet;
-use sv_declare::Tables;
+use sv_elab_decl::Tables;
 use sv_num::Name;
 
 /// The modules, points and maps of a text, and the names of its modules, each with the number of

@@ -3,9 +3,9 @@ ghost use Rattle.std.specs.Prelude.{◌≡◌, ℕ, [], not, List, Ok, None, map
 ghost use Rattle.std.specs.Str.{bytes_eq};
 ghost use Rattle.indexmap.specs.IndexSet.{insert_key};
 ghost use Rattle.sv_ast.specs.Views.{placed_name, pair_tree, lattice_tree};
-ghost use Rattle.sv_walk.specs.Rules.{lattice_name};
-ghost use Rattle.sv_walk.specs.Lattices.{stands_before, is_point, point_questions, pair_questions};
-ghost use Rattle.sv_walk.specs.Lattices.{point_names};
+ghost use Rattle.sv_elab_rules.specs.Rules.{lattice_name};
+ghost use Rattle.sv_elab_rules.specs.Lattices.{stands_before, is_point, point_questions, pair_questions};
+ghost use Rattle.sv_elab_rules.specs.Lattices.{point_names};
 ghost use Rattle.sv_width.specs.Answers.{IsBreach};
 ghost use Rattle.sv_elab.specs.Earliest.{broken_step, earlier, earliest, name_step, names_of};
 ghost use Rattle.sv_elab.specs.Earliest.{name_steps};

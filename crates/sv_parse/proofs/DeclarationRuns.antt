@@ -12,23 +12,23 @@ use Rattle.sv_token.specs.Words.{is_refused_word}
 use Rattle.sv_ast.specs.GrammarForms.{a_sign, a_word}
 use Rattle.sv_ast.specs.GrammarStatements.{IsNext}
 use Rattle.sv_ast.specs.GrammarRules.{all_limits}
-use Rattle.sv_read.specs.declared.stop.Stop.{Stop}
-use Rattle.sv_read.specs.Expectations.{HaltsAs, StopsAt}
-use Rattle.sv_read.proofs.Halting.{stops_then, stops_before, stops_by}
-use Rattle.sv_grammar.specs.Symbols.{Outer, punctuation, plain_name, plain_number, more_names}
-use Rattle.sv_grammar.specs.Symbols.{perhaps_second_name, later_header_parameter}
-use Rattle.sv_grammar.specs.Symbols.{more_header_parameters, later_port, more_ports, items}
-use Rattle.sv_grammar.specs.Symbols.{more_parameters, perhaps_value, more_wires, perhaps_signed}
-use Rattle.sv_grammar.specs.Symbols.{perhaps_range, reg_label, reg_name, behind_reg_name}
-use Rattle.sv_grammar.specs.Symbols.{label_selector, memory_name, Symbol, outer, State, something}
-use Rattle.sv_grammar.specs.Symbols.{takes, stuck, unless_refused}
-use Rattle.sv_grammar.specs.ModuleTable.{value, number_range, behind_selector}
-use Rattle.sv_grammar.specs.Machine.{outer_on, Step, outside_on, after_outer, step, may_be_empty}
-use Rattle.sv_grammar.specs.Machine.{ended, at_end, go_on, run}
-use Rattle.sv_grammar.specs.Reads.{Reads, NextIs, IsNot, NextIsNotSign, NextIsNotWord, GoesOn}
-use Rattle.sv_grammar.proofs.ReadSteps.{reads_then, reads_before}
-use Rattle.sv_grammar.proofs.ReadRows.{sign_taken, word_taken}
-use Rattle.sv_grammar.proofs.ReadLists.{same_outer}
+use Rattle.sv_parse_expr.specs.declared.stop.Stop.{Stop}
+use Rattle.sv_parse_expr.specs.Expectations.{HaltsAs, StopsAt}
+use Rattle.sv_parse_expr.proofs.Halting.{stops_then, stops_before, stops_by}
+use Rattle.sv_parse_machine.specs.Symbols.{Outer, punctuation, plain_name, plain_number, more_names}
+use Rattle.sv_parse_machine.specs.Symbols.{perhaps_second_name, later_header_parameter}
+use Rattle.sv_parse_machine.specs.Symbols.{more_header_parameters, later_port, more_ports, items}
+use Rattle.sv_parse_machine.specs.Symbols.{more_parameters, perhaps_value, more_wires, perhaps_signed}
+use Rattle.sv_parse_machine.specs.Symbols.{perhaps_range, reg_label, reg_name, behind_reg_name}
+use Rattle.sv_parse_machine.specs.Symbols.{label_selector, memory_name, Symbol, outer, State, something}
+use Rattle.sv_parse_machine.specs.Symbols.{takes, stuck, unless_refused}
+use Rattle.sv_parse_machine.specs.ModuleTable.{value, number_range, behind_selector}
+use Rattle.sv_parse_machine.specs.Machine.{outer_on, Step, outside_on, after_outer, step, may_be_empty}
+use Rattle.sv_parse_machine.specs.Machine.{ended, at_end, go_on, run}
+use Rattle.sv_parse_machine.specs.Reads.{Reads, NextIs, IsNot, NextIsNotSign, NextIsNotWord, GoesOn}
+use Rattle.sv_parse_machine.proofs.ReadSteps.{reads_then, reads_before}
+use Rattle.sv_parse_machine.proofs.ReadRows.{sign_taken, word_taken}
+use Rattle.sv_parse_machine.proofs.ReadLists.{same_outer}
 use Rattle.sv_parse.specs.declared.registers.RegLabel.{RegLabel}
 use Rattle.sv_parse.specs.ReadingDeclarations.{table_end, named_value, memory_end, behind_name}
 

@@ -18,25 +18,25 @@ use Rattle.sv_ast.specs.GrammarForms.{binary_operator}
 use Rattle.sv_ast.specs.GrammarStatements.{IsNext}
 use Rattle.sv_ast.specs.GrammarExpressions.{is_within}
 use Rattle.sv_ast.specs.GrammarRules.{all_limits}
-use Rattle.sv_grammar.specs.Symbols.{Outer, punctuation, plain_name, plain_number, expression}
-use Rattle.sv_grammar.specs.Symbols.{more_names, more_values, lattice_lines, less_equal, map_name}
-use Rattle.sv_grammar.specs.Symbols.{rows, perhaps_second_key, end_of_map, event, event_inside}
-use Rattle.sv_grammar.specs.Symbols.{more_named_overrides, links, link, more_named_links}
-use Rattle.sv_grammar.specs.Symbols.{more_instances, Symbol, outer, State, OuterReaction, takes}
-use Rattle.sv_grammar.specs.Symbols.{begins, over, stuck, and_then, unless_refused}
-use Rattle.sv_grammar.specs.ModuleTable.{number_range, star_in_event}
-use Rattle.sv_grammar.specs.StatementTable.{is_sign, is_star, is_less_equal, taken_if}
-use Rattle.sv_grammar.specs.Machine.{outer_on, Step, outside_on, after_outer, within_limits, step}
-use Rattle.sv_grammar.specs.Machine.{may_be_empty, ended, at_end, go_on, run}
-use Rattle.sv_grammar.specs.Reads.{IsNot, NextIs, NextIsNotWord, NextIsAnyName, Reads, GoesOn}
-use Rattle.sv_read.specs.declared.stop.Stop.{Stop}
-use Rattle.sv_read.specs.declared.stop.Stop.TheVariants as stops
-use Rattle.sv_read.specs.Expectations.{HaltsAs, StopsAt}
-use Rattle.sv_grammar.proofs.ReadSteps.{reads_then, reads_before, takes_token, expression_from}
-use Rattle.sv_grammar.proofs.ReadSteps.{reads_expression}
-use Rattle.sv_grammar.proofs.ReadRows.{sign_taken, word_taken}
-use Rattle.sv_grammar.proofs.ReadLists.{NextIsIdentifier, same_outer}
-use Rattle.sv_read.proofs.Halting.{stops_then, stops_before}
+use Rattle.sv_parse_machine.specs.Symbols.{Outer, punctuation, plain_name, plain_number, expression}
+use Rattle.sv_parse_machine.specs.Symbols.{more_names, more_values, lattice_lines, less_equal, map_name}
+use Rattle.sv_parse_machine.specs.Symbols.{rows, perhaps_second_key, end_of_map, event, event_inside}
+use Rattle.sv_parse_machine.specs.Symbols.{more_named_overrides, links, link, more_named_links}
+use Rattle.sv_parse_machine.specs.Symbols.{more_instances, Symbol, outer, State, OuterReaction, takes}
+use Rattle.sv_parse_machine.specs.Symbols.{begins, over, stuck, and_then, unless_refused}
+use Rattle.sv_parse_machine.specs.ModuleTable.{number_range, star_in_event}
+use Rattle.sv_parse_machine.specs.StatementTable.{is_sign, is_star, is_less_equal, taken_if}
+use Rattle.sv_parse_machine.specs.Machine.{outer_on, Step, outside_on, after_outer, within_limits, step}
+use Rattle.sv_parse_machine.specs.Machine.{may_be_empty, ended, at_end, go_on, run}
+use Rattle.sv_parse_machine.specs.Reads.{IsNot, NextIs, NextIsNotWord, NextIsAnyName, Reads, GoesOn}
+use Rattle.sv_parse_expr.specs.declared.stop.Stop.{Stop}
+use Rattle.sv_parse_expr.specs.declared.stop.Stop.TheVariants as stops
+use Rattle.sv_parse_expr.specs.Expectations.{HaltsAs, StopsAt}
+use Rattle.sv_parse_machine.proofs.ReadSteps.{reads_then, reads_before, takes_token, expression_from}
+use Rattle.sv_parse_machine.proofs.ReadSteps.{reads_expression}
+use Rattle.sv_parse_machine.proofs.ReadRows.{sign_taken, word_taken}
+use Rattle.sv_parse_machine.proofs.ReadLists.{NextIsIdentifier, same_outer}
+use Rattle.sv_parse_expr.proofs.Halting.{stops_then, stops_before}
 use Rattle.sv_parse.specs.ReadingTexts.{EndsRows}
 
 -- ---- one after the other

@@ -12,18 +12,18 @@ use Rattle.sv_token.specs.declared.keywords.WordKind.TheVariants as words
 use Rattle.sv_token.specs.declared.tokens.Token.{Token}
 use Rattle.sv_token.specs.Lexemes.{Lexeme, word, Placed, placed_of, placed_tokens}
 use Rattle.sv_ast.specs.GrammarRules.{all_limits, BreaksGrammar}
-use Rattle.sv_grammar.specs.Symbols.{one_module, outer, State}
-use Rattle.sv_grammar.specs.ModuleTable.{one_module_on}
-use Rattle.sv_grammar.specs.Machine.{Step, goes, after_outer, step, go_on, run, text_state}
-use Rattle.sv_grammar.specs.Reads.{failure_at}
-use Rattle.sv_grammar.specs.Verdict.{rule_number, rule_names, rule_place}
-use Rattle.sv_grammar.proofs.Walks.{where_run_fails}
-use Rattle.sv_grammar.proofs.Breaks.{failure_breaks}
-use Rattle.sv_read.specs.declared.stop.Breach.{Breach}
-use Rattle.sv_read.specs.declared.stop.Stop.{Stop}
-use Rattle.sv_read.specs.declared.stop.Stop.TheVariants as stops
-use Rattle.sv_read.specs.Expectations.{failure_of, HaltsAs, RefusesAt}
-use Rattle.sv_read.specs.Faults.{IsRefusalOf}
+use Rattle.sv_parse_machine.specs.Symbols.{one_module, outer, State}
+use Rattle.sv_parse_machine.specs.ModuleTable.{one_module_on}
+use Rattle.sv_parse_machine.specs.Machine.{Step, goes, after_outer, step, go_on, run, text_state}
+use Rattle.sv_parse_machine.specs.Reads.{failure_at}
+use Rattle.sv_parse_machine.specs.Verdict.{rule_number, rule_names, rule_place}
+use Rattle.sv_parse_machine.proofs.Walks.{where_run_fails}
+use Rattle.sv_parse_machine.proofs.Breaks.{failure_breaks}
+use Rattle.sv_parse_expr.specs.declared.stop.Breach.{Breach}
+use Rattle.sv_parse_expr.specs.declared.stop.Stop.{Stop}
+use Rattle.sv_parse_expr.specs.declared.stop.Stop.TheVariants as stops
+use Rattle.sv_parse_expr.specs.Expectations.{failure_of, HaltsAs, RefusesAt}
+use Rattle.sv_parse_expr.specs.Faults.{IsRefusalOf}
 use Rattle.sv_parse.specs.ReadingTexts.{Fails, FailsAs}
 
 -- ---- runs that fail

@@ -2,10 +2,10 @@
 -- declarations.
 use Rattle.std.specs.Prelude.{List, [], ◌∷◌, ◌++◌}
 use Rattle.sv_token.specs.declared.signs.SignKind.TheVariants as signs
-use Rattle.sv_grammar.specs.Symbols.{Outer, punctuation, plain_name, perhaps_signed, perhaps_range}
-use Rattle.sv_grammar.specs.Symbols.{perhaps_label, perhaps_second_name, parameter_type, more_names}
-use Rattle.sv_grammar.specs.Symbols.{behind_reg_name}
-use Rattle.sv_grammar.specs.ModuleTable.{value, number_range, behind_selector}
+use Rattle.sv_parse_machine.specs.Symbols.{Outer, punctuation, plain_name, perhaps_signed, perhaps_range}
+use Rattle.sv_parse_machine.specs.Symbols.{perhaps_label, perhaps_second_name, parameter_type, more_names}
+use Rattle.sv_parse_machine.specs.Symbols.{behind_reg_name}
+use Rattle.sv_parse_machine.specs.ModuleTable.{value, number_range, behind_selector}
 use Rattle.sv_parse.specs.declared.registers.RegLabel.{RegLabel}
 use Rattle.sv_parse.specs.declared.registers.RegLabel.TheVariants as reg_label
 

@@ -5,12 +5,12 @@ use Rattle.sv_token.specs.declared.keywords.WordKind.TheVariants as words
 use Rattle.sv_token.specs.Lexemes.{Placed}
 use Rattle.sv_ast.specs.GrammarStatements.{IsNext}
 use Rattle.sv_ast.specs.GrammarRules.{all_limits}
-use Rattle.sv_grammar.specs.Symbols.{State}
-use Rattle.sv_grammar.specs.Machine.{Failure, fails, run}
-use Rattle.sv_grammar.specs.Reads.{failure_at}
-use Rattle.sv_read.specs.declared.stop.Stop.{Stop}
-use Rattle.sv_read.specs.declared.stop.Stop.TheVariants as stops
-use Rattle.sv_read.specs.Expectations.{failure_of}
+use Rattle.sv_parse_machine.specs.Symbols.{State}
+use Rattle.sv_parse_machine.specs.Machine.{Failure, fails, run}
+use Rattle.sv_parse_machine.specs.Reads.{failure_at}
+use Rattle.sv_parse_expr.specs.declared.stop.Stop.{Stop}
+use Rattle.sv_parse_expr.specs.declared.stop.Stop.TheVariants as stops
+use Rattle.sv_parse_expr.specs.Expectations.{failure_of}
 
 -- no further row of a label map comes
 abbrev pub EndsRows : List Placed → Type 0

@@ -18,22 +18,22 @@ ghost use Rattle.sv_ast.specs.GrammarRules.{all_limits};
 ghost use Rattle.sv_parse.specs.Reading.{IsTypeOf, IsOutputEnd, IsNamedAs, IsTypedPort, IsWireAs};
 ghost use Rattle.sv_parse.specs.ReadingItems.{IsWire, IsWireLike};
 ghost use Rattle.sv_ast.specs.GrammarStatements.{IsNext};
-ghost use Rattle.sv_grammar.specs.Symbols.{outer, punctuation, plain_name, perhaps_wire};
-ghost use Rattle.sv_grammar.specs.Symbols.{perhaps_wire_or_reg, ports, more_ports, later_port};
-ghost use Rattle.sv_grammar.specs.Symbols.{items, more_wires, perhaps_value};
-ghost use Rattle.sv_grammar.specs.ModuleTable.{typed_name};
-ghost use Rattle.sv_grammar.specs.Machine.{outside_on};
-ghost use Rattle.sv_grammar.specs.Reads.{Reads, NextIsNotSign, NextIsNotWord};
-ghost use Rattle.sv_read.specs.Expectations.{HaltsAs};
+ghost use Rattle.sv_parse_machine.specs.Symbols.{outer, punctuation, plain_name, perhaps_wire};
+ghost use Rattle.sv_parse_machine.specs.Symbols.{perhaps_wire_or_reg, ports, more_ports, later_port};
+ghost use Rattle.sv_parse_machine.specs.Symbols.{items, more_wires, perhaps_value};
+ghost use Rattle.sv_parse_machine.specs.ModuleTable.{typed_name};
+ghost use Rattle.sv_parse_machine.specs.Machine.{outside_on};
+ghost use Rattle.sv_parse_machine.specs.Reads.{Reads, NextIsNotSign, NextIsNotWord};
+ghost use Rattle.sv_parse_expr.specs.Expectations.{HaltsAs};
 
 use crate::types::{SignalType, label_copy, read_signal_type, span_copy};
 use std::alloc::{AllocError, Global};
 use sv_ast::{Decl, DeclKind, Expr, Item};
 use sv_num::{Name, Place};
-use sv_read::cursor::{behind, behind_word, expect_word, read_name, stuck};
-use sv_read::expressions::read_expression;
-use sv_read::lists::{Listed, read_list};
-use sv_read::stop::{Expected, Stop};
+use sv_parse_expr::cursor::{behind, behind_word, expect_word, read_name, stuck};
+use sv_parse_expr::expressions::read_expression;
+use sv_parse_expr::lists::{Listed, read_list};
+use sv_parse_expr::stop::{Expected, Stop};
 use sv_token::{SignKind, Token, WordKind};
 
 // A declaration of the kind and the type.

@@ -15,18 +15,18 @@ ghost use Rattle.sv_ast.specs.GrammarModules.{IsNamedInstance, IsInstance, AreOf
 ghost use Rattle.sv_ast.specs.GrammarModules.{AreInstances, all_as};
 ghost use Rattle.sv_ast.specs.GrammarRules.{all_limits};
 ghost use Rattle.sv_parse.specs.ReadingItems.{AreOpenOverrides, IsInstanceAs};
-ghost use Rattle.sv_grammar.specs.Symbols.{outer, punctuation, plain_name, expression, items};
-ghost use Rattle.sv_grammar.specs.Symbols.{overrides, link, links, perhaps_overrides};
-ghost use Rattle.sv_grammar.specs.Reads.{Reads, NextIsNotSign, NextIsAnyName};
-ghost use Rattle.sv_read.specs.Expectations.{HaltsAs};
+ghost use Rattle.sv_parse_machine.specs.Symbols.{outer, punctuation, plain_name, expression, items};
+ghost use Rattle.sv_parse_machine.specs.Symbols.{overrides, link, links, perhaps_overrides};
+ghost use Rattle.sv_parse_machine.specs.Reads.{Reads, NextIsNotSign, NextIsAnyName};
+ghost use Rattle.sv_parse_expr.specs.Expectations.{HaltsAs};
 
 use std::alloc::{AllocError, Global};
 use sv_ast::{Expr, Instance, Item, Links, Overrides};
 use sv_num::{Name, Place};
-use sv_read::cursor::{behind, expect_sign, read_name};
-use sv_read::lists::{Expressions, Listed, read_list};
-use sv_read::stop::Stop;
-use sv_statement::closed::read_closed;
+use sv_parse_expr::cursor::{behind, expect_sign, read_name};
+use sv_parse_expr::lists::{Expressions, Listed, read_list};
+use sv_parse_expr::stop::Stop;
+use sv_parse_stmt::closed::read_closed;
 use sv_token::{SignKind, Token};
 
 // The name behind a dot, and the `(` behind it.

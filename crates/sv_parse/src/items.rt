@@ -9,10 +9,10 @@ ghost use Rattle.sv_ast.specs.GrammarModules.{IsInvariant, IsListedItem, IsItem}
 ghost use Rattle.sv_ast.specs.GrammarRules.{all_limits};
 ghost use Rattle.sv_ast.specs.GrammarStatements.{IsNext, only};
 ghost use Rattle.sv_parse.specs.ReadingItems.{IsOpenEvent};
-ghost use Rattle.sv_grammar.specs.Symbols.{outer, punctuation, items, event};
-ghost use Rattle.sv_grammar.specs.Symbols.{event_inside};
-ghost use Rattle.sv_grammar.specs.Reads.{Reads, NextIsNotWord};
-ghost use Rattle.sv_read.specs.Expectations.{HaltsAs};
+ghost use Rattle.sv_parse_machine.specs.Symbols.{outer, punctuation, items, event};
+ghost use Rattle.sv_parse_machine.specs.Symbols.{event_inside};
+ghost use Rattle.sv_parse_machine.specs.Reads.{Reads, NextIsNotWord};
+ghost use Rattle.sv_parse_expr.specs.Expectations.{HaltsAs};
 
 use crate::declarations::read_wires;
 use crate::instances::read_instances;
@@ -21,14 +21,14 @@ use crate::registers::read_registers;
 use std::alloc::Global;
 use sv_ast::{Expr, Item};
 use sv_num::{BinOp, Name, Place};
-use sv_read::cursor::{behind, behind_word, expect_sign, expect_word, stuck, unexpected};
-use sv_read::expressions::read_expression;
-use sv_read::lists::one;
-use sv_read::operators::operator_at;
-use sv_read::stop::{Expected, Stop};
-use sv_statement::assignments::read_assigned;
-use sv_statement::closed::read_closed_name;
-use sv_statement::statements::read_statement;
+use sv_parse_expr::cursor::{behind, behind_word, expect_sign, expect_word, stuck, unexpected};
+use sv_parse_expr::expressions::read_expression;
+use sv_parse_expr::lists::one;
+use sv_parse_expr::operators::operator_at;
+use sv_parse_expr::stop::{Expected, Stop};
+use sv_parse_stmt::assignments::read_assigned;
+use sv_parse_stmt::closed::read_closed_name;
+use sv_parse_stmt::statements::read_statement;
 use sv_token::{SignKind, Token, TokenKind, WordKind};
 
 // What wakes a process, behind its `@` and `(`.

@@ -11,17 +11,19 @@ ghost use Rattle.sv_ast.specs.GrammarModules.{IsKeyRange, IsKey, IsRow, IsMap};
 ghost use Rattle.sv_ast.specs.GrammarStatements.{IsNext};
 ghost use Rattle.sv_parse.specs.ReadingItems.{IsOpenKeyRange, range_tree};
 ghost use Rattle.sv_parse.specs.ReadingTexts.{EndsRows};
-ghost use Rattle.sv_grammar.specs.Symbols.{outer, punctuation, plain_name, plain_number};
-ghost use Rattle.sv_grammar.specs.Symbols.{perhaps_maps, perhaps_key_range, rows};
-ghost use Rattle.sv_grammar.specs.Symbols.{perhaps_second_key, end_of_map};
-ghost use Rattle.sv_grammar.specs.Reads.{Reads, NextIsNotWord};
-ghost use Rattle.sv_read.specs.Expectations.{HaltsAs};
+ghost use Rattle.sv_parse_machine.specs.Symbols.{outer, punctuation, plain_name, plain_number};
+ghost use Rattle.sv_parse_machine.specs.Symbols.{perhaps_maps, perhaps_key_range, rows};
+ghost use Rattle.sv_parse_machine.specs.Symbols.{perhaps_second_key, end_of_map};
+ghost use Rattle.sv_parse_machine.specs.Reads.{Reads, NextIsNotWord};
+ghost use Rattle.sv_parse_expr.specs.Expectations.{HaltsAs};
 
 use std::alloc::Global;
 use sv_ast::{Expr, MapText, Span};
 use sv_num::{Name, Place};
-use sv_read::cursor::{behind, behind_word, expect_sign, expect_word, read_name, read_number};
-use sv_read::stop::Stop;
+use sv_parse_expr::cursor::{
+    behind, behind_word, expect_sign, expect_word, read_name, read_number,
+};
+use sv_parse_expr::stop::Stop;
 use sv_token::{Lit, SignKind, Token, TokenKind, WordKind};
 
 // A range of plain numbers, each with its place. It is made a tree last: a tree that is held where

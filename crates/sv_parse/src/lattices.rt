@@ -8,18 +8,18 @@ ghost use Rattle.sv_ast.specs.GrammarForms.{◌⨾◌, a_sign, commas};
 ghost use Rattle.sv_ast.specs.GrammarModules.{IsPlacedName, pair, IsLatticeLine, IsLattice};
 ghost use Rattle.sv_parse.specs.ReadingItems.{IsOneMore, AreLines};
 ghost use Rattle.sv_ast.specs.GrammarStatements.{IsNext};
-ghost use Rattle.sv_grammar.specs.Symbols.{outer, punctuation, plain_name, more_names};
-ghost use Rattle.sv_grammar.specs.Symbols.{perhaps_lattice, lattice_lines, less_equal};
-ghost use Rattle.sv_grammar.specs.Reads.{Reads, NextIsNotWord};
-ghost use Rattle.sv_read.specs.Expectations.{HaltsAs};
+ghost use Rattle.sv_parse_machine.specs.Symbols.{outer, punctuation, plain_name, more_names};
+ghost use Rattle.sv_parse_machine.specs.Symbols.{perhaps_lattice, lattice_lines, less_equal};
+ghost use Rattle.sv_parse_machine.specs.Reads.{Reads, NextIsNotWord};
+ghost use Rattle.sv_parse_expr.specs.Expectations.{HaltsAs};
 
 use std::alloc::Global;
 use sv_ast::LatticeText;
 use sv_num::{BinOp, Name, Place};
-use sv_read::cursor::{behind_word, expect_sign, expect_word, read_name, unexpected};
-use sv_read::lists::{Listed, read_list};
-use sv_read::operators::operator_at;
-use sv_read::stop::Stop;
+use sv_parse_expr::cursor::{behind_word, expect_sign, expect_word, read_name, unexpected};
+use sv_parse_expr::lists::{Listed, read_list};
+use sv_parse_expr::operators::operator_at;
+use sv_parse_expr::stop::Stop;
 use sv_token::{SignKind, Token, WordKind};
 
 // A name with its place.

@@ -1,7 +1,7 @@
 //! From tokens to the one text that they mean, or to the first rule of 201 to 204 that they break.
 //!
 //! `parse` promises the meaning in the words of `sv_ast` (`specs/GrammarRules.antt`: `TokensMean`,
-//! `BreaksGrammar`). Below it each function promises what those of `sv_read` do.
+//! `BreaksGrammar`). Below it each function promises what those of `sv_parse_expr` do.
 //!
 //! `specs/Faults.antt` says what the fault of a text says. `Reading.antt`,
 //! `ReadingDeclarations.antt`, `ReadingItems.antt` and `ReadingTexts.antt` are private: they say

@@ -9,13 +9,13 @@ ghost use Rattle.sv_ast.specs.Views.{lattice_tree, map_tree, text_tree};
 ghost use Rattle.sv_ast.specs.GrammarForms.{◌⨾◌, perhaps, each, some, a_word, a_sign};
 ghost use Rattle.sv_ast.specs.GrammarModules.{AreItems, IsModule, IsLattice, IsMap};
 ghost use Rattle.sv_ast.specs.GrammarRules.{all_limits, TokensMean};
-ghost use Rattle.sv_grammar.specs.Symbols.{outer, one_module, perhaps_header_parameters};
-ghost use Rattle.sv_grammar.specs.Symbols.{perhaps_ports, ports, items, perhaps_lattice};
-ghost use Rattle.sv_grammar.specs.Symbols.{perhaps_maps};
-ghost use Rattle.sv_grammar.specs.Machine.{text_state};
+ghost use Rattle.sv_parse_machine.specs.Symbols.{outer, one_module, perhaps_header_parameters};
+ghost use Rattle.sv_parse_machine.specs.Symbols.{perhaps_ports, ports, items, perhaps_lattice};
+ghost use Rattle.sv_parse_machine.specs.Symbols.{perhaps_maps};
+ghost use Rattle.sv_parse_machine.specs.Machine.{text_state};
 ghost use Rattle.sv_parse.specs.ReadingTexts.{FailsAs};
-ghost use Rattle.sv_grammar.specs.Reads.{Reads};
-ghost use Rattle.sv_read.specs.Expectations.{HaltsAs};
+ghost use Rattle.sv_parse_machine.specs.Reads.{Reads};
+ghost use Rattle.sv_parse_expr.specs.Expectations.{HaltsAs};
 ghost use Rattle.sv_parse.specs.ReadingItems.{AreParameterList, AreOpenPorts, ArePortList};
 ghost use Rattle.sv_parse.specs.ReadingItems.{IsHeaderOf};
 
@@ -27,8 +27,8 @@ use crate::parameters::read_header_params;
 use std::alloc::Global;
 use sv_ast::{Decl, Item, LatticeText, MapText, Module, Param, Text};
 use sv_num::{Name, Place};
-use sv_read::cursor::{behind, behind_word, expect_sign, expect_word, read_name};
-use sv_read::stop::Stop;
+use sv_parse_expr::cursor::{behind, behind_word, expect_sign, expect_word, read_name};
+use sv_parse_expr::stop::Stop;
 use sv_token::{SignKind, Token, WordKind};
 
 // The parameters of a header, if it has a list of them.

@@ -16,22 +16,22 @@ ghost use Rattle.sv_ast.specs.GrammarModules.{all_as};
 ghost use Rattle.sv_ast.specs.GrammarRules.{all_limits};
 ghost use Rattle.sv_parse.specs.Reading.{IsParameterAs, IsTypedParameter};
 ghost use Rattle.sv_ast.specs.GrammarStatements.{IsNext};
-ghost use Rattle.sv_grammar.specs.Symbols.{outer, punctuation, parameter_type, items};
-ghost use Rattle.sv_grammar.specs.Symbols.{more_parameters, header_parameter};
-ghost use Rattle.sv_grammar.specs.Symbols.{later_header_parameter, more_header_parameters};
-ghost use Rattle.sv_grammar.specs.Machine.{outside_on};
-ghost use Rattle.sv_grammar.specs.Reads.{Reads};
-ghost use Rattle.sv_read.specs.Expectations.{HaltsAs};
+ghost use Rattle.sv_parse_machine.specs.Symbols.{outer, punctuation, parameter_type, items};
+ghost use Rattle.sv_parse_machine.specs.Symbols.{more_parameters, header_parameter};
+ghost use Rattle.sv_parse_machine.specs.Symbols.{later_header_parameter, more_header_parameters};
+ghost use Rattle.sv_parse_machine.specs.Machine.{outside_on};
+ghost use Rattle.sv_parse_machine.specs.Reads.{Reads};
+ghost use Rattle.sv_parse_expr.specs.Expectations.{HaltsAs};
 ghost use Rattle.sv_parse.specs.ReadingDeclarations.{named_value, typed_value};
 
 use crate::types::{read_open_span, span_copy};
 use std::alloc::{AllocError, Global};
 use sv_ast::{Expr, Item, Param, Span};
 use sv_num::{Name, Place};
-use sv_read::cursor::{behind, behind_word, expect_sign, expect_word, read_name, unexpected};
-use sv_read::expressions::read_expression;
-use sv_read::lists::{Listed, read_list};
-use sv_read::stop::Stop;
+use sv_parse_expr::cursor::{behind, behind_word, expect_sign, expect_word, read_name, unexpected};
+use sv_parse_expr::expressions::read_expression;
+use sv_parse_expr::lists::{Listed, read_list};
+use sv_parse_expr::stop::Stop;
 use sv_token::{SignKind, Token, WordKind};
 
 // The signedness and the range of a parameter; without a range it is unsigned.

@@ -6,14 +6,14 @@ ghost use Rattle.sv_ast.specs.Tree.{TextTree};
 ghost use Rattle.sv_ast.specs.Views.{text_tree};
 ghost use Rattle.sv_ast.specs.GrammarRules.{TokensMean};
 ghost use Rattle.sv_ast.specs.GrammarMeaning.{end_place};
-ghost use Rattle.sv_read.specs.Faults.{IsRefusalOf};
+ghost use Rattle.sv_parse_expr.specs.Faults.{IsRefusalOf};
 
 use crate::modules::text;
 use std::alloc::Global;
 use sv_ast::Text;
 use sv_num::Fault;
-use sv_read::faults::broken;
-use sv_read::stop::Stop;
+use sv_parse_expr::faults::broken;
+use sv_parse_expr::stop::Stop;
 use sv_token::Token;
 
 /// The text that the tokens of the bytes mean: the only one, of the shape that the grammar gives.

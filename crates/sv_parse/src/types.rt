@@ -9,21 +9,21 @@ ghost use Rattle.sv_ast.specs.Views.{span_tree, label_tree};
 ghost use Rattle.sv_ast.specs.GrammarForms.{◌⨾◌, a_sign, a_name, flag, perhaps};
 ghost use Rattle.sv_ast.specs.GrammarDeclarations.{IsValue, IsRange, IsLabel};
 ghost use Rattle.sv_ast.specs.GrammarRules.{all_limits};
-ghost use Rattle.sv_grammar.specs.Symbols.{outer, plain_name, perhaps_signed, perhaps_range};
-ghost use Rattle.sv_grammar.specs.Symbols.{perhaps_label, perhaps_second_name, label_end};
-ghost use Rattle.sv_grammar.specs.ModuleTable.{value_range};
-ghost use Rattle.sv_grammar.specs.Machine.{outside_on};
-ghost use Rattle.sv_grammar.specs.Reads.{Reads};
-ghost use Rattle.sv_read.specs.Expectations.{HaltsAs};
+ghost use Rattle.sv_parse_machine.specs.Symbols.{outer, plain_name, perhaps_signed, perhaps_range};
+ghost use Rattle.sv_parse_machine.specs.Symbols.{perhaps_label, perhaps_second_name, label_end};
+ghost use Rattle.sv_parse_machine.specs.ModuleTable.{value_range};
+ghost use Rattle.sv_parse_machine.specs.Machine.{outside_on};
+ghost use Rattle.sv_parse_machine.specs.Reads.{Reads};
+ghost use Rattle.sv_parse_expr.specs.Expectations.{HaltsAs};
 ghost use Rattle.sv_parse.specs.ReadingDeclarations.{name_type, table_end};
 ghost use Rattle.sv_parse.specs.Reading.{IsTableEnd, IsOpenLabel, IsTypedAs};
 
 use std::alloc::{AllocError, Global};
 use sv_ast::{LabelText, Span};
 use sv_num::{Name, Place};
-use sv_read::cursor::{behind, behind_word, expect_sign, read_name};
-use sv_read::stop::Stop;
-use sv_statement::closed::read_closed;
+use sv_parse_expr::cursor::{behind, behind_word, expect_sign, read_name};
+use sv_parse_expr::stop::Stop;
+use sv_parse_stmt::closed::read_closed;
 use sv_token::{SignKind, Token, WordKind};
 
 /// Whether `signed` comes, and the tokens behind it.

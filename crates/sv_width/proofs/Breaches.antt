@@ -5,8 +5,8 @@ use Rattle.sv_num.specs.declared.faults.Place.{Place}
 use Rattle.sv_num.specs.declared.faults.Fault.{Fault}
 use Rattle.sv_num.specs.declared.faults.Fault.TheVariants.{Rule, OutOfMemory}
 use Rattle.sv_num.specs.Faults.{Refuses}
-use Rattle.sv_walk.specs.Walks.{Step}
-use Rattle.sv_walk.specs.Rules.{step}
+use Rattle.sv_elab_rules.specs.Walks.{Step}
+use Rattle.sv_elab_rules.specs.Rules.{step}
 use Rattle.sv_width.specs.Answers.{step_of, IsBreach}
 
 pub breach_of : {X : Type 0} (f : Fault) (number : ℕ) (place : Place) (names given : List (List ℕ))

@@ -20,8 +20,8 @@ use Rattle.sv_ast.specs.Shape.{is_shaped_expression, are_shaped_parts, has_part}
 use Rattle.sv_ast.specs.Values.{natural, nowhere, operand, length_of, joined_length}
 use Rattle.sv_ast.specs.Values.{signed_of, value, joined_value, whole_number}
 use Rattle.sv_num.specs.Parts.{extended, bit_or_zero, repeated}
-use Rattle.sv_walk.specs.Names.{Names}
-use Rattle.sv_walk.specs.TypedExpressions.{left_length, left_signed, right_length, right_signed}
+use Rattle.sv_elab_rules.specs.Names.{Names}
+use Rattle.sv_elab_rules.specs.TypedExpressions.{left_length, left_signed, right_length, right_signed}
 use Rattle.sv_width.specs.Agreement.{HaveLengths, IsLength, NumbersHaveLengths}
 use Rattle.sv_width.specs.Agreement.{PartsHaveLengths}
 use Rattle.sv_width.specs.Measured.{OwnForm, MeasuredTree, own_form, own_of}

@@ -21,12 +21,12 @@ use Rattle.sv_flat.specs.Values.{value as flat_value}
 use Rattle.sv_flat.specs.Soundness.{well_formed}
 use Rattle.sv_flat.specs.declared.expressions.FExpr.{FExpr}
 use Rattle.sv_flat.specs.Views.{typed_tree}
-use Rattle.sv_walk.specs.Walks.{Step, Steps, done, then_walk, ◌>>=◌}
-use Rattle.sv_walk.specs.Names.{Names}
-use Rattle.sv_walk.specs.TypedExpressions.{typed_of}
-use Rattle.sv_walk.specs.ExpressionSteps.{asked, asked_parts, divisors, own_divisors, typed_walk}
-use Rattle.sv_walk.specs.ExpressionSteps.{expression_walk, constant_walk}
-use Rattle.sv_walk.proofs.WalkLemmas.{end_broken}
+use Rattle.sv_elab_rules.specs.Walks.{Step, Steps, done, then_walk, ◌>>=◌}
+use Rattle.sv_elab_rules.specs.Names.{Names}
+use Rattle.sv_elab_rules.specs.TypedExpressions.{typed_of}
+use Rattle.sv_elab_rules.specs.ExpressionSteps.{asked, asked_parts, divisors, own_divisors, typed_walk}
+use Rattle.sv_elab_rules.specs.ExpressionSteps.{expression_walk, constant_walk}
+use Rattle.sv_elab_rules.proofs.WalkLemmas.{end_broken}
 use Rattle.sv_width.specs.declared.lookups.Setting.{Setting}
 use Rattle.sv_width.specs.declared.lookups.Setting.TheVariants.{Open, Constant, Declaring}
 use Rattle.sv_width.specs.declared.meanings.Meaning.{Meaning}

@@ -9,7 +9,7 @@ use Rattle.sv_num.specs.declared.faults.Fault.{Fault}
 use Rattle.sv_num.specs.declared.faults.Fault.TheVariants.{Rule, OutOfMemory}
 use Rattle.sv_num.specs.Faults.{Refuses}
 use Rattle.sv_token.specs.Bytes.{entry}
-use Rattle.sv_walk.specs.Rules.{step}
+use Rattle.sv_elab_rules.specs.Rules.{step}
 use Rattle.sv_width.specs.Scopes.{Known, meaning_of, IsTwice}
 
 chosen : {A B : Type 0} (f : A → B) (b : Bool) (x : A) (rest : Option A)

@@ -21,10 +21,10 @@ use Rattle.sv_num.specs.Vectors.{width_of, is_signed, value_of}
 use Rattle.sv_num.specs.BinaryValues.{class_of, binary_value, HaveOneType, HasDivisor, is_division}
 use Rattle.sv_num.proofs.NumberLemmas.{word_low}
 use Rattle.sv_ast.specs.Values.{natural}
-use Rattle.sv_walk.specs.Walks.{Step}
-use Rattle.sv_walk.specs.ExpressionSteps.{is_count}
-use Rattle.sv_walk.specs.TypedExpressions.{left_length, left_signed, right_length}
-use Rattle.sv_walk.specs.TypedExpressions.{right_signed}
+use Rattle.sv_elab_rules.specs.Walks.{Step}
+use Rattle.sv_elab_rules.specs.ExpressionSteps.{is_count}
+use Rattle.sv_elab_rules.specs.TypedExpressions.{left_length, left_signed, right_length}
+use Rattle.sv_elab_rules.specs.TypedExpressions.{right_signed}
 use Rattle.sv_width.specs.Answers.{IsBreach}
 use Rattle.sv_width.specs.Measured.{OwnForm, MeasuredTree, MeasuredTrees}
 use Rattle.sv_width.specs.Measured as measured

@@ -15,8 +15,8 @@ use Rattle.sv_ast.specs.Tree.{more_expressions}
 use Rattle.sv_ast.specs.Shape.{is_shaped_expression, are_shaped_parts, has_part}
 use Rattle.sv_ast.specs.Values.{natural, binary_length, length_of, joined_length, whole_number}
 use Rattle.sv_ast.specs.Instances.{is_signal}
-use Rattle.sv_walk.specs.Names.{Names, is_bound, is_parameter, in_reach, means_signal}
-use Rattle.sv_walk.specs.ExpressionSteps.{is_count, is_part}
+use Rattle.sv_elab_rules.specs.Names.{Names, is_bound, is_parameter, in_reach, means_signal}
+use Rattle.sv_elab_rules.specs.ExpressionSteps.{is_count, is_part}
 use Rattle.sv_width.specs.Agreement.{AllDeclared, HaveLengths, IsLength, NumbersHaveLengths}
 use Rattle.sv_width.specs.Agreement.{PartsHaveLengths}
 use Rattle.sv_width.proofs.Sound.{Sound, SoundParts}

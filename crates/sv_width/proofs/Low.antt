@@ -15,7 +15,7 @@ use Rattle.sv_num.specs.declared.operators.UnOp.TheVariants as unop
 use Rattle.sv_num.specs.Vectors.{truth}
 use Rattle.sv_num.specs.UnaryValues.{gives_one_bit, unary_value}
 use Rattle.sv_num.specs.BinaryValues.{class_of, binary_value}
-use Rattle.sv_walk.specs.TypedExpressions.{left_length, right_length, left_signed}
+use Rattle.sv_elab_rules.specs.TypedExpressions.{left_length, right_length, left_signed}
 use Rattle.sv_width.proofs.WellFormed.{reduced_low}
 
 pub one_low : (n x : ℕ) → 1 ≤ n → x < 2 → x < 2 ^ n

@@ -18,13 +18,13 @@ use Rattle.sv_ast.specs.Values.{natural, binary_length, binary_signed, length_of
 use Rattle.sv_ast.specs.Values.{signed_of, whole_number}
 use Rattle.sv_num.specs.Parts.{span_of}
 use Rattle.sv_ast.specs.Instances.{is_signal}
-use Rattle.sv_walk.specs.Walks.{Step, Walk, Steps, done, ask, then_walk, ◌>>=◌}
-use Rattle.sv_walk.specs.Names.{Names, is_parameter, means_signal, place_of}
-use Rattle.sv_walk.specs.Rules.{unknown_name, not_constant, bad_select}
-use Rattle.sv_walk.specs.TypedExpressions.{names_signal, some_names_signal}
-use Rattle.sv_walk.specs.ExpressionSteps.{asked, asked_parts, own_divisors, sized_parts}
-use Rattle.sv_walk.specs.ExpressionSteps.{is_part, is_count}
-use Rattle.sv_walk.proofs.WalkLemmas.{end_after, end_broken}
+use Rattle.sv_elab_rules.specs.Walks.{Step, Walk, Steps, done, ask, then_walk, ◌>>=◌}
+use Rattle.sv_elab_rules.specs.Names.{Names, is_parameter, means_signal, place_of}
+use Rattle.sv_elab_rules.specs.Rules.{unknown_name, not_constant, bad_select}
+use Rattle.sv_elab_rules.specs.TypedExpressions.{names_signal, some_names_signal}
+use Rattle.sv_elab_rules.specs.ExpressionSteps.{asked, asked_parts, own_divisors, sized_parts}
+use Rattle.sv_elab_rules.specs.ExpressionSteps.{is_part, is_count}
+use Rattle.sv_elab_rules.proofs.WalkLemmas.{end_after, end_broken}
 use Rattle.sv_width.specs.Answers.{step_of, IsBreach}
 use Rattle.sv_width.specs.Settings.{selected_steps}
 use Rattle.sv_width.specs.Measured.{OwnForm, MeasuredTree, MeasuredTrees, own_form, own_of}
@@ -157,7 +157,7 @@ module _ (names : Names) (c : Bool) where
       (passes_on (asked names c b) _ _ second
       (ap (λ (x : Bool). (elim (is_division op) as (λ z.
       Steps) [
-        | true ↦ ask (not x) (Rattle.sv_walk.specs.Rules.division p)
+        | true ↦ ask (not x) (Rattle.sv_elab_rules.specs.Rules.division p)
         | false ↦
             done tt
       ]).end)
@@ -233,7 +233,7 @@ module _ (names : Names) (c : Bool) where
   unfolding asked asked_parts
   join_asked p es ts is first =
       passes_on (asked_parts names c es) _ _ first
-      (ap (λ x. (ask (nat_le x 64) (Rattle.sv_walk.specs.Rules.too_wide p) >>= λ _.
+      (ap (λ x. (ask (nat_le x 64) (Rattle.sv_elab_rules.specs.Rules.too_wide p) >>= λ _.
       sized_parts es).end)
       (sym (ap joined_width is ∙ joined_measured names es)))
 
@@ -283,15 +283,15 @@ module _ (names : Names) (c : Bool) where
       (passes_on (own_divisors names.scope k) _ _ second
       (passes_on (asked_parts names c es) _ _ third
       (sym (ap (λ x. (replication_steps p (place_of k) count es x).end) is
-      ∙ ap (λ x. (ask (nat_le (natural count * x) 64) (Rattle.sv_walk.specs.Rules.too_wide p)
+      ∙ ap (λ x. (ask (nat_le (natural count * x) 64) (Rattle.sv_elab_rules.specs.Rules.too_wide p)
       >>= λ _. sized_parts es >>= λ _.
-      ask (is_count count) (Rattle.sv_walk.specs.Rules.bad_count (place_of k))).end)
+      ask (is_count count) (Rattle.sv_elab_rules.specs.Rules.bad_count (place_of k))).end)
       (joined_measured names es)
       ∙ ap (λ (z : ℤ).
       (ask (nat_le (natural z * joined_length names.scope es) 64)
-      (Rattle.sv_walk.specs.Rules.too_wide p) >>= λ _.
+      (Rattle.sv_elab_rules.specs.Rules.too_wide p) >>= λ _.
       sized_parts es >>= λ _.
-      ask (is_count z) (Rattle.sv_walk.specs.Rules.bad_count (place_of k))).end) counted))))
+      ask (is_count z) (Rattle.sv_elab_rules.specs.Rules.bad_count (place_of k))).end) counted))))
 
   -- a bit, once its signal is there
   pub bit_measured : (n : List ℕ) (p : Place) (i : ExpressionTree) (t u : MeasuredTree)

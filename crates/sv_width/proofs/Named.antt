@@ -7,11 +7,11 @@ use Rattle.sv_ast.specs.Scopes.{Number, Binding, parameter, signal, width_of, is
 use Rattle.sv_ast.specs.Tree.{named}
 use Rattle.sv_ast.specs.Instances.{is_signal}
 use Rattle.sv_ast.specs.Values.{length_of, joined_length, signed_of}
-use Rattle.sv_walk.specs.Walks.{Steps, ask, ◌>>=◌}
-use Rattle.sv_walk.specs.Rules.{unknown_name, not_constant}
-use Rattle.sv_walk.specs.Names.{Names, is_bound, is_parameter}
-use Rattle.sv_walk.specs.TypedExpressions.{names_signal, some_names_signal}
-use Rattle.sv_walk.specs.ExpressionSteps.{asked, asked_parts}
+use Rattle.sv_elab_rules.specs.Walks.{Steps, ask, ◌>>=◌}
+use Rattle.sv_elab_rules.specs.Rules.{unknown_name, not_constant}
+use Rattle.sv_elab_rules.specs.Names.{Names, is_bound, is_parameter}
+use Rattle.sv_elab_rules.specs.TypedExpressions.{names_signal, some_names_signal}
+use Rattle.sv_elab_rules.specs.ExpressionSteps.{asked, asked_parts}
 use Rattle.sv_width.specs.declared.lookups.Setting.{Setting}
 use Rattle.sv_width.specs.declared.lookups.Setting.TheVariants.{Open, Constant, Declaring}
 use Rattle.sv_width.specs.Scopes.{Known, binding_of, meaning_of, number_in}

@@ -12,9 +12,9 @@ use Rattle.sv_flat.specs.Design.{SignalForm, TypedTree}
 use Rattle.sv_flat.specs.Soundness.{well_formed}
 use Rattle.sv_flat.specs.declared.expressions.FExpr.{FExpr}
 use Rattle.sv_flat.specs.Views.{typed_tree}
-use Rattle.sv_walk.specs.Walks.{Step}
-use Rattle.sv_walk.specs.Names.{Names}
-use Rattle.sv_walk.specs.ExpressionSteps.{divisors}
+use Rattle.sv_elab_rules.specs.Walks.{Step}
+use Rattle.sv_elab_rules.specs.Names.{Names}
+use Rattle.sv_elab_rules.specs.ExpressionSteps.{divisors}
 use Rattle.sv_width.specs.declared.measured.Measured.{Measured}
 use Rattle.sv_width.specs.declared.measured.Measured as measured
 use Rattle.sv_width.specs.Agreement.{HaveSignals, IsLength}

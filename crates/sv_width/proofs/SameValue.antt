@@ -26,10 +26,10 @@ use Rattle.sv_flat.specs.Design.{SignalForm, TypedTree, typed, binary as binary_
 use Rattle.sv_flat.specs.Design.{unary as unary_node, constant}
 use Rattle.sv_flat.specs.Values.{signal_width, expression_width, expression_signed, parts_width}
 use Rattle.sv_flat.specs.Values.{value as flat_value, joined, number_of}
-use Rattle.sv_walk.specs.Names.{Names, is_bound, in_reach, means_signal}
-use Rattle.sv_walk.specs.TypedExpressions.{names_signal, some_names_signal}
-use Rattle.sv_walk.specs.TypedExpressions.{left_length, left_signed, right_length, right_signed}
-use Rattle.sv_walk.specs.TypedExpressions.{named_node, typed_of, typed_parts}
+use Rattle.sv_elab_rules.specs.Names.{Names, is_bound, in_reach, means_signal}
+use Rattle.sv_elab_rules.specs.TypedExpressions.{names_signal, some_names_signal}
+use Rattle.sv_elab_rules.specs.TypedExpressions.{left_length, left_signed, right_length, right_signed}
+use Rattle.sv_elab_rules.specs.TypedExpressions.{named_node, typed_of, typed_parts}
 use Rattle.sv_width.specs.Agreement.{AllDeclared, HaveSignals, HaveValues}
 use Rattle.sv_width.proofs.Sound.{Sound, SoundParts}
 

@@ -7,13 +7,13 @@ use Rattle.sv_ast.specs.Tree.{ExpressionTree, ExpressionTrees, literal, named, b
 use Rattle.sv_ast.specs.Tree.{unary, binary, choice, join, replication, no_expressions}
 use Rattle.sv_ast.specs.Tree.{more_expressions}
 use Rattle.sv_ast.specs.Values.{length_of, joined_length, whole_number}
-use Rattle.sv_walk.specs.Walks.{Step, Steps, done, ask, then_walk, ◌>>=◌}
-use Rattle.sv_walk.specs.Names.{Names, is_parameter, in_reach, means_signal, place_of}
-use Rattle.sv_walk.specs.Rules.{unknown_name, too_wide, bad_select, not_constant}
-use Rattle.sv_walk.specs.TypedExpressions.{names_signal}
-use Rattle.sv_walk.specs.ExpressionSteps.{asked, asked_parts, own_divisors, sized_parts, is_below}
-use Rattle.sv_walk.specs.ExpressionSteps.{is_count, is_part}
-use Rattle.sv_walk.proofs.WalkLemmas.{asked_true}
+use Rattle.sv_elab_rules.specs.Walks.{Step, Steps, done, ask, then_walk, ◌>>=◌}
+use Rattle.sv_elab_rules.specs.Names.{Names, is_parameter, in_reach, means_signal, place_of}
+use Rattle.sv_elab_rules.specs.Rules.{unknown_name, too_wide, bad_select, not_constant}
+use Rattle.sv_elab_rules.specs.TypedExpressions.{names_signal}
+use Rattle.sv_elab_rules.specs.ExpressionSteps.{asked, asked_parts, own_divisors, sized_parts, is_below}
+use Rattle.sv_elab_rules.specs.ExpressionSteps.{is_count, is_part}
+use Rattle.sv_elab_rules.proofs.WalkLemmas.{asked_true}
 
 -- each step is passed
 abbrev pub Passes : Steps → Type 0

@@ -25,18 +25,18 @@ use Rattle.sv_flat.specs.Design.{after, assign, branch}
 use Rattle.sv_flat.specs.Values.{signal_width, expression_width, expression_signed}
 use Rattle.sv_flat.specs.Soundness.{is_whole as is_whole_piece, is_part_of, piece_fits, well_formed}
 use Rattle.sv_flat.specs.Soundness.{statement_sound, is_signal as is_number_of_signal}
-use Rattle.sv_walk.specs.Walks.{Step, Steps, done, ask, each, value_or}
-use Rattle.sv_walk.specs.Names.{Names}
-use Rattle.sv_walk.specs.TypedExpressions.{typed_of}
-use Rattle.sv_walk.specs.ExpressionSteps.{is_below, asked, divisors, constant_walk, typed_walk}
-use Rattle.sv_walk.specs.ExpressionSteps.{expression_walk}
-use Rattle.sv_walk.specs.Targets.{highest, lowest, selection_steps, target_steps, targets_steps}
-use Rattle.sv_walk.specs.Targets.{pieces_of, assignment_walk}
-use Rattle.sv_walk.specs.CaseChains.{FlatArm, item_length, items_length, arms_length, arm_items}
-use Rattle.sv_walk.specs.CaseChains.{common_length, common_signed, equals, or_equals, arm_branch}
-use Rattle.sv_walk.specs.CaseChains.{chain, closed_chain, default_of, case_chain, is_complete}
-use Rattle.sv_walk.specs.Statements.{items_walk, statement_walk, statements_walk, arms_walk}
-use Rattle.sv_walk.proofs.WalkLemmas.{end_after, end_broken, parts_done, asked_true}
+use Rattle.sv_elab_rules.specs.Walks.{Step, Steps, done, ask, each, value_or}
+use Rattle.sv_elab_rules.specs.Names.{Names}
+use Rattle.sv_elab_rules.specs.TypedExpressions.{typed_of}
+use Rattle.sv_elab_rules.specs.ExpressionSteps.{is_below, asked, divisors, constant_walk, typed_walk}
+use Rattle.sv_elab_rules.specs.ExpressionSteps.{expression_walk}
+use Rattle.sv_elab_rules.specs.Targets.{highest, lowest, selection_steps, target_steps, targets_steps}
+use Rattle.sv_elab_rules.specs.Targets.{pieces_of, assignment_walk}
+use Rattle.sv_elab_rules.specs.CaseChains.{FlatArm, item_length, items_length, arms_length, arm_items}
+use Rattle.sv_elab_rules.specs.CaseChains.{common_length, common_signed, equals, or_equals, arm_branch}
+use Rattle.sv_elab_rules.specs.CaseChains.{chain, closed_chain, default_of, case_chain, is_complete}
+use Rattle.sv_elab_rules.specs.Statements.{items_walk, statement_walk, statements_walk, arms_walk}
+use Rattle.sv_elab_rules.proofs.WalkLemmas.{end_after, end_broken, parts_done, asked_true}
 use Rattle.sv_width.specs.Agreement.{AllDeclared, HaveSignals, HaveLengths, IsLength}
 use Rattle.sv_width.specs.Agreement.{NumbersHaveLengths}
 use Rattle.sv_width.proofs.Sound.{both_pass, passed_sound}

@@ -22,13 +22,13 @@ use Rattle.sv_ast.specs.Values.{nowhere, length_of, joined_length, signed_of, va
 use Rattle.sv_ast.specs.Values.{natural, whole_number}
 use Rattle.sv_flat.specs.Design as flat
 use Rattle.sv_flat.specs.Design.{TypedTree, TypedTrees, NodeTree, typed}
-use Rattle.sv_walk.specs.Walks.{Step, Steps, done, ask, then_walk, ◌>>=◌}
-use Rattle.sv_walk.specs.Rules.{zero_divisor}
-use Rattle.sv_walk.specs.Names.{Names, place_of}
-use Rattle.sv_walk.specs.TypedExpressions.{names_signal, left_length, left_signed}
-use Rattle.sv_walk.specs.TypedExpressions.{right_length, right_signed, named_node, typed_of}
-use Rattle.sv_walk.specs.TypedExpressions.{typed_parts}
-use Rattle.sv_walk.specs.ExpressionSteps.{divisors, part_divisors}
+use Rattle.sv_elab_rules.specs.Walks.{Step, Steps, done, ask, then_walk, ◌>>=◌}
+use Rattle.sv_elab_rules.specs.Rules.{zero_divisor}
+use Rattle.sv_elab_rules.specs.Names.{Names, place_of}
+use Rattle.sv_elab_rules.specs.TypedExpressions.{names_signal, left_length, left_signed}
+use Rattle.sv_elab_rules.specs.TypedExpressions.{right_length, right_signed, named_node, typed_of}
+use Rattle.sv_elab_rules.specs.TypedExpressions.{typed_parts}
+use Rattle.sv_elab_rules.specs.ExpressionSteps.{divisors, part_divisors}
 use Rattle.sv_width.specs.Agreement.{HaveLengths, IsLength, NumbersHaveLengths}
 use Rattle.sv_width.specs.Agreement.{PartsHaveLengths}
 use Rattle.sv_width.specs.Measured.{OwnForm, MeasuredTree, MeasuredTrees, own_form, own_of}

@@ -33,10 +33,10 @@ use Rattle.sv_flat.specs.Values.{signal_width, expression_width, expression_sign
 use Rattle.sv_flat.specs.Soundness.{is_one_to, is_signal, has_type}
 use Rattle.sv_flat.specs.Soundness.{binary_typed, well_formed}
 use Rattle.sv_flat.specs.Soundness.{node_well_formed, parts_well_formed}
-use Rattle.sv_walk.specs.Names.{Names, is_bound}
-use Rattle.sv_walk.specs.TypedExpressions.{names_signal, left_length, left_signed}
-use Rattle.sv_walk.specs.TypedExpressions.{right_length, right_signed, named_node, typed_of}
-use Rattle.sv_walk.specs.TypedExpressions.{typed_parts}
+use Rattle.sv_elab_rules.specs.Names.{Names, is_bound}
+use Rattle.sv_elab_rules.specs.TypedExpressions.{names_signal, left_length, left_signed}
+use Rattle.sv_elab_rules.specs.TypedExpressions.{right_length, right_signed, named_node, typed_of}
+use Rattle.sv_elab_rules.specs.TypedExpressions.{typed_parts}
 use Rattle.sv_width.specs.Agreement.{AllDeclared, HaveSignals, HaveLengths, IsLength}
 use Rattle.sv_width.specs.Agreement.{NumbersHaveLengths, PartsHaveLengths}
 use Rattle.sv_width.proofs.Sound.{Sound, SoundParts}

@@ -11,7 +11,7 @@ use Rattle.sv_num.specs.Vectors.{reduced}
 use Rattle.sv_num.proofs.NumberLemmas.{reduced_is, below_zero, number_at}
 use Rattle.sv_num.proofs.BitsLemmas.{number_when}
 use Rattle.sv_ast.specs.Values.{natural}
-use Rattle.sv_walk.specs.ExpressionSteps.{is_below, is_part}
+use Rattle.sv_elab_rules.specs.ExpressionSteps.{is_below, is_part}
 use Rattle.sv_width.specs.Answers.{whole_part}
 
 pub negative_number : (bits : Bits) →

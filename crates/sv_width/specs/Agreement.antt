@@ -8,7 +8,7 @@ use Rattle.sv_ast.specs.Tree.{more_expressions}
 use Rattle.sv_flat.specs.Design.{SignalForm}
 use Rattle.sv_flat.specs.Values.{signal_width}
 use Rattle.sv_flat.specs.Soundness.{is_signal}
-use Rattle.sv_walk.specs.Names.{Names}
+use Rattle.sv_elab_rules.specs.Names.{Names}
 
 -- all declarations are made
 abbrev pub AllDeclared : Names → Type 0

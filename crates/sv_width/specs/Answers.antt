@@ -4,8 +4,8 @@ use Rattle.std.specs.Prelude.{◌≡◌, ℕ, ℤ, pos, negsuc, Option, Some, No
 use Rattle.sv_num.specs.declared.faults.Refusal.{Refusal}
 use Rattle.sv_num.specs.declared.faults.Fault.{Fault}
 use Rattle.sv_num.specs.declared.faults.Fault.TheVariants.{Rule, OutOfMemory}
-use Rattle.sv_walk.specs.Walks.{Step}
-use Rattle.sv_walk.specs.Rules.{step}
+use Rattle.sv_elab_rules.specs.Walks.{Step}
+use Rattle.sv_elab_rules.specs.Rules.{step}
 
 -- the step that a refusal names
 abbrev pub step_of : Refusal → Step

@@ -9,9 +9,9 @@ use Rattle.sv_ast.specs.Tree.{ExpressionTree}
 use Rattle.sv_ast.specs.Shape.{is_shaped_expression}
 use Rattle.sv_ast.specs.Values.{nowhere, length_of, signed_of, value}
 use Rattle.sv_flat.specs.Design.{TypedTree}
-use Rattle.sv_walk.specs.Names.{Names}
-use Rattle.sv_walk.specs.TypedExpressions.{typed_of}
-use Rattle.sv_walk.specs.ExpressionSteps.{asked, divisors}
+use Rattle.sv_elab_rules.specs.Names.{Names}
+use Rattle.sv_elab_rules.specs.TypedExpressions.{typed_of}
+use Rattle.sv_elab_rules.specs.ExpressionSteps.{asked, divisors}
 use Rattle.sv_width.specs.Agreement.{AllDeclared, HaveLengths, NumbersHaveLengths}
 use Rattle.sv_width.specs.declared.measured.Measured.{Measured}
 use Rattle.sv_width.specs.Measured.{own_form, measured_of}

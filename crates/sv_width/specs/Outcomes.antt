@@ -1,5 +1,5 @@
 -- Private: how the code goes. What its steps find; the meaning stands in `asked` and `divisors` of
--- sv_walk/specs/ExpressionSteps.antt.
+-- sv_elab_rules/specs/ExpressionSteps.antt.
 use Rattle.std.specs.Prelude.{◌≡◌, ℕ, Bool, true, false, not, ◌||◌, ◌==◌, List}
 use Rattle.std.specs.Prelude.{if◌then◌else◌, ℤ, max, nat_le, ◌&&◌, ◌*◌, Ok}
 use Rattle.sv_num.specs.declared.faults.Place.{Place}
@@ -15,12 +15,12 @@ use Rattle.sv_flat.specs.Design.{typed}
 use Rattle.sv_flat.specs.declared.expressions.FExpr.{FExpr}
 use Rattle.sv_flat.specs.declared.expressions.FNode.{FNode}
 use Rattle.sv_flat.specs.Views.{typed_tree, node_tree}
-use Rattle.sv_walk.specs.Walks.{Steps, done, ask, ◌>>=◌}
-use Rattle.sv_walk.specs.Rules.{bad_select, too_wide, zero_divisor, division, bad_count}
-use Rattle.sv_walk.specs.Names.{Names, place_of}
-use Rattle.sv_walk.specs.TypedExpressions.{names_signal}
-use Rattle.sv_walk.specs.ExpressionSteps.{asked, asked_parts, own_divisors, sized_parts, is_below}
-use Rattle.sv_walk.specs.ExpressionSteps.{is_count}
+use Rattle.sv_elab_rules.specs.Walks.{Steps, done, ask, ◌>>=◌}
+use Rattle.sv_elab_rules.specs.Rules.{bad_select, too_wide, zero_divisor, division, bad_count}
+use Rattle.sv_elab_rules.specs.Names.{Names, place_of}
+use Rattle.sv_elab_rules.specs.TypedExpressions.{names_signal}
+use Rattle.sv_elab_rules.specs.ExpressionSteps.{asked, asked_parts, own_divisors, sized_parts, is_below}
+use Rattle.sv_elab_rules.specs.ExpressionSteps.{is_count}
 use Rattle.sv_width.specs.declared.measured.Measured.{Measured}
 use Rattle.sv_width.specs.Scopes.{number_of}
 use Rattle.sv_width.specs.Measured.{OwnForm, MeasuredTree, MeasuredTrees, no_parts, more_parts}

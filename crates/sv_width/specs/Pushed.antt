@@ -1,6 +1,6 @@
 -- Private: how the code goes. The second walk, over an expression whose own lengths and signedness
 -- are known: rule 405, values of constants, and typed forms (IEEE 1364-2005, clauses 5.4 and 5.5);
--- the meaning stands in `divisors` of sv_walk/specs/ExpressionSteps.antt, `typed_of` of
+-- the meaning stands in `divisors` of sv_elab_rules/specs/ExpressionSteps.antt, `typed_of` of
 -- TypedExpressions.antt and `value` of sv_ast/specs/Values.antt.
 use Rattle.std.specs.Prelude.{ℕ, zero, suc, ◌+◌, ◌*◌, ◌%◌, ◌^◌, Bool, true, false, not, ◌==◌}
 use Rattle.std.specs.Prelude.{if◌then◌else◌}
@@ -10,10 +10,10 @@ use Rattle.sv_num.specs.UnaryValues.{gives_one_bit, unary_value}
 use Rattle.sv_num.specs.BinaryValues.{class_of, binary_value, is_division}
 use Rattle.sv_flat.specs.Design as flat
 use Rattle.sv_flat.specs.Design.{TypedTree, NodeTree, TypedTrees, typed}
-use Rattle.sv_walk.specs.Walks.{Steps, done, ask, ◌>>=◌}
-use Rattle.sv_walk.specs.Rules.{zero_divisor}
-use Rattle.sv_walk.specs.TypedExpressions.{left_length, right_length, left_signed}
-use Rattle.sv_walk.specs.TypedExpressions.{right_signed}
+use Rattle.sv_elab_rules.specs.Walks.{Steps, done, ask, ◌>>=◌}
+use Rattle.sv_elab_rules.specs.Rules.{zero_divisor}
+use Rattle.sv_elab_rules.specs.TypedExpressions.{left_length, right_length, left_signed}
+use Rattle.sv_elab_rules.specs.TypedExpressions.{right_signed}
 use Rattle.sv_width.specs.Measured.{MeasuredTree, MeasuredTrees, value, read, read_bit}
 use Rattle.sv_width.specs.Measured.{read_part, unary, binary, choice, join, replication, no_parts}
 use Rattle.sv_width.specs.Measured.{more_parts, own_form}

@@ -10,8 +10,8 @@ use Rattle.sv_num.specs.declared.vectors.Bits.{Bits}
 use Rattle.sv_num.specs.Vectors.{width_of, is_signed, value_of}
 use Rattle.sv_ast.specs.Scopes.{Number, Binding, parameter, signal, Scope as Bindings}
 use Rattle.sv_ast.specs.Instances.{entry}
-use Rattle.sv_walk.specs.Names.{Names}
-use Rattle.sv_walk.specs.Rules.{twice}
+use Rattle.sv_elab_rules.specs.Names.{Names}
+use Rattle.sv_elab_rules.specs.Rules.{twice}
 use Rattle.sv_width.specs.Answers.{step_of}
 use Rattle.sv_flat.specs.declared.signals.SigId.{SigId}
 use Rattle.sv_width.specs.declared.meanings.KnownSignal.{KnownSignal}

@@ -1,10 +1,10 @@
 -- Private: how the code goes. Which names an expression may name, in the settings of the code; the
--- meaning stands in `asked` of sv_walk/specs/ExpressionSteps.antt.
+-- meaning stands in `asked` of sv_elab_rules/specs/ExpressionSteps.antt.
 use Rattle.std.specs.Prelude.{ℕ, Bool, true, false, not, List, if◌then◌else◌}
 use Rattle.sv_num.specs.declared.faults.Place.{Place}
-use Rattle.sv_walk.specs.Walks.{Step, Steps, ask, ◌>>=◌}
-use Rattle.sv_walk.specs.Rules.{unknown_name, not_constant}
-use Rattle.sv_walk.specs.Names.{Names, means_signal}
+use Rattle.sv_elab_rules.specs.Walks.{Step, Steps, ask, ◌>>=◌}
+use Rattle.sv_elab_rules.specs.Rules.{unknown_name, not_constant}
+use Rattle.sv_elab_rules.specs.Names.{Names, means_signal}
 use Rattle.sv_width.specs.declared.lookups.Setting.{Setting}
 use Rattle.sv_width.specs.declared.lookups.Setting.TheVariants.{Open, Constant, Declaring}
 use Rattle.sv_width.specs.Scopes.{Known, names_of, names_ahead}

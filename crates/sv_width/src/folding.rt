@@ -3,8 +3,8 @@ ghost use Rattle.std.specs.Prelude.{◌≡◌, ◌+◌, ◌*◌, ◌%◌, ◌^�
 ghost use Rattle.sv_num.specs.Vectors.{width_of, is_signed, value_of, as_number, reduced};
 ghost use Rattle.sv_width.specs.Answers.{IsBreach};
 ghost use Rattle.sv_num.specs.BinaryValues.{class_of, binary_value, HasDivisor};
-ghost use Rattle.sv_walk.specs.TypedExpressions.{left_length, left_signed, right_length};
-ghost use Rattle.sv_walk.specs.TypedExpressions.{right_signed};
+ghost use Rattle.sv_elab_rules.specs.TypedExpressions.{left_length, left_signed, right_length};
+ghost use Rattle.sv_elab_rules.specs.TypedExpressions.{right_signed};
 ghost use Rattle.sv_width.specs.Outcomes.{IsFolded, zero_steps};
 ghost use Rattle.sv_width.specs.Pushed.{behind, behind_times, joined_width, joined_from};
 ghost use Rattle.sv_width.specs.Pushed.{divisors_of, divisors_in};

@@ -7,9 +7,9 @@ ghost use Rattle.sv_ast.specs.Values.{length_of, value as source_value};
 ghost use Rattle.sv_flat.specs.Design.{SignalForm};
 ghost use Rattle.sv_flat.specs.Values.{value};
 ghost use Rattle.sv_flat.specs.Soundness.{well_formed};
-ghost use Rattle.sv_walk.specs.Names.{Names};
-ghost use Rattle.sv_walk.specs.ExpressionSteps.{asked};
-ghost use Rattle.sv_walk.specs.TypedExpressions.{typed_of};
+ghost use Rattle.sv_elab_rules.specs.Names.{Names};
+ghost use Rattle.sv_elab_rules.specs.ExpressionSteps.{asked};
+ghost use Rattle.sv_elab_rules.specs.TypedExpressions.{typed_of};
 ghost use Rattle.sv_width.specs.Agreement.{AllDeclared, HaveSignals, HaveValues, HaveLengths};
 ghost use Rattle.sv_width.specs.Agreement.{IsLength, NumbersHaveLengths};
 

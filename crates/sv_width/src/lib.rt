@@ -4,7 +4,7 @@
 //! for. `typed` gives the typed form for a place that gives a length, `constant` and
 //! `constant_in_reach` the value of a constant, and an `Operand` is typed or valued later, where
 //! its place gives length and signedness. Each answers as the walk of an expression in
-//! `specs/ExpressionSteps.antt` of `sv_walk` ends: with its result, with the first of the rules 401
+//! `specs/ExpressionSteps.antt` of `sv_elab_rules` ends: with its result, with the first of the rules 401
 //! to 408 that is broken, or with want of memory. Typed forms are those of
 //! `specs/TypedExpressions.antt` there; they have the values of their sources, as
 //! `specs/Values.antt` of `sv_ast` gives them.
@@ -14,7 +14,7 @@
 //! (`Measured.antt`, `Views.antt`), `Agreement.antt` when signals and an environment are those of
 //! some names, and `WrittenLengths.antt` that written numbers have 1 to 64 bits. `Settings.antt`,
 //! `Pushed.antt` and `Outcomes.antt` are private: they say how the code goes; the meaning stands in
-//! those files of `sv_walk`.
+//! those files of `sv_elab_rules`.
 #![tactic(auto)]
 
 mod building;

@@ -4,11 +4,11 @@ ghost use Rattle.sv_num.specs.Rules.{rule_number};
 ghost use Rattle.sv_ast.specs.Instances.{is_signal};
 ghost use Rattle.sv_ast.specs.Tree as tree;
 ghost use Rattle.sv_ast.specs.Views.{expression_tree, expression_trees, parts_of};
-ghost use Rattle.sv_walk.specs.Walks.{Step};
-ghost use Rattle.sv_walk.specs.Rules.{step, unknown_name};
-ghost use Rattle.sv_walk.specs.Names.{place_of};
-ghost use Rattle.sv_walk.specs.ExpressionSteps.{asked};
-ghost use Rattle.sv_walk.specs.TypedExpressions.{names_signal, some_names_signal};
+ghost use Rattle.sv_elab_rules.specs.Walks.{Step};
+ghost use Rattle.sv_elab_rules.specs.Rules.{step, unknown_name};
+ghost use Rattle.sv_elab_rules.specs.Names.{place_of};
+ghost use Rattle.sv_elab_rules.specs.ExpressionSteps.{asked};
+ghost use Rattle.sv_elab_rules.specs.TypedExpressions.{names_signal, some_names_signal};
 ghost use Rattle.sv_width.specs.declared.meanings.Meaning.TheVariants as meaning;
 ghost use Rattle.sv_width.specs.declared.lookups.Setting.TheVariants as setting_of;
 ghost use Rattle.sv_width.specs.Answers.{IsBreach};
@@ -146,7 +146,7 @@ fn is_signal(name: &Name, scope: &Scope) -> bool
 }
 
 /// Whether a signal is named. It looks no further than the first one.
-#[tactic(auto, unfolding(sv_walk::specs::TypedExpressions::names_signal))]
+#[tactic(auto, unfolding(sv_elab_rules::specs::TypedExpressions::names_signal))]
 #[cycle(naming)]
 pub fn names_signal(expr: &Expr, scope: &Scope) -> bool
     ensures { result ≡ names_signal (bindings_of scope.now) (expression_tree expr.now) }
@@ -170,7 +170,7 @@ pub fn names_signal(expr: &Expr, scope: &Scope) -> bool
     }
 }
 
-#[tactic(auto, unfolding(sv_walk::specs::TypedExpressions::some_names_signal))]
+#[tactic(auto, unfolding(sv_elab_rules::specs::TypedExpressions::some_names_signal))]
 #[cycle(naming)]
 fn some_name_signal(exprs: &[Expr], scope: &Scope) -> bool
     ensures { result ≡ some_names_signal (bindings_of scope.now)

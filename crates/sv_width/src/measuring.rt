@@ -4,7 +4,7 @@ ghost use Rattle.std.specs.Prelude.{◌≡◌, Ok, IfOk, OnOk, IfErr, IsTrue};
 ghost use Rattle.sv_ast.specs.Shape.{is_shaped_expression, are_shaped_parts, has_part};
 ghost use Rattle.sv_ast.specs.Tree as tree;
 ghost use Rattle.sv_ast.specs.Views.{expression_tree, expression_trees, parts_of};
-ghost use Rattle.sv_walk.specs.ExpressionSteps.{asked, asked_parts};
+ghost use Rattle.sv_elab_rules.specs.ExpressionSteps.{asked, asked_parts};
 ghost use Rattle.sv_width.specs.Answers.{IsBreach};
 ghost use Rattle.sv_width.specs.Measured.{measured_of};
 ghost use Rattle.sv_width.specs.Outcomes.{IsMeasure, AreMeasures, IsValue, constant_steps};

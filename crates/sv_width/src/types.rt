@@ -2,8 +2,8 @@
 ghost use Rattle.std.specs.Prelude.{◌≡◌, ◌≤◌, ◌&&◌, false, max};
 ghost use Rattle.sv_num.specs.Vectors.{width_of, is_signed, value_of};
 ghost use Rattle.sv_num.specs.BinaryValues.{class_of};
-ghost use Rattle.sv_walk.specs.TypedExpressions.{left_length, left_signed, right_length};
-ghost use Rattle.sv_walk.specs.TypedExpressions.{right_signed};
+ghost use Rattle.sv_elab_rules.specs.TypedExpressions.{left_length, left_signed, right_length};
+ghost use Rattle.sv_elab_rules.specs.TypedExpressions.{right_signed};
 ghost use Rattle.sv_ast.specs.Values.{binary_length, binary_signed};
 
 use sv_num::{BinOp, Bits, OpClass, class_of};

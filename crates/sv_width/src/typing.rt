@@ -9,7 +9,7 @@ ghost use Rattle.sv_flat.specs.Design.{SignalForm};
 ghost use Rattle.sv_flat.specs.Soundness.{well_formed};
 ghost use Rattle.sv_flat.specs.Values.{value};
 ghost use Rattle.sv_flat.specs.Views.{typed_tree, typed_trees, node_tree, parts_of as typed_parts};
-ghost use Rattle.sv_walk.specs.ExpressionSteps.{expression_walk, constant_walk};
+ghost use Rattle.sv_elab_rules.specs.ExpressionSteps.{expression_walk, constant_walk};
 ghost use Rattle.sv_width.specs.Agreement.{HaveSignals, HaveValues};
 ghost use Rattle.sv_width.specs.Answers.{IsBreach};
 ghost use Rattle.sv_width.specs.Outcomes.{IsPushed, IsNode};

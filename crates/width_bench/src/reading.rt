@@ -7,7 +7,7 @@ use anyhow::{Result, bail, ensure};
 use std::alloc::{AllocError, Global};
 use std::io::{BufRead, BufReader};
 use sv_ast::Expr;
-use sv_read::expressions::read_expression;
+use sv_parse_expr::expressions::read_expression;
 use sv_token::{Token, lex};
 
 /// The lines of the input.

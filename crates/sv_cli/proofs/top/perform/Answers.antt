@@ -6,7 +6,7 @@ use Rattle.sv_io.specs.Source.{WhateverFollows}
 use Rattle.sv_obl.specs.ListLines.{list_text}
 use Rattle.sv_encoding.specs.CnfText.{cnf_text}
 use Rattle.sv_blast.specs.Coded.{encoding_of}
-use Rattle.sv_simulate.specs.Simulated.{level_asked, WritesAllCycles}
+use Rattle.sv_sim_run.specs.Simulated.{level_asked, WritesAllCycles}
 use Rattle.sv_cli.specs.declared.prepared.Prepared.{Prepared}
 use Rattle.sv_cli.specs.Answer.{Answer, answer_of, done}
 use Rattle.sv_cli.specs.Prepared.{IsReady, EndsAs, IsPerformed, Performs, IsSimulationWith}

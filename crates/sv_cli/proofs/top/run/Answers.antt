@@ -1,7 +1,7 @@
 use Rattle.std.proofs.Common.{◌≡◌, ℕ, List, ◌++◌, refl, subst, ap}
 use Rattle.std.specs.Prelude.{IsSome}
 use Rattle.sv_io.specs.Traffic.{files_by, input_by, output_by}
-use Rattle.sv_simulate.specs.Simulated.{level_asked}
+use Rattle.sv_sim_run.specs.Simulated.{level_asked}
 use Rattle.sv_words.specs.Words.{words_of}
 use Rattle.sv_cli.specs.declared.outcome.Outcome.TheVariants as outcome
 use Rattle.sv_cli.specs.Answer.{answer_of, done, views_differ}

@@ -1,4 +1,4 @@
-use Rattle.sv_text_laws.proofs.TextLaws.{read_flattened}
+use Rattle.sv_run_laws.proofs.TextLaws.{read_flattened}
 use Rattle.sv_compare.proofs.TextFindings.{compared_alike, point_sees}
 use Rattle.sv_compare.proofs.laws.designs_are_compared_as_their_texts.Goals as goal
 

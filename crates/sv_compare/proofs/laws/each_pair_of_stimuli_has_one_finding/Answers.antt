@@ -1,4 +1,4 @@
-use Rattle.sv_text_laws.proofs.TextLaws.{read_flattened}
+use Rattle.sv_run_laws.proofs.TextLaws.{read_flattened}
 use Rattle.sv_compare.proofs.TextFindings.{one_text_finding}
 use Rattle.sv_compare.proofs.laws.each_pair_of_stimuli_has_one_finding.Goals as goal
 

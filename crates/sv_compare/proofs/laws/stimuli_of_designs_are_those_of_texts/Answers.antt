@@ -1,4 +1,4 @@
-use Rattle.sv_text_laws.proofs.TextLaws.{read_flattened}
+use Rattle.sv_run_laws.proofs.TextLaws.{read_flattened}
 use Rattle.sv_compare.proofs.TextFindings.{same_form}
 use Rattle.sv_compare.proofs.laws.stimuli_of_designs_are_those_of_texts.Goals as goal
 

@@ -7,9 +7,9 @@ use Rattle.std.proofs.lemmas.List.{append-nil}
 use Rattle.std.proofs.lemmas.Result.{err_from_is_err_and}
 use Rattle.sv_ast.specs.Shape.{is_shaped_item}
 use Rattle.sv_ast.specs.Views.{instance_tree, item_tree, module_tree}
-use Rattle.sv_walk.specs.InstanceSteps.{item_walk, items_from, site_walk}
+use Rattle.sv_elab_rules.specs.InstanceSteps.{item_walk, items_from, site_walk}
 use Rattle.sv_width.specs.Scopes.{Known, names_of}
-use Rattle.sv_declare.specs.Sites.{tables_of}
+use Rattle.sv_elab_decl.specs.Sites.{tables_of}
 use Rattle.sv_elab.specs.Instances.{Opened, built_form, declared_names, taken_in, opened}
 use Rattle.sv_elab.specs.Nests.{Nesting, site_at}
 use Rattle.sv_elab.proofs.DeclaredLattices.{breach_on}

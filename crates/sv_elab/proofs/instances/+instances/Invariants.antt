@@ -2,9 +2,9 @@ use Rattle.std.proofs.Common.{◌≡◌, ◌+◌, ◌*◌, ◌≤◌, true, drop
 use Rattle.std.specs.List.{list_all}
 use Rattle.sv_ast.specs.Shape.{is_shaped_item}
 use Rattle.sv_ast.specs.Views.{item_tree}
-use Rattle.sv_walk.specs.InstanceSteps.{items_from, site_walk}
+use Rattle.sv_elab_rules.specs.InstanceSteps.{items_from, site_walk}
 use Rattle.sv_width.specs.Scopes.{names_of}
-use Rattle.sv_declare.specs.Sites.{tables_of}
+use Rattle.sv_elab_decl.specs.Sites.{tables_of}
 use Rattle.sv_elab.specs.Instances.{built_form, declared_names, taken_in}
 use Rattle.sv_elab.specs.Nests.{site_at}
 use Rattle.sv_elab.proofs.instances.+instances.Given as goal

@@ -3,8 +3,8 @@ use Rattle.std.specs.List.{list_all}
 use Rattle.std.proofs.lemmas.Result.{err_from_is_err_and}
 use Rattle.sv_ast.specs.Shape.{is_shaped_item}
 use Rattle.sv_ast.specs.Views.{item_tree, module_tree}
-use Rattle.sv_walk.specs.InstanceSteps.{items_from, site_walk}
-use Rattle.sv_declare.specs.Sites.{tables_of}
+use Rattle.sv_elab_rules.specs.InstanceSteps.{items_from, site_walk}
+use Rattle.sv_elab_decl.specs.Sites.{tables_of}
 use Rattle.sv_elab.specs.Instances.{Opened, built_form, opened}
 use Rattle.sv_elab.specs.Nests.{Nesting, site_at}
 use Rattle.sv_elab.proofs.DeclaredLattices.{breach_on}

@@ -2,9 +2,9 @@ use Rattle.std.proofs.Common.{map, ap, ◌∙◌}
 use Rattle.std.proofs.lemmas.Result.{err_from_is_err_and}
 use Rattle.sv_ast.specs.Views.{link_trees}
 use Rattle.sv_flat.specs.Views.{process_form}
-use Rattle.sv_walk.specs.Links.{Ports, links_walk}
+use Rattle.sv_elab_rules.specs.Links.{Ports, links_walk}
 use Rattle.sv_width.specs.Scopes.{names_of}
-use Rattle.sv_declare.specs.Sites.{site_of}
+use Rattle.sv_elab_decl.specs.Sites.{site_of}
 use Rattle.sv_elab.specs.Instances.{linked_walk}
 use Rattle.sv_elab.proofs.DeclaredLattices.{breach_on}
 use Rattle.sv_elab.proofs.OpenedEnds.{ports_are, linked_broken, header_broken}

@@ -5,9 +5,9 @@ use Rattle.std.proofs.lemmas.Result.{err_from_is_err_and}
 use Rattle.sv_ast.specs.Parts.{declarations}
 use Rattle.sv_ast.specs.Views.{module_tree}
 use Rattle.sv_flat.specs.Views.{signal_form}
-use Rattle.sv_walk.specs.LabelSteps.{labels_walk}
-use Rattle.sv_walk.specs.Names.{Names}
-use Rattle.sv_declare.specs.Sites.{site_of, tables_of, declared_of}
+use Rattle.sv_elab_rules.specs.LabelSteps.{labels_walk}
+use Rattle.sv_elab_rules.specs.Names.{Names}
+use Rattle.sv_elab_decl.specs.Sites.{site_of, tables_of, declared_of}
 use Rattle.sv_elab.specs.Instances.{built_form, opened_walk}
 use Rattle.sv_elab.proofs.CountLemmas.{all_declared, labels_length, few_either}
 use Rattle.sv_elab.proofs.DeclaredLattices.{breach_on}

@@ -3,10 +3,10 @@ use Rattle.std.proofs.lemmas.List.{length-map}
 use Rattle.std.proofs.lemmas.Result.{err_from_is_err_and}
 use Rattle.sv_ast.specs.Views.{instance_tree, module_tree}
 use Rattle.sv_flat.specs.Views.{signal_form, process_form}
-use Rattle.sv_walk.specs.Declarations.{Site}
+use Rattle.sv_elab_rules.specs.Declarations.{Site}
 use Rattle.sv_width.specs.Scopes.{names_of}
 use Rattle.sv_width.proofs.Breaches.{ok_weaker, err_weaker}
-use Rattle.sv_declare.specs.Sites.{SameSite, tables_of, settings_of}
+use Rattle.sv_elab_decl.specs.Sites.{SameSite, tables_of, settings_of}
 use Rattle.sv_elab.specs.Instances.{built_form}
 use Rattle.sv_elab.proofs.DeclaredLattices.{breach_on}
 use Rattle.sv_elab.proofs.InstanceCode.{unset, unlinked, from_opened}

@@ -4,11 +4,11 @@ use Rattle.std.proofs.lemmas.Result.{err_from_is_err_and}
 use Rattle.sv_ast.specs.Instances.{entry}
 use Rattle.sv_ast.specs.Views.{module_tree}
 use Rattle.sv_flat.specs.Views.{signal_form}
-use Rattle.sv_walk.specs.Declarations.{Site}
-use Rattle.sv_walk.specs.InstanceSteps.{Built}
-use Rattle.sv_walk.specs.Walks.{Walk}
+use Rattle.sv_elab_rules.specs.Declarations.{Site}
+use Rattle.sv_elab_rules.specs.InstanceSteps.{Built}
+use Rattle.sv_elab_rules.specs.Walks.{Walk}
 use Rattle.sv_width.proofs.Breaches.{ok_weaker, err_weaker}
-use Rattle.sv_declare.specs.Sites.{SameSite, tables_of, settings_of}
+use Rattle.sv_elab_decl.specs.Sites.{SameSite, tables_of, settings_of}
 use Rattle.sv_elab.specs.Instances.{Opened, opened_walk, nothing_built, top_site}
 use Rattle.sv_elab.proofs.DeclaredLattices.{breach_on}
 use Rattle.sv_elab.proofs.InstanceEnds.{header_stops, opened_same}

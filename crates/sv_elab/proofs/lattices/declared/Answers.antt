@@ -9,7 +9,7 @@ use Rattle.sv_num.specs.declared.faults.Place.{Place}
 use Rattle.sv_lattice.specs.Flows.{IsKnown}
 use Rattle.sv_ast.specs.declared.modules.LatticeText.{LatticeText}
 use Rattle.sv_ast.specs.Views.{lattice_tree, pair_tree, placed_name}
-use Rattle.sv_walk.specs.Lattices.{lattice_walk, numbered_pair}
+use Rattle.sv_elab_rules.specs.Lattices.{lattice_walk, numbered_pair}
 use Rattle.sv_width.proofs.Breaches.{breach_of, ok_weaker, err_weaker}
 use Rattle.sv_elab.specs.Earliest.{name_steps}
 use Rattle.sv_elab.proofs.DeclaredLattices.{breach_on, count_test, size_end, names_end, order_end}

@@ -1,8 +1,8 @@
 use Rattle.std.proofs.Common.{ℕ, zero, suc, List, [], ◌∷◌, ap, ◌∙◌, arith}
 use Rattle.std.specs.List.{All}
 use Rattle.sv_lattice.specs.Flows.{IsKnown}
-use Rattle.sv_walk.specs.Lattices.{table_of}
-use Rattle.sv_walk.proofs.LatticeLemmas.{table_is_exact}
+use Rattle.sv_elab_rules.specs.Lattices.{table_of}
+use Rattle.sv_elab_rules.proofs.LatticeLemmas.{table_is_exact}
 use Rattle.sv_elab.proofs.LatticeEnds.{one_table}
 use Rattle.sv_elab.proofs.lattices.default.Goals as goal
 

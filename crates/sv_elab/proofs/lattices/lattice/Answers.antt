@@ -1,7 +1,7 @@
 use Rattle.std.proofs.Common.{sym, ap, ◌∙◌}
 use Rattle.std.specs.Prelude.{Ok, option_map}
 use Rattle.sv_ast.specs.Views.{lattice_tree}
-use Rattle.sv_walk.specs.Lattices.{Order, lattice_walk}
+use Rattle.sv_elab_rules.specs.Lattices.{Order, lattice_walk}
 use Rattle.sv_elab.proofs.lattices.lattice.Goals as goal
 
 pub returns-in_ok-default-in-None-clause-found : goal.returns-in_ok-default-in-None-clause-found

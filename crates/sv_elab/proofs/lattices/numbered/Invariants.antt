@@ -1,6 +1,6 @@
 use Rattle.std.proofs.Common.{◌≡◌, ◌++◌, drop, map}
 use Rattle.sv_ast.specs.Views.{pair_tree}
-use Rattle.sv_walk.specs.Lattices.{numbered_pair}
+use Rattle.sv_elab_rules.specs.Lattices.{numbered_pair}
 use Rattle.sv_elab.proofs.lattices.numbered.Given as goal
 
 -- the pairs so far, with those that are left, are all

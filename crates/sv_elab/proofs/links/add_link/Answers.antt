@@ -4,7 +4,7 @@ use Rattle.std.proofs.lemmas.List.{append-nil}
 use Rattle.std.proofs.lemmas.Result.{err_from_is_err_and}
 use Rattle.sv_ast.specs.Views.{declaration_tree, expression_tree}
 use Rattle.sv_flat.specs.Views.{process_form}
-use Rattle.sv_walk.specs.Links.{optional_link}
+use Rattle.sv_elab_rules.specs.Links.{optional_link}
 use Rattle.sv_width.specs.Scopes.{names_of}
 use Rattle.sv_elab.specs.Instances.{ports_form}
 use Rattle.sv_elab.proofs.BuiltLemmas.{pushed}

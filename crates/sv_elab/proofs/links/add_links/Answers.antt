@@ -4,7 +4,7 @@ use Rattle.sv_ast.specs.declared.modules.Links.{Links}
 use Rattle.sv_ast.specs.Views.{expression_tree, module_tree, named_link}
 use Rattle.sv_ast.specs.Views.{link_trees}
 use Rattle.sv_flat.specs.Views.{process_form}
-use Rattle.sv_walk.specs.Links.{links_walk, named_links_walk, ordered_links_walk}
+use Rattle.sv_elab_rules.specs.Links.{links_walk, named_links_walk, ordered_links_walk}
 use Rattle.sv_width.specs.Scopes.{names_of}
 use Rattle.sv_width.proofs.Breaches.{err_weaker}
 use Rattle.sv_elab.specs.Instances.{ports_with}

@@ -10,9 +10,9 @@ use Rattle.sv_ast.specs.Shape.{is_shaped_expression}
 use Rattle.sv_ast.specs.Views.{declaration_tree, expression_tree}
 use Rattle.sv_flat.specs.Design.{ProcessForm}
 use Rattle.sv_flat.specs.Views.{process_form}
-use Rattle.sv_walk.specs.Walks.{Step}
-use Rattle.sv_walk.specs.Rules.{links_over}
-use Rattle.sv_walk.specs.Links.{ordered_links_walk}
+use Rattle.sv_elab_rules.specs.Walks.{Step}
+use Rattle.sv_elab_rules.specs.Rules.{links_over}
+use Rattle.sv_elab_rules.specs.Links.{ordered_links_walk}
 use Rattle.sv_width.specs.Scopes.{names_of}
 use Rattle.sv_width.proofs.Breaches.{breach_of}
 use Rattle.sv_elab.specs.Instances.{ports_form}

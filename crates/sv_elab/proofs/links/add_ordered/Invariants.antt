@@ -3,7 +3,7 @@ use Rattle.std.specs.List.{list_all}
 use Rattle.sv_ast.specs.Shape.{is_shaped_expression}
 use Rattle.sv_ast.specs.Views.{declaration_tree, expression_tree}
 use Rattle.sv_flat.specs.Views.{process_form}
-use Rattle.sv_walk.specs.Links.{ordered_links_walk}
+use Rattle.sv_elab_rules.specs.Links.{ordered_links_walk}
 use Rattle.sv_width.specs.Scopes.{names_of}
 use Rattle.sv_elab.specs.Instances.{ports_form}
 use Rattle.sv_elab.proofs.links.add_ordered.Given as goal

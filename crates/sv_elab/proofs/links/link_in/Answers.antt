@@ -5,10 +5,10 @@ use Rattle.sv_num.specs.declared.faults.Place.{Place}
 use Rattle.sv_ast.specs.Views.{declaration_tree, expression_tree}
 use Rattle.sv_flat.specs.Design.{ProcessForm, port_in}
 use Rattle.sv_flat.specs.Views.{typed_tree}
-use Rattle.sv_walk.specs.Walks.{Step}
-use Rattle.sv_walk.specs.ExpressionSteps.{expression_walk}
-use Rattle.sv_walk.specs.Names.{place_of}
-use Rattle.sv_walk.specs.Links.{whole_assignment, port_number, input_link}
+use Rattle.sv_elab_rules.specs.Walks.{Step}
+use Rattle.sv_elab_rules.specs.ExpressionSteps.{expression_walk}
+use Rattle.sv_elab_rules.specs.Names.{place_of}
+use Rattle.sv_elab_rules.specs.Links.{whole_assignment, port_number, input_link}
 use Rattle.sv_width.specs.Scopes.{names_of}
 use Rattle.sv_elab.specs.Instances.{ports_form}
 use Rattle.sv_elab.proofs.DeclaredLattices.{breach_on}

@@ -4,10 +4,10 @@ use Rattle.sv_num.specs.declared.faults.Place.{Place}
 use Rattle.sv_ast.specs.Scopes.{width_of}
 use Rattle.sv_ast.specs.Views.{declaration_tree, expression_tree}
 use Rattle.sv_flat.specs.Design.{TypedTree, ProcessForm, port_out}
-use Rattle.sv_walk.specs.Walks.{Step}
-use Rattle.sv_walk.specs.Rules.{wrong_link}
-use Rattle.sv_walk.specs.Names.{place_of}
-use Rattle.sv_walk.specs.Links.{whole_assignment, port_value, output_link}
+use Rattle.sv_elab_rules.specs.Walks.{Step}
+use Rattle.sv_elab_rules.specs.Rules.{wrong_link}
+use Rattle.sv_elab_rules.specs.Names.{place_of}
+use Rattle.sv_elab_rules.specs.Links.{whole_assignment, port_value, output_link}
 use Rattle.sv_width.specs.declared.meanings.Meaning.{Meaning}
 use Rattle.sv_width.specs.Scopes.{names_of, binding_of, signal_number}
 use Rattle.sv_width.proofs.Breaches.{breach_by}

@@ -4,7 +4,7 @@ use Rattle.std.specs.Str.{bytes_eq}
 use Rattle.sv_ast.specs.declared.declarations.Decl.{Decl}
 use Rattle.sv_ast.specs.Tree.{DeclarationTree}
 use Rattle.sv_ast.specs.Views.{declaration_tree}
-use Rattle.sv_walk.specs.Rules.{wrong_link}
+use Rattle.sv_elab_rules.specs.Rules.{wrong_link}
 use Rattle.sv_width.proofs.EntryLemmas.{lookup_is_entry}
 use Rattle.sv_width.proofs.Breaches.{breach_by}
 use Rattle.sv_elab.specs.Instances.{ports_form, port_walk, place_from}

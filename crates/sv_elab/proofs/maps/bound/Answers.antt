@@ -1,7 +1,7 @@
 use Rattle.std.proofs.Common.{sym, ap, ◌∙◌}
 use Rattle.sv_ast.specs.Values.{whole_number}
 use Rattle.sv_ast.specs.Views.{expression_tree}
-use Rattle.sv_walk.specs.LabelMaps.{no_names}
+use Rattle.sv_elab_rules.specs.LabelMaps.{no_names}
 use Rattle.sv_width.specs.Answers.{whole_part}
 use Rattle.sv_elab.proofs.MapLemmas.{plain_number}
 use Rattle.sv_elab.proofs.maps.bound.Goals as goal

@@ -3,8 +3,8 @@ use Rattle.std.proofs.Common.{refl, sym, ap, ◌∙◌, subst}
 use Rattle.std.specs.Prelude.{Option}
 use Rattle.sv_lattice.specs.declared.points.Point.{Point}
 use Rattle.sv_ast.specs.Views.{map_tree, row_tree}
-use Rattle.sv_walk.specs.Rules.{map_row}
-use Rattle.sv_walk.specs.LabelMaps.{rows_walk}
+use Rattle.sv_elab_rules.specs.Rules.{map_row}
+use Rattle.sv_elab_rules.specs.LabelMaps.{rows_walk}
 use Rattle.sv_width.proofs.Breaches.{breach_by}
 use Rattle.sv_elab.specs.MapParts.{bits_in, IsRow, IsWrongRow}
 use Rattle.sv_elab.proofs.NameLemmas.{left_more, left_none}

@@ -1,6 +1,6 @@
 use Rattle.std.proofs.Common.{◌≡◌, ℕ, List, [], drop, map}
 use Rattle.sv_ast.specs.Views.{map_tree, row_tree}
-use Rattle.sv_walk.specs.LabelMaps.{rows_walk}
+use Rattle.sv_elab_rules.specs.LabelMaps.{rows_walk}
 use Rattle.sv_elab.specs.MapParts.{bits_in, IsTable}
 use Rattle.sv_elab.proofs.maps.filled.Given as goal
 

@@ -1,5 +1,5 @@
 use Rattle.sv_ast.specs.Views.{map_tree}
-use Rattle.sv_walk.specs.Rules.{map_row}
+use Rattle.sv_elab_rules.specs.Rules.{map_row}
 use Rattle.sv_width.proofs.Breaches.{breach_by}
 use Rattle.sv_elab.specs.MapParts.{own_walk}
 use Rattle.sv_elab.proofs.MapEnds.{ranges_broken}

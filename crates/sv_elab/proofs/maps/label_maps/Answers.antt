@@ -7,8 +7,8 @@ use Rattle.indexmap.specs.IndexMap.{insert_entry}
 use Rattle.indexmap.proofs.CallerLemmas.{insert_entry-new}
 use Rattle.sv_ast.specs.Shape.{is_shaped_map}
 use Rattle.sv_ast.specs.Views.{map_tree}
-use Rattle.sv_walk.specs.Rules.{map_name}
-use Rattle.sv_walk.specs.LabelMaps.{maps_walk}
+use Rattle.sv_elab_rules.specs.Rules.{map_name}
+use Rattle.sv_elab_rules.specs.LabelMaps.{maps_walk}
 use Rattle.sv_width.proofs.EntryLemmas.{none_there}
 use Rattle.sv_width.proofs.Breaches.{breach_by}
 use Rattle.sv_elab.specs.MapParts.{own_walk}

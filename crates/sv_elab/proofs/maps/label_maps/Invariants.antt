@@ -2,7 +2,7 @@ use Rattle.std.proofs.Common.{◌≡◌, true, [], drop, map}
 use Rattle.std.specs.List.{list_all}
 use Rattle.sv_ast.specs.Shape.{is_shaped_map}
 use Rattle.sv_ast.specs.Views.{map_tree}
-use Rattle.sv_walk.specs.LabelMaps.{maps_walk}
+use Rattle.sv_elab_rules.specs.LabelMaps.{maps_walk}
 use Rattle.sv_elab.proofs.maps.label_maps.Given as goal
 
 -- the walk over what is left ends as that over all

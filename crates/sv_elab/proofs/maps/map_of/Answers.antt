@@ -3,7 +3,7 @@ use Rattle.sv_lattice.specs.declared.points.Point.{Point}
 use Rattle.sv_lattice.specs.Maps.{MapRows}
 use Rattle.std.specs.Prelude.{Ok}
 use Rattle.sv_ast.specs.Views.{map_tree}
-use Rattle.sv_walk.specs.Rules.{map_hole}
+use Rattle.sv_elab_rules.specs.Rules.{map_hole}
 use Rattle.sv_width.proofs.Breaches.{breach_by}
 use Rattle.sv_elab.specs.MapParts.{own_walk, points_in, is_whole}
 use Rattle.sv_elab.proofs.MapEnds.{few_bits, new_is_map, map_stop, map_length, map_made}

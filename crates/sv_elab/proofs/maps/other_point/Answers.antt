@@ -1,7 +1,7 @@
 use Rattle.std.proofs.Common.{ap, sym, ◌∙◌}
 use Rattle.sv_ast.specs.Views.{map_tree}
-use Rattle.sv_walk.specs.Rules.{map_row}
-use Rattle.sv_walk.specs.LabelMaps.{default_walk}
+use Rattle.sv_elab_rules.specs.Rules.{map_row}
+use Rattle.sv_elab_rules.specs.LabelMaps.{default_walk}
 use Rattle.sv_width.proofs.Breaches.{breach_by}
 use Rattle.sv_elab.proofs.MapLemmas.{other_none, other_found, other_broken}
 use Rattle.sv_elab.proofs.maps.other_point.Goals as goal

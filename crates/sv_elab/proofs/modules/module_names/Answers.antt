@@ -1,6 +1,6 @@
 use Rattle.std.proofs.Common.{◌+◌, [], ◌++◌, drop, map, sym, ap, ◌∙◌}
 use Rattle.sv_ast.specs.Views.{module_tree}
-use Rattle.sv_walk.specs.Texts.{module_names}
+use Rattle.sv_elab_rules.specs.Texts.{module_names}
 use Rattle.sv_elab.specs.Modules.{names_of}
 use Rattle.sv_elab.proofs.NameLemmas.{left_more, left_none}
 use Rattle.sv_elab.proofs.ModuleLemmas.{twice_end, fresh_end, none_end, fresh_key}

@@ -3,7 +3,7 @@ use Rattle.std.specs.Prelude.{Ok}
 use Rattle.std.proofs.lemmas.Result.{err_from_is_err_and}
 use Rattle.sv_ast.specs.Views.{statement_tree}
 use Rattle.sv_flat.specs.Views.{signal_form, process_kind, flat_statement}
-use Rattle.sv_walk.specs.InstanceSteps.{Built, always_walk}
+use Rattle.sv_elab_rules.specs.InstanceSteps.{Built, always_walk}
 use Rattle.sv_width.specs.Scopes.{names_of}
 use Rattle.sv_elab.specs.Instances.{built_form}
 use Rattle.sv_elab.proofs.DeclaredLattices.{breach_on}

@@ -6,7 +6,7 @@ use Rattle.std.proofs.lemmas.Result.{err_from_is_err_and}
 use Rattle.sv_ast.specs.Shape.{has_target, is_shaped_target}
 use Rattle.sv_ast.specs.Views.{expression_tree, target_tree}
 use Rattle.sv_flat.specs.Views.{signal_form, flat_statement}
-use Rattle.sv_walk.specs.InstanceSteps.{Built, assign_walk}
+use Rattle.sv_elab_rules.specs.InstanceSteps.{Built, assign_walk}
 use Rattle.sv_width.specs.Scopes.{names_of}
 use Rattle.sv_elab.specs.Instances.{built_form}
 use Rattle.sv_elab.proofs.DeclaredLattices.{breach_on}

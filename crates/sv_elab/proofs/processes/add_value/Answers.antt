@@ -5,9 +5,9 @@ use Rattle.sv_ast.specs.Scopes.{width_of}
 use Rattle.sv_ast.specs.Views.{declaration_tree, expression_tree}
 use Rattle.sv_flat.specs.Design.{continuous}
 use Rattle.sv_flat.specs.Views.{signal_form, typed_tree}
-use Rattle.sv_walk.specs.ExpressionSteps.{expression_walk}
-use Rattle.sv_walk.specs.InstanceSteps.{Built, with_process, value_walk}
-use Rattle.sv_walk.specs.Links.{whole_assignment}
+use Rattle.sv_elab_rules.specs.ExpressionSteps.{expression_walk}
+use Rattle.sv_elab_rules.specs.InstanceSteps.{Built, with_process, value_walk}
+use Rattle.sv_elab_rules.specs.Links.{whole_assignment}
 use Rattle.sv_width.specs.Scopes.{names_of}
 use Rattle.sv_elab.specs.Instances.{built_form}
 use Rattle.sv_elab.proofs.DeclaredLattices.{breach_on}

@@ -2,7 +2,7 @@ use Rattle.std.proofs.Common.{◌≡◌, ◌∙◌, subst}
 use Rattle.std.specs.Prelude.{IfOk, IfErr, Ok}
 use Rattle.sv_ast.specs.Views.{text_tree}
 use Rattle.sv_flat.specs.Views.{design_of}
-use Rattle.sv_walk.specs.Texts.{walk_of}
+use Rattle.sv_elab_rules.specs.Texts.{walk_of}
 use Rattle.sv_width.specs.Answers.{IsBreach}
 use Rattle.sv_elab.specs.Modules.{asked_name}
 use Rattle.sv_elab.proofs.TextSound.{found_sound}

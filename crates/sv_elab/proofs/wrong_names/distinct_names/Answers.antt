@@ -1,8 +1,8 @@
 use Rattle.std.proofs.Common.{◌≡◌, [], Option, Some, None, refl, sym, ap, ◌∙◌, subst}
 use Rattle.std.specs.Prelude.{map}
 use Rattle.sv_ast.specs.Views.{placed_name, pair_tree, lattice_tree}
-use Rattle.sv_walk.specs.Walks.{Step}
-use Rattle.sv_walk.specs.Lattices.{point_questions, pair_questions}
+use Rattle.sv_elab_rules.specs.Walks.{Step}
+use Rattle.sv_elab_rules.specs.Lattices.{point_questions, pair_questions}
 use Rattle.sv_elab.specs.Earliest.{earlier, earliest, name_step, names_of, name_steps}
 use Rattle.sv_elab.proofs.NameLemmas.{KnowSame}
 use Rattle.sv_elab.proofs.DeclaredLattices.{asked_names, point_names_are}

@@ -1,6 +1,6 @@
 use Rattle.std.proofs.Common.{◌+◌, drop, map, ap, sym, ◌∙◌}
 use Rattle.sv_ast.specs.Views.{pair_tree}
-use Rattle.sv_walk.specs.Lattices.{pair_questions}
+use Rattle.sv_elab_rules.specs.Lattices.{pair_questions}
 use Rattle.sv_elab.specs.Earliest.{earlier, earliest, name_step}
 use Rattle.sv_elab.proofs.NameLemmas.{pair_more, left_more}
 use Rattle.sv_elab.proofs.wrong_names.with_pairs.Goals as goal

@@ -1,7 +1,7 @@
 use Rattle.std.proofs.Common.{refl, []}
 use Rattle.sv_token.specs.declared.keywords.WordKind.TheVariants as words
-use Rattle.sv_grammar.proofs.ReadRows.{word_taken}
-use Rattle.sv_grammar.specs.Symbols.{perhaps_wire_or_reg}
+use Rattle.sv_parse_machine.proofs.ReadRows.{word_taken}
+use Rattle.sv_parse_machine.specs.Symbols.{perhaps_wire_or_reg}
 use Rattle.sv_parse.proofs.declarations.output_kind.Goals as goal
 
 pub returns-in-Some-clause-reads : goal.returns-in-Some-clause-reads

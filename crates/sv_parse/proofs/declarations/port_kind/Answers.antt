@@ -1,11 +1,11 @@
 use Rattle.std.proofs.Common.{refl, [], ◌∷◌}
 use Rattle.sv_token.specs.declared.keywords.WordKind.TheVariants as words
 use Rattle.sv_token.specs.Lexemes.{placed_tokens}
-use Rattle.sv_grammar.proofs.ReadSteps.{reads_then}
-use Rattle.sv_grammar.proofs.ReadRows.{word_taken}
-use Rattle.sv_grammar.specs.Symbols.{ports, perhaps_wire, more_ports, later_port}
-use Rattle.sv_grammar.specs.Symbols.{perhaps_wire_or_reg}
-use Rattle.sv_grammar.specs.ModuleTable.{typed_name}
+use Rattle.sv_parse_machine.proofs.ReadSteps.{reads_then}
+use Rattle.sv_parse_machine.proofs.ReadRows.{word_taken}
+use Rattle.sv_parse_machine.specs.Symbols.{ports, perhaps_wire, more_ports, later_port}
+use Rattle.sv_parse_machine.specs.Symbols.{perhaps_wire_or_reg}
+use Rattle.sv_parse_machine.specs.ModuleTable.{typed_name}
 use Rattle.sv_parse.proofs.DeclarationRuns.{front_read}
 use Rattle.sv_parse.proofs.ReadingDeclarations.{output_is}
 use Rattle.sv_parse.proofs.declarations.port_kind.Goals as goal

@@ -1,4 +1,4 @@
-use Rattle.sv_read.proofs.Halting.{passed}
+use Rattle.sv_parse_expr.proofs.Halting.{passed}
 use Rattle.sv_parse.proofs.ReadingDeclarations.{wire_as}
 use Rattle.sv_parse.proofs.declarations.read_named_wire.Goals as goal
 

@@ -1,9 +1,9 @@
 use Rattle.std.proofs.Common.{refl, [], ◌∷◌}
-use Rattle.sv_read.proofs.Halting.{passed}
-use Rattle.sv_grammar.specs.Symbols.{outer, more_ports}
+use Rattle.sv_parse_expr.proofs.Halting.{passed}
+use Rattle.sv_parse_machine.specs.Symbols.{outer, more_ports}
 use Rattle.sv_parse.proofs.DeclarationRuns.{ports_go_on}
-use Rattle.sv_grammar.proofs.ReadSteps.{reads_then}
-use Rattle.sv_grammar.proofs.ReadLists.{ends_more_ports}
+use Rattle.sv_parse_machine.proofs.ReadSteps.{reads_then}
+use Rattle.sv_parse_machine.proofs.ReadLists.{ends_more_ports}
 use Rattle.sv_parse.proofs.declarations.read_ports.Goals as goal
 
 pub returns-in_err-ports-clause-halts : goal.returns-in_err-ports-clause-halts

@@ -1,5 +1,5 @@
 use Rattle.sv_token.specs.Lexemes.{placed_tokens}
-use Rattle.sv_read.proofs.Halting.{passed}
+use Rattle.sv_parse_expr.proofs.Halting.{passed}
 use Rattle.sv_parse.proofs.DeclarationRuns.{and_read, and_stop, front_stop}
 use Rattle.sv_parse.proofs.declarations.read_wire_name.Goals as goal
 

@@ -2,11 +2,11 @@ use Rattle.std.proofs.Common.{map, refl, [], ◌∷◌}
 use Rattle.sv_ast.specs.Views.{declaration_tree}
 use Rattle.sv_token.specs.declared.signs.SignKind.TheVariants as signs
 use Rattle.sv_parse.proofs.ReadingDeclarations.{wires_are}
-use Rattle.sv_read.proofs.Halting.{passed}
-use Rattle.sv_grammar.specs.Symbols.{outer, more_wires, items, punctuation}
+use Rattle.sv_parse_expr.proofs.Halting.{passed}
+use Rattle.sv_parse_machine.specs.Symbols.{outer, more_wires, items, punctuation}
 use Rattle.sv_parse.proofs.DeclarationRuns.{wires_go_on}
-use Rattle.sv_grammar.proofs.ReadSteps.{reads_then, reads_before}
-use Rattle.sv_grammar.proofs.ReadLists.{ends_more_wires}
+use Rattle.sv_parse_machine.proofs.ReadSteps.{reads_then, reads_before}
+use Rattle.sv_parse_machine.proofs.ReadLists.{ends_more_wires}
 use Rattle.sv_parse.proofs.declarations.read_wires.Goals as goal
 
 pub returns-clause-is : goal.returns-clause-is

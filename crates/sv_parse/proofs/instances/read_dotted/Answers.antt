@@ -1,8 +1,8 @@
 use Rattle.sv_token.specs.Lexemes.{placed_tokens}
 use Rattle.std.proofs.Common.{[], ◌∷◌, refl}
-use Rattle.sv_grammar.specs.Symbols.{outer, punctuation, plain_name}
-use Rattle.sv_grammar.proofs.ReadSteps.{reads_then, reads_before}
-use Rattle.sv_read.proofs.Halting.{passed, stops_then, stops_before}
+use Rattle.sv_parse_machine.specs.Symbols.{outer, punctuation, plain_name}
+use Rattle.sv_parse_machine.proofs.ReadSteps.{reads_then, reads_before}
+use Rattle.sv_parse_expr.proofs.Halting.{passed, stops_then, stops_before}
 use Rattle.sv_token.specs.declared.signs.SignKind.TheVariants as signs
 use Rattle.sv_parse.proofs.instances.read_dotted.Goals as goal
 

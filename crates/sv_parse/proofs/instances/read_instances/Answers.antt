@@ -1,10 +1,10 @@
 use Rattle.sv_ast.specs.Views.{instance_tree}
 use Rattle.std.proofs.Common.{map, [], ◌∷◌, refl}
-use Rattle.sv_grammar.specs.Symbols.{outer, punctuation, plain_name, items, links, more_instances}
-use Rattle.sv_grammar.specs.Symbols.{perhaps_overrides}
-use Rattle.sv_grammar.proofs.ReadSteps.{reads_then, reads_before}
-use Rattle.sv_grammar.proofs.ReadLists.{ends_more_instances, name_first}
-use Rattle.sv_read.proofs.Halting.{passed, stops_then, stops_before}
+use Rattle.sv_parse_machine.specs.Symbols.{outer, punctuation, plain_name, items, links, more_instances}
+use Rattle.sv_parse_machine.specs.Symbols.{perhaps_overrides}
+use Rattle.sv_parse_machine.proofs.ReadSteps.{reads_then, reads_before}
+use Rattle.sv_parse_machine.proofs.ReadLists.{ends_more_instances, name_first}
+use Rattle.sv_parse_expr.proofs.Halting.{passed, stops_then, stops_before}
 use Rattle.sv_parse.proofs.ReadingSymbols.{goes_on_instances, any_name}
 use Rattle.sv_token.specs.declared.signs.SignKind.TheVariants as signs
 use Rattle.sv_parse.proofs.instances.read_instances.Goals as goal

@@ -1,10 +1,10 @@
 use Rattle.std.proofs.Common.{refl, [], ◌∷◌}
 use Rattle.sv_token.specs.Lexemes.{placed_tokens}
-use Rattle.sv_grammar.specs.Symbols.{outer, punctuation, expression, link}
-use Rattle.sv_grammar.proofs.ReadSteps.{reads_then}
-use Rattle.sv_grammar.proofs.ReadRows.{sign_taken}
-use Rattle.sv_grammar.proofs.SkippedRows.{begins_link}
-use Rattle.sv_read.proofs.Halting.{passed, stops_then}
+use Rattle.sv_parse_machine.specs.Symbols.{outer, punctuation, expression, link}
+use Rattle.sv_parse_machine.proofs.ReadSteps.{reads_then}
+use Rattle.sv_parse_machine.proofs.ReadRows.{sign_taken}
+use Rattle.sv_parse_machine.proofs.SkippedRows.{begins_link}
+use Rattle.sv_parse_expr.proofs.Halting.{passed, stops_then}
 use Rattle.sv_parse.proofs.ReadingSymbols.{as_expression}
 use Rattle.sv_token.specs.declared.signs.SignKind.TheVariants as signs
 use Rattle.sv_parse.proofs.instances.read_link_value.Goals as goal

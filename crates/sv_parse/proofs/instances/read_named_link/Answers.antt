@@ -6,9 +6,9 @@ use Rattle.std.proofs.Common.{[], ◌∷◌}
 use Rattle.std.specs.Option.{option_map}
 use Rattle.sv_token.specs.Lexemes.{placed_tokens}
 use Rattle.sv_ast.specs.Views.{expression_tree}
-use Rattle.sv_grammar.specs.Symbols.{outer, punctuation, plain_name, link}
-use Rattle.sv_grammar.proofs.ReadSteps.{reads_then, reads_before}
-use Rattle.sv_read.proofs.Halting.{passed, stops_then, stops_before}
+use Rattle.sv_parse_machine.specs.Symbols.{outer, punctuation, plain_name, link}
+use Rattle.sv_parse_machine.proofs.ReadSteps.{reads_then, reads_before}
+use Rattle.sv_parse_expr.proofs.Halting.{passed, stops_then, stops_before}
 use Rattle.sv_token.specs.declared.signs.SignKind.TheVariants as signs
 use Rattle.sv_parse.proofs.instances.read_named_link.Goals as goal
 

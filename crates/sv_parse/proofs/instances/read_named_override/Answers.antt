@@ -4,8 +4,8 @@ use Rattle.sv_parse.proofs.ReadingInstances.{dotted_is}
 use Rattle.sv_token.specs.Lexemes.{placed_tokens}
 use Rattle.sv_ast.specs.Views.{expression_tree}
 use Rattle.std.proofs.Common.{[], ◌∷◌, refl}
-use Rattle.sv_grammar.specs.Symbols.{outer, punctuation, plain_name, expression}
-use Rattle.sv_read.proofs.Halting.{passed, stops_before}
+use Rattle.sv_parse_machine.specs.Symbols.{outer, punctuation, plain_name, expression}
+use Rattle.sv_parse_expr.proofs.Halting.{passed, stops_before}
 use Rattle.sv_parse.proofs.ReadingSymbols.{group_read, group_stop}
 use Rattle.sv_token.specs.declared.signs.SignKind.TheVariants as signs
 use Rattle.sv_parse.proofs.instances.read_named_override.Goals as goal

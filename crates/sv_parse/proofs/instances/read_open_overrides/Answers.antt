@@ -1,10 +1,10 @@
 use Rattle.std.proofs.Common.{[], ◌∷◌, refl}
-use Rattle.sv_grammar.specs.Symbols.{outer, punctuation, plain_name, expression, more_values}
-use Rattle.sv_grammar.specs.Symbols.{overrides, more_named_overrides}
-use Rattle.sv_grammar.proofs.ReadSteps.{reads_then}
-use Rattle.sv_grammar.proofs.ReadLists.{ends_more_named_overrides, ends_more_values}
-use Rattle.sv_grammar.proofs.SkippedRows.{begins_overrides}
-use Rattle.sv_read.proofs.Halting.{passed, stops_then}
+use Rattle.sv_parse_machine.specs.Symbols.{outer, punctuation, plain_name, expression, more_values}
+use Rattle.sv_parse_machine.specs.Symbols.{overrides, more_named_overrides}
+use Rattle.sv_parse_machine.proofs.ReadSteps.{reads_then}
+use Rattle.sv_parse_machine.proofs.ReadLists.{ends_more_named_overrides, ends_more_values}
+use Rattle.sv_parse_machine.proofs.SkippedRows.{begins_overrides}
+use Rattle.sv_parse_expr.proofs.Halting.{passed, stops_then}
 use Rattle.sv_parse.proofs.ReadingSymbols.{as_expression, begins_with_sign, goes_on_overrides}
 use Rattle.sv_parse.proofs.ReadingSymbols.{goes_on_values}
 use Rattle.sv_token.specs.declared.signs.SignKind.TheVariants as signs

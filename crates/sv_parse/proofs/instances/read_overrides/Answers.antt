@@ -2,11 +2,11 @@ use Rattle.sv_ast.specs.Views.{override_trees}
 use Rattle.sv_parse.proofs.ReadingInstances.{overrides_are}
 use Rattle.sv_token.specs.Lexemes.{placed_tokens}
 use Rattle.std.proofs.Common.{[], ◌∷◌, refl}
-use Rattle.sv_grammar.specs.Symbols.{outer, punctuation, overrides, perhaps_overrides}
-use Rattle.sv_grammar.proofs.ReadSteps.{reads_then, reads_before}
-use Rattle.sv_grammar.proofs.ReadRows.{sign_taken}
-use Rattle.sv_grammar.proofs.SkippedRows.{skips_perhaps_overrides}
-use Rattle.sv_read.proofs.Halting.{passed, stops_then, stops_before}
+use Rattle.sv_parse_machine.specs.Symbols.{outer, punctuation, overrides, perhaps_overrides}
+use Rattle.sv_parse_machine.proofs.ReadSteps.{reads_then, reads_before}
+use Rattle.sv_parse_machine.proofs.ReadRows.{sign_taken}
+use Rattle.sv_parse_machine.proofs.SkippedRows.{skips_perhaps_overrides}
+use Rattle.sv_parse_expr.proofs.Halting.{passed, stops_then, stops_before}
 use Rattle.sv_token.specs.declared.signs.SignKind.TheVariants as signs
 use Rattle.sv_parse.proofs.instances.read_overrides.Goals as goal
 

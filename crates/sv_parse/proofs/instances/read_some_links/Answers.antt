@@ -2,12 +2,12 @@ use Rattle.sv_ast.specs.Views.{expression_trees}
 use Rattle.sv_parse.proofs.ReadingInstances.{ordered_links_are}
 use Rattle.sv_token.specs.Lexemes.{placed_tokens}
 use Rattle.std.proofs.Common.{[], ◌∷◌, refl}
-use Rattle.sv_grammar.specs.Symbols.{outer, punctuation, plain_name, expression, more_values, links}
-use Rattle.sv_grammar.specs.Symbols.{link, more_named_links}
-use Rattle.sv_grammar.proofs.ReadSteps.{reads_then}
-use Rattle.sv_grammar.proofs.ReadLists.{ends_more_values, ends_more_named_links}
-use Rattle.sv_grammar.proofs.SkippedRows.{begins_links}
-use Rattle.sv_read.proofs.Halting.{passed, stops_then}
+use Rattle.sv_parse_machine.specs.Symbols.{outer, punctuation, plain_name, expression, more_values, links}
+use Rattle.sv_parse_machine.specs.Symbols.{link, more_named_links}
+use Rattle.sv_parse_machine.proofs.ReadSteps.{reads_then}
+use Rattle.sv_parse_machine.proofs.ReadLists.{ends_more_values, ends_more_named_links}
+use Rattle.sv_parse_machine.proofs.SkippedRows.{begins_links}
+use Rattle.sv_parse_expr.proofs.Halting.{passed, stops_then}
 use Rattle.sv_parse.proofs.ReadingSymbols.{as_expression, begins_with_sign, goes_on_values}
 use Rattle.sv_parse.proofs.ReadingSymbols.{goes_on_links}
 use Rattle.sv_token.specs.declared.signs.SignKind.TheVariants as signs

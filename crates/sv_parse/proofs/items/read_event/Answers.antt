@@ -3,14 +3,14 @@ use Rattle.sv_parse.proofs.ReadingInstances.{event_is}
 use Rattle.std.proofs.Common.{[], ◌∷◌, refl}
 use Rattle.std.specs.Option.{option_map}
 use Rattle.sv_token.specs.Lexemes.{placed_tokens}
-use Rattle.sv_grammar.specs.Symbols.{outer, event, event_inside}
-use Rattle.sv_grammar.proofs.ReadSteps.{reads_then}
-use Rattle.sv_grammar.proofs.ReadRows.{sign_taken, halts_event}
-use Rattle.sv_read.proofs.Halting.{passed, stops_then, stops_here}
+use Rattle.sv_parse_machine.specs.Symbols.{outer, event, event_inside}
+use Rattle.sv_parse_machine.proofs.ReadSteps.{reads_then}
+use Rattle.sv_parse_machine.proofs.ReadRows.{sign_taken, halts_event}
+use Rattle.sv_parse_expr.proofs.Halting.{passed, stops_then, stops_here}
 use Rattle.sv_parse.proofs.ReadingSymbols.{star_read}
-use Rattle.sv_read.specs.declared.stop.Breach.TheVariants.{Stuck}
+use Rattle.sv_parse_expr.specs.declared.stop.Breach.TheVariants.{Stuck}
 use Rattle.sv_token.specs.declared.signs.SignKind.TheVariants as signs
-use Rattle.sv_read.specs.declared.stop.Expected.TheVariants as expected
+use Rattle.sv_parse_expr.specs.declared.stop.Expected.TheVariants as expected
 use Rattle.sv_parse.proofs.items.read_event.Goals as goal
 
 pub returns-in-Some-clause-is : goal.returns-in-Some-clause-is

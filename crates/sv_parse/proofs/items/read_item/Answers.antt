@@ -1,7 +1,7 @@
 use Rattle.std.proofs.Common.{[], ◌∷◌, refl}
-use Rattle.sv_grammar.specs.Symbols.{outer, punctuation, items}
-use Rattle.sv_grammar.proofs.ReadSteps.{reads_then, reads_before}
-use Rattle.sv_read.proofs.Halting.{passed, stops_then, stops_before}
+use Rattle.sv_parse_machine.specs.Symbols.{outer, punctuation, items}
+use Rattle.sv_parse_machine.proofs.ReadSteps.{reads_then, reads_before}
+use Rattle.sv_parse_expr.proofs.Halting.{passed, stops_then, stops_before}
 use Rattle.sv_parse.proofs.ReadingSymbols.{word_is_next}
 use Rattle.sv_parse.proofs.ReadingItems.{always_item_is, listed_item_is}
 use Rattle.sv_token.specs.declared.signs.SignKind.TheVariants as signs
@@ -9,7 +9,7 @@ use Rattle.sv_token.specs.declared.keywords.WordKind.TheVariants as words
 use Rattle.sv_ast.specs.Views.{item_tree}
 use Rattle.sv_ast.specs.GrammarModules.{IsAlways}
 use Rattle.sv_ast.specs.GrammarRules.{all_limits}
-use Rattle.sv_read.proofs.ReadingLists.{one_is}
+use Rattle.sv_parse_expr.proofs.ReadingLists.{one_is}
 use Rattle.sv_parse.proofs.items.read_item.Goals as goal
 
 pub returns-in_err-item-in-Some-clause-halts : goal.returns-in_err-item-in-Some-clause-halts

@@ -1,14 +1,14 @@
 use Rattle.sv_token.specs.Lexemes.{placed_tokens}
 use Rattle.std.proofs.Common.{[], ◌∷◌, refl}
-use Rattle.sv_grammar.specs.Symbols.{outer, punctuation, plain_name, event_inside}
-use Rattle.sv_grammar.proofs.ReadSteps.{reads_then}
-use Rattle.sv_grammar.proofs.ReadRows.{word_taken, halts_event_inside}
-use Rattle.sv_read.proofs.Halting.{passed, stops_then, stops_here}
+use Rattle.sv_parse_machine.specs.Symbols.{outer, punctuation, plain_name, event_inside}
+use Rattle.sv_parse_machine.proofs.ReadSteps.{reads_then}
+use Rattle.sv_parse_machine.proofs.ReadRows.{word_taken, halts_event_inside}
+use Rattle.sv_parse_expr.proofs.Halting.{passed, stops_then, stops_here}
 use Rattle.sv_parse.proofs.ReadingSymbols.{star_inside_read}
-use Rattle.sv_read.specs.declared.stop.Breach.TheVariants.{Stuck}
+use Rattle.sv_parse_expr.specs.declared.stop.Breach.TheVariants.{Stuck}
 use Rattle.sv_token.specs.declared.signs.SignKind.TheVariants as signs
 use Rattle.sv_token.specs.declared.keywords.WordKind.TheVariants as words
-use Rattle.sv_read.specs.declared.stop.Expected.TheVariants as expected
+use Rattle.sv_parse_expr.specs.declared.stop.Expected.TheVariants as expected
 use Rattle.sv_parse.proofs.items.read_open_event.Goals as goal
 
 pub returns-in-Some-clause-is : goal.returns-in-Some-clause-is

@@ -3,11 +3,11 @@ use Rattle.sv_token.specs.Lexemes.{placed_tokens}
 use Rattle.sv_ast.specs.Tree.{SpanTree}
 use Rattle.sv_ast.specs.GrammarForms.{perhaps}
 use Rattle.sv_ast.specs.GrammarModules.{IsKeyRange}
-use Rattle.sv_grammar.specs.Symbols.{outer, punctuation, plain_name, plain_number, map_name}
-use Rattle.sv_grammar.specs.Symbols.{perhaps_maps, perhaps_key_range, rows, end_of_map}
-use Rattle.sv_grammar.proofs.ReadSteps.{reads_then, reads_before}
-use Rattle.sv_grammar.proofs.ReadRows.{word_taken, halts_end_of_map}
-use Rattle.sv_read.proofs.Halting.{passed, stops_then, stops_before, stops_by}
+use Rattle.sv_parse_machine.specs.Symbols.{outer, punctuation, plain_name, plain_number, map_name}
+use Rattle.sv_parse_machine.specs.Symbols.{perhaps_maps, perhaps_key_range, rows, end_of_map}
+use Rattle.sv_parse_machine.proofs.ReadSteps.{reads_then, reads_before}
+use Rattle.sv_parse_machine.proofs.ReadRows.{word_taken, halts_end_of_map}
+use Rattle.sv_parse_expr.proofs.Halting.{passed, stops_then, stops_before, stops_by}
 use Rattle.sv_parse.proofs.ReadingSymbols.{word_was_next, begins_map_name}
 use Rattle.sv_parse.proofs.ReadingItems.{map_is}
 use Rattle.sv_token.specs.declared.signs.SignKind.TheVariants as signs

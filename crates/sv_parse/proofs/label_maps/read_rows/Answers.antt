@@ -1,8 +1,8 @@
 use Rattle.std.proofs.Common.{[], ◌∷◌}
-use Rattle.sv_grammar.specs.Symbols.{outer, punctuation, plain_name, plain_number, rows}
-use Rattle.sv_grammar.specs.Symbols.{perhaps_second_key}
-use Rattle.sv_grammar.proofs.ReadSteps.{reads_then, reads_before}
-use Rattle.sv_read.proofs.Halting.{passed, stops_then, stops_before}
+use Rattle.sv_parse_machine.specs.Symbols.{outer, punctuation, plain_name, plain_number, rows}
+use Rattle.sv_parse_machine.specs.Symbols.{perhaps_second_key}
+use Rattle.sv_parse_machine.proofs.ReadSteps.{reads_then, reads_before}
+use Rattle.sv_parse_expr.proofs.Halting.{passed, stops_then, stops_before}
 use Rattle.sv_parse.proofs.ReadingSymbols.{begins_row}
 use Rattle.sv_parse.proofs.ReadingItems.{each_end, pushed_each}
 use Rattle.sv_token.specs.declared.signs.SignKind.TheVariants as signs

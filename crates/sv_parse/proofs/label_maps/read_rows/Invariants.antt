@@ -3,8 +3,8 @@ use Rattle.sv_token.specs.Lexemes.{placed_tokens}
 use Rattle.sv_ast.specs.Tree.{RowTree}
 use Rattle.sv_ast.specs.Views.{row_tree}
 use Rattle.sv_ast.specs.GrammarModules.{IsRow}
-use Rattle.sv_grammar.specs.Symbols.{outer, rows}
-use Rattle.sv_grammar.specs.Reads.{Reads}
+use Rattle.sv_parse_machine.specs.Symbols.{outer, rows}
+use Rattle.sv_parse_machine.specs.Reads.{Reads}
 use Rattle.sv_parse.proofs.ReadingItems.{AreOpenEach}
 use Rattle.sv_parse.proofs.label_maps.read_rows.Given as goal
 

@@ -1,9 +1,9 @@
 use Rattle.std.proofs.Common.{[], ◌∷◌, refl, ap, ◌∙◌, map}
-use Rattle.sv_grammar.specs.Symbols.{outer, punctuation, plain_name, more_names, lattice_lines}
-use Rattle.sv_grammar.specs.Symbols.{less_equal}
-use Rattle.sv_grammar.proofs.ReadSteps.{reads_then, reads_before}
-use Rattle.sv_grammar.proofs.ReadRows.{word_taken}
-use Rattle.sv_read.proofs.Halting.{passed, stops_then, stops_before}
+use Rattle.sv_parse_machine.specs.Symbols.{outer, punctuation, plain_name, more_names, lattice_lines}
+use Rattle.sv_parse_machine.specs.Symbols.{less_equal}
+use Rattle.sv_parse_machine.proofs.ReadSteps.{reads_then, reads_before}
+use Rattle.sv_parse_machine.proofs.ReadRows.{word_taken}
+use Rattle.sv_parse_expr.proofs.Halting.{passed, stops_then, stops_before}
 use Rattle.sv_parse.proofs.ReadingSymbols.{begins_pair}
 use Rattle.sv_parse.proofs.ReadingItems.{points_more, pair_more}
 use Rattle.sv_token.specs.declared.signs.SignKind.TheVariants as signs

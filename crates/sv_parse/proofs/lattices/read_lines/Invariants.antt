@@ -1,8 +1,8 @@
 use Rattle.std.proofs.Common.{◌≤◌, [], ◌∷◌, length, map}
 use Rattle.sv_token.specs.Lexemes.{placed_tokens}
 use Rattle.sv_ast.specs.Views.{placed_name, pair_tree}
-use Rattle.sv_grammar.specs.Symbols.{outer, lattice_lines}
-use Rattle.sv_grammar.specs.Reads.{Reads}
+use Rattle.sv_parse_machine.specs.Symbols.{outer, lattice_lines}
+use Rattle.sv_parse_machine.specs.Reads.{Reads}
 use Rattle.sv_parse.proofs.ReadingItems.{AreOpenLines}
 use Rattle.sv_parse.proofs.lattices.read_lines.Given as goal
 

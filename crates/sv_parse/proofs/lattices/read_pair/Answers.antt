@@ -1,13 +1,13 @@
 use Rattle.sv_token.specs.Lexemes.{placed_tokens}
 use Rattle.std.proofs.Common.{[], ◌∷◌, refl}
-use Rattle.sv_grammar.specs.Symbols.{outer, punctuation, plain_name, less_equal}
-use Rattle.sv_grammar.proofs.ReadSteps.{reads_then, reads_before}
-use Rattle.sv_grammar.proofs.ReadRows.{halts_less_equal}
-use Rattle.sv_read.proofs.Halting.{passed, stops_then, stops_before, stops_here}
+use Rattle.sv_parse_machine.specs.Symbols.{outer, punctuation, plain_name, less_equal}
+use Rattle.sv_parse_machine.proofs.ReadSteps.{reads_then, reads_before}
+use Rattle.sv_parse_machine.proofs.ReadRows.{halts_less_equal}
+use Rattle.sv_parse_expr.proofs.Halting.{passed, stops_then, stops_before, stops_here}
 use Rattle.sv_parse.proofs.ReadingSymbols.{less_equal_read}
-use Rattle.sv_read.specs.declared.stop.Breach.TheVariants.{Stuck}
+use Rattle.sv_parse_expr.specs.declared.stop.Breach.TheVariants.{Stuck}
 use Rattle.sv_token.specs.declared.signs.SignKind.TheVariants as signs
-use Rattle.sv_read.specs.declared.stop.Expected.TheVariants as expected
+use Rattle.sv_parse_expr.specs.declared.stop.Expected.TheVariants as expected
 use Rattle.sv_parse.proofs.lattices.read_pair.Goals as goal
 
 pub returns-clause-is : goal.returns-clause-is

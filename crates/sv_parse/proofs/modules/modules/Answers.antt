@@ -1,6 +1,6 @@
 use Rattle.std.proofs.Common.{[], ◌∷◌, ◌∙◌}
-use Rattle.sv_grammar.specs.Symbols.{outer, one_module}
-use Rattle.sv_read.proofs.Halting.{passed}
+use Rattle.sv_parse_machine.specs.Symbols.{outer, one_module}
+use Rattle.sv_parse_expr.proofs.Halting.{passed}
 use Rattle.sv_parse.proofs.WholeTexts.{fails_then, halting_fails, next_module}
 use Rattle.sv_parse.proofs.ReadingItems.{first_each, some_up_to_the_end, pushed_each}
 use Rattle.std.proofs.Common.{rules}

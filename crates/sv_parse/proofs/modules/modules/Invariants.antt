@@ -4,8 +4,8 @@ use Rattle.sv_ast.specs.Tree.{ModuleTree}
 use Rattle.sv_ast.specs.Views.{module_tree}
 use Rattle.sv_ast.specs.GrammarModules.{IsModule}
 use Rattle.sv_ast.specs.GrammarRules.{all_limits}
-use Rattle.sv_grammar.specs.Symbols.{outer, one_module}
-use Rattle.sv_grammar.specs.Machine.{run}
+use Rattle.sv_parse_machine.specs.Symbols.{outer, one_module}
+use Rattle.sv_parse_machine.specs.Machine.{run}
 use Rattle.sv_parse.proofs.ReadingItems.{AreOpenEach}
 use Rattle.sv_parse.proofs.modules.modules.Given as goal
 

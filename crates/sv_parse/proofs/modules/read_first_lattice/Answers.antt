@@ -1,5 +1,5 @@
-use Rattle.sv_grammar.proofs.SkippedRows.{skips_perhaps_lattice}
-use Rattle.sv_read.proofs.Halting.{passed}
+use Rattle.sv_parse_machine.proofs.SkippedRows.{skips_perhaps_lattice}
+use Rattle.sv_parse_expr.proofs.Halting.{passed}
 use Rattle.sv_parse.proofs.ReadingSymbols.{word_is_next}
 use Rattle.sv_token.specs.declared.keywords.WordKind.TheVariants as words
 use Rattle.sv_parse.proofs.modules.read_first_lattice.Goals as goal

@@ -1,10 +1,10 @@
 use Rattle.sv_token.specs.Lexemes.{placed_tokens}
 use Rattle.std.proofs.Common.{[], ◌∷◌, refl}
-use Rattle.sv_grammar.specs.Symbols.{outer, punctuation, plain_name, one_module, items}
-use Rattle.sv_grammar.specs.Symbols.{perhaps_header_parameters, perhaps_ports}
-use Rattle.sv_grammar.proofs.ReadSteps.{reads_then, reads_before}
-use Rattle.sv_grammar.proofs.ReadRows.{word_taken, halts_one_module}
-use Rattle.sv_read.proofs.Halting.{passed, stops_then, stops_before, stops_by}
+use Rattle.sv_parse_machine.specs.Symbols.{outer, punctuation, plain_name, one_module, items}
+use Rattle.sv_parse_machine.specs.Symbols.{perhaps_header_parameters, perhaps_ports}
+use Rattle.sv_parse_machine.proofs.ReadSteps.{reads_then, reads_before}
+use Rattle.sv_parse_machine.proofs.ReadRows.{word_taken, halts_one_module}
+use Rattle.sv_parse_expr.proofs.Halting.{passed, stops_then, stops_before, stops_by}
 use Rattle.sv_token.specs.declared.signs.SignKind.TheVariants as signs
 use Rattle.sv_token.specs.declared.keywords.WordKind.TheVariants as words
 use Rattle.sv_parse.proofs.modules.read_header.Goals as goal

@@ -1,8 +1,8 @@
 use Rattle.std.proofs.Common.{◌≤◌, [], ◌∷◌, length, map}
 use Rattle.sv_token.specs.Lexemes.{placed_tokens}
 use Rattle.sv_ast.specs.Views.{item_tree}
-use Rattle.sv_grammar.specs.Symbols.{outer, items}
-use Rattle.sv_grammar.specs.Reads.{Reads}
+use Rattle.sv_parse_machine.specs.Symbols.{outer, items}
+use Rattle.sv_parse_machine.specs.Reads.{Reads}
 use Rattle.sv_parse.proofs.ReadingItems.{AreOpenItems}
 use Rattle.sv_parse.proofs.modules.read_items.Given as goal
 

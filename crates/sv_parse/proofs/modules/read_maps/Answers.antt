@@ -1,8 +1,8 @@
 use Rattle.std.proofs.Common.{[], ◌∷◌}
-use Rattle.sv_grammar.specs.Symbols.{outer, perhaps_maps}
-use Rattle.sv_grammar.proofs.ReadSteps.{reads_then}
-use Rattle.sv_grammar.proofs.SkippedRows.{skips_perhaps_maps}
-use Rattle.sv_read.proofs.Halting.{passed, stops_then}
+use Rattle.sv_parse_machine.specs.Symbols.{outer, perhaps_maps}
+use Rattle.sv_parse_machine.proofs.ReadSteps.{reads_then}
+use Rattle.sv_parse_machine.proofs.SkippedRows.{skips_perhaps_maps}
+use Rattle.sv_parse_expr.proofs.Halting.{passed, stops_then}
 use Rattle.sv_parse.proofs.ReadingSymbols.{word_is_next}
 use Rattle.sv_parse.proofs.ReadingItems.{each_end, pushed_each}
 use Rattle.sv_token.specs.declared.keywords.WordKind.TheVariants as words

@@ -3,8 +3,8 @@ use Rattle.sv_token.specs.Lexemes.{placed_tokens}
 use Rattle.sv_ast.specs.Tree.{MapTree}
 use Rattle.sv_ast.specs.Views.{map_tree}
 use Rattle.sv_ast.specs.GrammarModules.{IsMap}
-use Rattle.sv_grammar.specs.Symbols.{outer, perhaps_maps}
-use Rattle.sv_grammar.specs.Reads.{Reads}
+use Rattle.sv_parse_machine.specs.Symbols.{outer, perhaps_maps}
+use Rattle.sv_parse_machine.specs.Reads.{Reads}
 use Rattle.sv_parse.proofs.ReadingItems.{AreOpenEach}
 use Rattle.sv_parse.proofs.modules.read_maps.Given as goal
 

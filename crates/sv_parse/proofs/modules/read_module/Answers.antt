@@ -1,7 +1,7 @@
 use Rattle.std.proofs.Common.{[], ◌∷◌}
-use Rattle.sv_grammar.specs.Symbols.{outer, one_module, items}
-use Rattle.sv_grammar.proofs.ReadSteps.{reads_then}
-use Rattle.sv_read.proofs.Halting.{passed, stops_then}
+use Rattle.sv_parse_machine.specs.Symbols.{outer, one_module, items}
+use Rattle.sv_parse_machine.proofs.ReadSteps.{reads_then}
+use Rattle.sv_parse_expr.proofs.Halting.{passed, stops_then}
 use Rattle.sv_parse.proofs.ReadingItems.{module_is}
 use Rattle.sv_parse.proofs.modules.read_module.Goals as goal
 

@@ -1,8 +1,8 @@
 use Rattle.std.proofs.Common.{[], ◌∷◌, refl, ap, map}
-use Rattle.sv_grammar.specs.Symbols.{outer, punctuation, ports}
-use Rattle.sv_grammar.proofs.ReadSteps.{reads_then}
-use Rattle.sv_grammar.proofs.ReadRows.{sign_taken}
-use Rattle.sv_read.proofs.Halting.{passed, stops_then}
+use Rattle.sv_parse_machine.specs.Symbols.{outer, punctuation, ports}
+use Rattle.sv_parse_machine.proofs.ReadSteps.{reads_then}
+use Rattle.sv_parse_machine.proofs.ReadRows.{sign_taken}
+use Rattle.sv_parse_expr.proofs.Halting.{passed, stops_then}
 use Rattle.sv_token.specs.declared.signs.SignKind.TheVariants as signs
 use Rattle.std.proofs.Common.{inl}
 use Rattle.sv_ast.specs.Views.{declaration_tree}

@@ -1,10 +1,10 @@
 use Rattle.std.proofs.Common.{[], ◌∷◌, refl}
-use Rattle.sv_grammar.specs.Symbols.{outer, punctuation, perhaps_header_parameters}
-use Rattle.sv_grammar.specs.Symbols.{header_parameter, more_header_parameters}
-use Rattle.sv_grammar.proofs.ReadSteps.{reads_then, reads_before}
-use Rattle.sv_grammar.proofs.ReadRows.{sign_taken}
-use Rattle.sv_grammar.proofs.SkippedRows.{skips_perhaps_header_parameters}
-use Rattle.sv_read.proofs.Halting.{passed, stops_then, stops_before}
+use Rattle.sv_parse_machine.specs.Symbols.{outer, punctuation, perhaps_header_parameters}
+use Rattle.sv_parse_machine.specs.Symbols.{header_parameter, more_header_parameters}
+use Rattle.sv_parse_machine.proofs.ReadSteps.{reads_then, reads_before}
+use Rattle.sv_parse_machine.proofs.ReadRows.{sign_taken}
+use Rattle.sv_parse_machine.proofs.SkippedRows.{skips_perhaps_header_parameters}
+use Rattle.sv_parse_expr.proofs.Halting.{passed, stops_then, stops_before}
 use Rattle.sv_token.specs.declared.signs.SignKind.TheVariants as signs
 use Rattle.std.proofs.Common.{inr}
 use Rattle.sv_parse.proofs.modules.read_parameter_list.Goals as goal

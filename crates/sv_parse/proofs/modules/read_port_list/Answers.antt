@@ -1,9 +1,9 @@
 use Rattle.std.proofs.Common.{[], ◌∷◌, refl}
-use Rattle.sv_grammar.specs.Symbols.{outer, perhaps_ports, ports}
-use Rattle.sv_grammar.proofs.ReadSteps.{reads_then}
-use Rattle.sv_grammar.proofs.ReadRows.{sign_taken}
-use Rattle.sv_grammar.proofs.SkippedRows.{skips_perhaps_ports}
-use Rattle.sv_read.proofs.Halting.{passed, stops_then}
+use Rattle.sv_parse_machine.specs.Symbols.{outer, perhaps_ports, ports}
+use Rattle.sv_parse_machine.proofs.ReadSteps.{reads_then}
+use Rattle.sv_parse_machine.proofs.ReadRows.{sign_taken}
+use Rattle.sv_parse_machine.proofs.SkippedRows.{skips_perhaps_ports}
+use Rattle.sv_parse_expr.proofs.Halting.{passed, stops_then}
 use Rattle.sv_parse.proofs.ReadingItems.{port_list_is}
 use Rattle.sv_token.specs.declared.signs.SignKind.TheVariants as signs
 use Rattle.sv_parse.proofs.modules.read_port_list.Goals as goal

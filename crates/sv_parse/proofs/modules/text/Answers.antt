@@ -1,6 +1,6 @@
 use Rattle.std.proofs.Common.{[], ◌∷◌}
-use Rattle.sv_grammar.specs.Symbols.{outer, perhaps_lattice, perhaps_maps, one_module}
-use Rattle.sv_read.proofs.Halting.{passed, stops_before}
+use Rattle.sv_parse_machine.specs.Symbols.{outer, perhaps_lattice, perhaps_maps, one_module}
+use Rattle.sv_parse_expr.proofs.Halting.{passed, stops_before}
 use Rattle.sv_parse.proofs.WholeTexts.{fails_then, halting_fails}
 use Rattle.sv_parse.proofs.ReadingItems.{text_is}
 use Rattle.sv_parse.proofs.modules.text.Goals as goal

@@ -1,7 +1,7 @@
 use Rattle.std.proofs.Common.{refl, [], ◌∷◌, ◌++◌}
 use Rattle.sv_token.specs.declared.keywords.WordKind.TheVariants as words
-use Rattle.sv_grammar.proofs.ReadRows.{word_taken}
-use Rattle.sv_grammar.specs.Symbols.{items, more_parameters}
+use Rattle.sv_parse_machine.proofs.ReadRows.{word_taken}
+use Rattle.sv_parse_machine.specs.Symbols.{items, more_parameters}
 use Rattle.sv_parse.specs.ReadingDeclarations.{typed_value}
 use Rattle.sv_parse.proofs.parameters.is_local.Goals as goal
 

@@ -1,5 +1,5 @@
 use Rattle.std.proofs.Common.{refl}
-use Rattle.sv_read.proofs.Halting.{passed}
+use Rattle.sv_parse_expr.proofs.Halting.{passed}
 use Rattle.sv_parse.proofs.parameters.read_named_param.Goals as goal
 
 pub returns-clause-is : goal.returns-clause-is

@@ -3,12 +3,12 @@ use Rattle.sv_token.specs.declared.signs.SignKind.TheVariants as signs
 use Rattle.sv_token.specs.declared.keywords.WordKind.TheVariants as words
 use Rattle.sv_token.specs.Lexemes.{placed_tokens}
 use Rattle.sv_parse.proofs.ReadingDeclarations.{range_is}
-use Rattle.sv_read.proofs.Halting.{passed, stops_then}
-use Rattle.sv_grammar.proofs.ReadRows.{word_taken, sign_taken}
-use Rattle.sv_grammar.specs.Symbols.{parameter_type, punctuation}
-use Rattle.sv_grammar.specs.ModuleTable.{value_range}
+use Rattle.sv_parse_expr.proofs.Halting.{passed, stops_then}
+use Rattle.sv_parse_machine.proofs.ReadRows.{word_taken, sign_taken}
+use Rattle.sv_parse_machine.specs.Symbols.{parameter_type, punctuation}
+use Rattle.sv_parse_machine.specs.ModuleTable.{value_range}
 use Rattle.sv_parse.proofs.DeclarationRuns.{front_stop, and_stop, and_read}
-use Rattle.sv_grammar.proofs.ReadSteps.{reads_then}
+use Rattle.sv_parse_machine.proofs.ReadSteps.{reads_then}
 use Rattle.sv_parse.proofs.parameters.read_param_type.Goals as goal
 
 pub returns-in-Some-clause-is : goal.returns-in-Some-clause-is

@@ -1,6 +1,6 @@
 use Rattle.std.proofs.Common.{refl}
 use Rattle.sv_token.specs.Lexemes.{placed_tokens}
-use Rattle.sv_read.proofs.Halting.{passed}
+use Rattle.sv_parse_expr.proofs.Halting.{passed}
 use Rattle.sv_parse.proofs.DeclarationRuns.{and_read, and_stop, front_stop}
 use Rattle.sv_parse.proofs.parameters.read_param_value.Goals as goal
 

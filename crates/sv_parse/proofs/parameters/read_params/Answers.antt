@@ -1,11 +1,11 @@
 use Rattle.std.proofs.Common.{refl, map, [], ◌∷◌}
 use Rattle.sv_token.specs.declared.signs.SignKind.TheVariants as signs
 use Rattle.sv_ast.specs.Views.{parameter_tree}
-use Rattle.sv_read.proofs.Halting.{passed}
-use Rattle.sv_grammar.specs.Symbols.{outer, more_parameters, items, punctuation}
+use Rattle.sv_parse_expr.proofs.Halting.{passed}
+use Rattle.sv_parse_machine.specs.Symbols.{outer, more_parameters, items, punctuation}
 use Rattle.sv_parse.proofs.DeclarationRuns.{parameters_go_on}
-use Rattle.sv_grammar.proofs.ReadSteps.{reads_then, reads_before}
-use Rattle.sv_grammar.proofs.ReadLists.{ends_more_parameters}
+use Rattle.sv_parse_machine.proofs.ReadSteps.{reads_then, reads_before}
+use Rattle.sv_parse_machine.proofs.ReadLists.{ends_more_parameters}
 use Rattle.sv_parse.proofs.parameters.read_params.Goals as goal
 
 pub returns-clause-is : goal.returns-clause-is

@@ -1,7 +1,7 @@
 use Rattle.sv_token.specs.Lexemes.{placed_tokens}
 use Rattle.sv_ast.specs.Views.{text_tree}
-use Rattle.sv_grammar.proofs.OneText.{one_text}
-use Rattle.sv_grammar.proofs.ShapedTexts.{text_is_shaped}
+use Rattle.sv_parse_machine.proofs.OneText.{one_text}
+use Rattle.sv_parse_machine.proofs.ShapedTexts.{text_is_shaped}
 use Rattle.sv_parse.proofs.parser.parse.Goals as goal
 
 pub returns-in-Ok-clause-only : goal.returns-in-Ok-clause-only

@@ -1,4 +1,4 @@
-use Rattle.sv_read.proofs.Halting.{passed}
+use Rattle.sv_parse_expr.proofs.Halting.{passed}
 use Rattle.sv_parse.proofs.registers.read_memory.Goals as goal
 
 pub returns-in_err-first-clause-halts : goal.returns-in_err-first-clause-halts

@@ -1,9 +1,9 @@
 use Rattle.std.proofs.Common.{refl, [], ◌∷◌}
 use Rattle.sv_token.specs.declared.signs.SignKind.TheVariants as signs
-use Rattle.sv_read.proofs.Halting.{passed, stops_then}
-use Rattle.sv_grammar.proofs.ReadRows.{sign_taken}
-use Rattle.sv_grammar.specs.Symbols.{reg_label, plain_name, reg_label_end}
-use Rattle.sv_grammar.proofs.ReadSteps.{reads_then}
+use Rattle.sv_parse_expr.proofs.Halting.{passed, stops_then}
+use Rattle.sv_parse_machine.proofs.ReadRows.{sign_taken}
+use Rattle.sv_parse_machine.specs.Symbols.{reg_label, plain_name, reg_label_end}
+use Rattle.sv_parse_machine.proofs.ReadSteps.{reads_then}
 use Rattle.sv_parse.proofs.ReadingDeclarations.{reg_label_is}
 use Rattle.sv_parse.proofs.registers.read_reg_label.Goals as goal
 

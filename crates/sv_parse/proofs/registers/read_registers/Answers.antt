@@ -1,16 +1,16 @@
 use Rattle.std.proofs.Common.{map, inl, inr, ap, [], ◌∷◌}
 use Rattle.sv_token.specs.declared.signs.SignKind.TheVariants as signs
 use Rattle.sv_token.specs.declared.keywords.WordKind.TheVariants as words
-use Rattle.sv_read.proofs.Halting.{passed, stops_then, stops_before}
+use Rattle.sv_parse_expr.proofs.Halting.{passed, stops_then, stops_before}
 use Rattle.sv_parse.proofs.DeclarationRuns.{stops_never, reg_begun, registers_go_on}
 use Rattle.sv_parse.specs.ReadingDeclarations.{memory_end, memory_bounds}
-use Rattle.sv_grammar.specs.Machine.{outside_on}
-use Rattle.sv_grammar.specs.Symbols.{outer, punctuation, items, more_names}
+use Rattle.sv_parse_machine.specs.Machine.{outside_on}
+use Rattle.sv_parse_machine.specs.Symbols.{outer, punctuation, items, more_names}
 use Rattle.sv_ast.specs.Views.{memory_tree, item_tree, declaration_tree}
 use Rattle.sv_parse.proofs.ReadingDeclarations.{memory_is, first_register_is}
-use Rattle.sv_read.proofs.ReadingLists.{list_is}
-use Rattle.sv_grammar.proofs.ReadSteps.{reads_then, reads_before}
-use Rattle.sv_grammar.proofs.ReadLists.{ends_listed}
+use Rattle.sv_parse_expr.proofs.ReadingLists.{list_is}
+use Rattle.sv_parse_machine.proofs.ReadSteps.{reads_then, reads_before}
+use Rattle.sv_parse_machine.proofs.ReadLists.{ends_listed}
 use Rattle.sv_parse.proofs.registers.read_registers.Goals as goal
 
 pub returns-in_err-_place-clause-halts : goal.returns-in_err-_place-clause-halts

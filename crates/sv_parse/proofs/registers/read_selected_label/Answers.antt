@@ -1,15 +1,15 @@
 use Rattle.std.proofs.Common.{refl, [], ◌∷◌}
 use Rattle.sv_token.specs.declared.signs.SignKind.TheVariants as signs
-use Rattle.sv_read.proofs.Halting.{passed, stops_then, stops_before}
-use Rattle.sv_grammar.proofs.ReadRows.{sign_taken}
-use Rattle.sv_grammar.specs.Symbols.{label_selector, memory_name, punctuation, outer, plain_name}
-use Rattle.sv_grammar.specs.ModuleTable.{behind_selector, number_range}
+use Rattle.sv_parse_expr.proofs.Halting.{passed, stops_then, stops_before}
+use Rattle.sv_parse_machine.proofs.ReadRows.{sign_taken}
+use Rattle.sv_parse_machine.specs.Symbols.{label_selector, memory_name, punctuation, outer, plain_name}
+use Rattle.sv_parse_machine.specs.ModuleTable.{behind_selector, number_range}
 use Rattle.sv_parse.proofs.DeclarationRuns.{front_stop, and_stop, selector_named, behind_table}
 use Rattle.sv_parse.proofs.DeclarationRuns.{and_read, memory_name_first}
-use Rattle.sv_grammar.specs.Machine.{outside_on}
+use Rattle.sv_parse_machine.specs.Machine.{outside_on}
 use Rattle.sv_parse.specs.ReadingDeclarations.{table_end}
 use Rattle.sv_parse.proofs.ReadingDeclarations.{by_index_end}
-use Rattle.sv_grammar.proofs.ReadSteps.{reads_then, reads_before}
+use Rattle.sv_parse_machine.proofs.ReadSteps.{reads_then, reads_before}
 use Rattle.sv_parse.proofs.registers.read_selected_label.Goals as goal
 
 pub returns-in_err-rest-in-Some-clause-halts : goal.returns-in_err-rest-in-Some-clause-halts

@@ -2,12 +2,12 @@ use Rattle.std.proofs.Common.{refl}
 use Rattle.sv_token.specs.declared.signs.SignKind.TheVariants as signs
 use Rattle.sv_token.specs.Lexemes.{placed_tokens}
 use Rattle.sv_parse.proofs.ReadingDeclarations.{open_label_is}
-use Rattle.sv_read.proofs.Halting.{passed, stops_then, stops_by}
+use Rattle.sv_parse_expr.proofs.Halting.{passed, stops_then, stops_by}
 use Rattle.sv_parse.proofs.DeclarationRuns.{and_stop, and_read}
-use Rattle.sv_grammar.proofs.ReadRows.{sign_taken, halts_label_end}
-use Rattle.sv_grammar.specs.Symbols.{label_end}
+use Rattle.sv_parse_machine.proofs.ReadRows.{sign_taken, halts_label_end}
+use Rattle.sv_parse_machine.specs.Symbols.{label_end}
 use Rattle.sv_parse.specs.ReadingDeclarations.{table_end}
-use Rattle.sv_grammar.proofs.ReadSteps.{reads_then}
+use Rattle.sv_parse_machine.proofs.ReadSteps.{reads_then}
 use Rattle.sv_parse.proofs.types.read_open_label.Goals as goal
 
 pub returns-clause-is : goal.returns-clause-is

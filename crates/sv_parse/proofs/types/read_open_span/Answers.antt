@@ -1,8 +1,8 @@
 use Rattle.std.proofs.Common.{refl, [], ◌∷◌}
 use Rattle.sv_token.specs.Lexemes.{placed_tokens}
 use Rattle.sv_token.specs.declared.signs.SignKind.TheVariants as signs
-use Rattle.sv_grammar.specs.Symbols.{outer, punctuation, expression}
-use Rattle.sv_read.proofs.Halting.{passed, stops_before}
+use Rattle.sv_parse_machine.specs.Symbols.{outer, punctuation, expression}
+use Rattle.sv_parse_expr.proofs.Halting.{passed, stops_before}
 use Rattle.sv_parse.proofs.ReadingSymbols.{group_read, group_stop}
 use Rattle.sv_parse.proofs.types.read_open_span.Goals as goal
 

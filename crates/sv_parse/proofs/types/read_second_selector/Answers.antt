@@ -1,9 +1,9 @@
 use Rattle.std.proofs.Common.{refl, [], ◌∷◌}
 use Rattle.sv_token.specs.declared.signs.SignKind.TheVariants as signs
-use Rattle.sv_read.proofs.Halting.{passed, stops_then}
-use Rattle.sv_grammar.proofs.ReadRows.{sign_taken}
-use Rattle.sv_grammar.specs.Symbols.{perhaps_second_name, plain_name}
-use Rattle.sv_grammar.proofs.ReadSteps.{reads_then}
+use Rattle.sv_parse_expr.proofs.Halting.{passed, stops_then}
+use Rattle.sv_parse_machine.proofs.ReadRows.{sign_taken}
+use Rattle.sv_parse_machine.specs.Symbols.{perhaps_second_name, plain_name}
+use Rattle.sv_parse_machine.proofs.ReadSteps.{reads_then}
 use Rattle.sv_token.specs.Lexemes.{placed_tokens}
 use Rattle.sv_parse.proofs.types.read_second_selector.Goals as goal
 

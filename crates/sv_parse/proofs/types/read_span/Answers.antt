@@ -1,10 +1,10 @@
 use Rattle.std.proofs.Common.{refl}
 use Rattle.sv_token.specs.declared.signs.SignKind.TheVariants as signs
-use Rattle.sv_read.proofs.Halting.{passed, stops_then}
-use Rattle.sv_grammar.proofs.ReadRows.{sign_taken}
-use Rattle.sv_grammar.specs.Symbols.{perhaps_range}
-use Rattle.sv_grammar.specs.ModuleTable.{value_range}
-use Rattle.sv_grammar.proofs.ReadSteps.{reads_then}
+use Rattle.sv_parse_expr.proofs.Halting.{passed, stops_then}
+use Rattle.sv_parse_machine.proofs.ReadRows.{sign_taken}
+use Rattle.sv_parse_machine.specs.Symbols.{perhaps_range}
+use Rattle.sv_parse_machine.specs.ModuleTable.{value_range}
+use Rattle.sv_parse_machine.proofs.ReadSteps.{reads_then}
 use Rattle.sv_parse.proofs.ReadingDeclarations.{range_is}
 use Rattle.sv_parse.proofs.types.read_span.Goals as goal
 

@@ -1,8 +1,8 @@
 use Rattle.std.proofs.Common.{◌≡◌, Bool, false, ap}
 use Rattle.sv_num.specs.Vectors.{number_of}
-use Rattle.sv_walk.specs.Walks.{ask}
-use Rattle.sv_walk.specs.Rules.{bad_select}
-use Rattle.sv_walk.specs.ExpressionSteps.{is_part}
+use Rattle.sv_elab_rules.specs.Walks.{ask}
+use Rattle.sv_elab_rules.specs.Rules.{bad_select}
+use Rattle.sv_elab_rules.specs.ExpressionSteps.{is_part}
 use Rattle.sv_width.proofs.SameValue.{either}
 use Rattle.sv_width.proofs.building.part.Goals as goal
 

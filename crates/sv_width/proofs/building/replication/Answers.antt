@@ -5,9 +5,9 @@ use Rattle.std.proofs.lemmas.Result.{err_from_is_err_and}
 use Rattle.sv_num.specs.Vectors.{number_of}
 use Rattle.sv_ast.specs.Values.{natural}
 use Rattle.sv_ast.specs.Views.{expression_trees, parts_of as tree_parts}
-use Rattle.sv_walk.specs.Walks.{ask, ◌>>=◌}
-use Rattle.sv_walk.specs.Rules.{too_wide, bad_count}
-use Rattle.sv_walk.specs.ExpressionSteps.{is_count, sized_parts}
+use Rattle.sv_elab_rules.specs.Walks.{ask, ◌>>=◌}
+use Rattle.sv_elab_rules.specs.Rules.{too_wide, bad_count}
+use Rattle.sv_elab_rules.specs.ExpressionSteps.{is_count, sized_parts}
 use Rattle.sv_width.specs.Measured as measured
 use Rattle.sv_width.specs.Measured.{MeasuredTrees}
 use Rattle.sv_width.specs.Outcomes.{some_named, replication_steps}

@@ -11,10 +11,10 @@ use Rattle.std.specs.Slice.Iter.{iter_rest}
 use Rattle.sv_num.specs.declared.faults.Place.{Place}
 use Rattle.sv_ast.specs.declared.expressions.Expr.{Expr}
 use Rattle.sv_ast.specs.Views.{expression_tree, expression_trees, parts_of}
-use Rattle.sv_walk.specs.Names.{place_of}
-use Rattle.sv_walk.specs.Rules.{unsized_part}
-use Rattle.sv_walk.specs.Walks.{Step, ask, ◌>>=◌}
-use Rattle.sv_walk.specs.ExpressionSteps.{is_sized, sized_parts}
+use Rattle.sv_elab_rules.specs.Names.{place_of}
+use Rattle.sv_elab_rules.specs.Rules.{unsized_part}
+use Rattle.sv_elab_rules.specs.Walks.{Step, ask, ◌>>=◌}
+use Rattle.sv_elab_rules.specs.ExpressionSteps.{is_sized, sized_parts}
 use Rattle.sv_width.proofs.building.sized_parts.Goals as goal
 
 abbrev unsized : Expr → Option Place

@@ -3,7 +3,7 @@ use Rattle.std.specs.Prelude.{◌||◌}
 use Rattle.sv_ast.specs.declared.expressions.Expr.TheBlock.{hidden-the_row-Expr-0}
 use Rattle.sv_ast.specs.Views.{expression_tree, expression_trees, row_parts, parts_of}
 use Rattle.sv_ast.proofs.Rows.{row_parts-hidden}
-use Rattle.sv_walk.specs.TypedExpressions.{names_signal, some_names_signal}
+use Rattle.sv_elab_rules.specs.TypedExpressions.{names_signal, some_names_signal}
 use Rattle.sv_width.specs.Scopes.{bindings_of}
 use Rattle.sv_width.proofs.lookups.+naming.Goals as goal
 

@@ -1,6 +1,6 @@
 use Rattle.std.proofs.Common.{◌≡◌, drop}
 use Rattle.sv_ast.specs.Views.{expression_trees, parts_of}
-use Rattle.sv_walk.specs.TypedExpressions.{some_names_signal}
+use Rattle.sv_elab_rules.specs.TypedExpressions.{some_names_signal}
 use Rattle.sv_width.specs.Scopes.{bindings_of}
 use Rattle.sv_width.proofs.lookups.+naming.Given as goal
 

@@ -1,8 +1,8 @@
 use Rattle.std.proofs.Common.{◌≡◌, Bool, true, false, sym, ap, subst, ◌∙◌}
 use Rattle.std.specs.Prelude.{Option, option_map, Ok, Err}
 use Rattle.sv_ast.specs.Tree.{named}
-use Rattle.sv_walk.specs.Rules.{not_constant}
-use Rattle.sv_walk.specs.ExpressionSteps.{asked}
+use Rattle.sv_elab_rules.specs.Rules.{not_constant}
+use Rattle.sv_elab_rules.specs.ExpressionSteps.{asked}
 use Rattle.sv_width.specs.declared.meanings.Meaning.{Meaning}
 use Rattle.sv_width.specs.Measured as measured
 use Rattle.sv_width.specs.Scopes.{binding_of, number_of, signal_number}

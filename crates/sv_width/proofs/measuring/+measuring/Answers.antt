@@ -12,14 +12,14 @@ use Rattle.sv_ast.specs.declared.expressions.Expr.TheBlock.{hidden-the_row-Expr-
 use Rattle.sv_ast.specs.Scopes.{Number}
 use Rattle.sv_ast.specs.Tree.{ExpressionTree, ExpressionTrees, join, replication}
 use Rattle.sv_ast.specs.Values.{length_of, joined_length, signed_of}
-use Rattle.sv_walk.specs.TypedExpressions.{names_signal, some_names_signal}
+use Rattle.sv_elab_rules.specs.TypedExpressions.{names_signal, some_names_signal}
 use Rattle.sv_ast.specs.Shape.{is_shaped_expression, are_shaped_parts, has_part}
 use Rattle.sv_ast.specs.Views.{expression_tree, expression_trees, row_parts, parts_of}
 use Rattle.sv_ast.proofs.Rows.{row_parts-hidden}
-use Rattle.sv_walk.specs.Walks.{Step, ask}
-use Rattle.sv_walk.specs.Rules.{bad_select}
-use Rattle.sv_walk.specs.Names.{Names, place_of}
-use Rattle.sv_walk.specs.ExpressionSteps.{asked, asked_parts, own_divisors, is_below}
+use Rattle.sv_elab_rules.specs.Walks.{Step, ask}
+use Rattle.sv_elab_rules.specs.Rules.{bad_select}
+use Rattle.sv_elab_rules.specs.Names.{Names, place_of}
+use Rattle.sv_elab_rules.specs.ExpressionSteps.{asked, asked_parts, own_divisors, is_below}
 use Rattle.sv_width.specs.declared.lookups.Setting.{Setting}
 use Rattle.sv_width.specs.declared.lookups.Setting.TheVariants.{Open, Constant}
 use Rattle.sv_width.specs.declared.measured.Measured.{Measured}

@@ -3,7 +3,7 @@ use Rattle.sv_ast.specs.declared.expressions.Expr.{size-Expr}
 use Rattle.std.specs.Prelude.{IsTrue}
 use Rattle.sv_ast.specs.Shape.{are_shaped_parts}
 use Rattle.sv_ast.specs.Views.{expression_trees, parts_of}
-use Rattle.sv_walk.specs.ExpressionSteps.{asked_parts}
+use Rattle.sv_elab_rules.specs.ExpressionSteps.{asked_parts}
 use Rattle.sv_width.specs.Measured.{measured_parts}
 use Rattle.sv_width.specs.Settings.{names_in, is_constant}
 use Rattle.sv_width.specs.Views.{measured_trees}

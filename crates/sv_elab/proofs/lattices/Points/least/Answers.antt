@@ -1,5 +1,5 @@
 use Rattle.std.proofs.Common.{ap, ◌∙◌}
-use Rattle.sv_walk.specs.Lattices.{Order, least_point}
+use Rattle.sv_elab_rules.specs.Lattices.{Order, least_point}
 use Rattle.sv_elab.proofs.LeastLemmas.{least_is}
 use Rattle.sv_elab.proofs.lattices.Points.least.Goals as goal
 

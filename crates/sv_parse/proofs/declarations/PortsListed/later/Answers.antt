@@ -1,6 +1,6 @@
 use Rattle.std.proofs.Common.{inl, inr}
 use Rattle.sv_parse.proofs.ReadingDeclarations.{port_is}
-use Rattle.sv_read.proofs.Halting.{passed, stops_then}
+use Rattle.sv_parse_expr.proofs.Halting.{passed, stops_then}
 use Rattle.sv_parse.proofs.DeclarationRuns.{later_port_alike}
 use Rattle.sv_parse.proofs.declarations.PortsListed.later.Goals as goal
 

@@ -1,6 +1,6 @@
 use Rattle.sv_token.specs.declared.keywords.WordKind.TheVariants as words
 use Rattle.sv_parse.proofs.ReadingDeclarations.{wire_is}
-use Rattle.sv_read.proofs.Halting.{passed}
+use Rattle.sv_parse_expr.proofs.Halting.{passed}
 use Rattle.sv_parse.proofs.DeclarationRuns.{stops_never}
 use Rattle.sv_parse.proofs.declarations.WiresListed.first.Goals as goal
 

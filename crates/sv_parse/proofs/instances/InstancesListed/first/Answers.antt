@@ -2,9 +2,9 @@ use Rattle.sv_ast.specs.Views.{override_trees, instance_tree}
 use Rattle.sv_parse.proofs.ReadingInstances.{instance_is}
 use Rattle.sv_token.specs.Lexemes.{placed_tokens}
 use Rattle.std.proofs.Common.{[], ◌∷◌}
-use Rattle.sv_grammar.specs.Symbols.{outer, punctuation, plain_name, links, perhaps_overrides}
-use Rattle.sv_grammar.proofs.ReadSteps.{reads_then, reads_before}
-use Rattle.sv_read.proofs.Halting.{passed, stops_then, stops_before}
+use Rattle.sv_parse_machine.specs.Symbols.{outer, punctuation, plain_name, links, perhaps_overrides}
+use Rattle.sv_parse_machine.proofs.ReadSteps.{reads_then, reads_before}
+use Rattle.sv_parse_expr.proofs.Halting.{passed, stops_then, stops_before}
 use Rattle.sv_token.specs.declared.signs.SignKind.TheVariants as signs
 use Rattle.sv_parse.proofs.instances.InstancesListed.first.Goals as goal
 

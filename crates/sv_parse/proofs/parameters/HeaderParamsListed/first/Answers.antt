@@ -1,6 +1,6 @@
 use Rattle.sv_parse.proofs.ReadingDeclarations.{header_parameter_is}
-use Rattle.sv_read.proofs.Halting.{passed, stops_by}
-use Rattle.sv_grammar.proofs.ReadRows.{halts_header_parameter}
+use Rattle.sv_parse_expr.proofs.Halting.{passed, stops_by}
+use Rattle.sv_parse_machine.proofs.ReadRows.{halts_header_parameter}
 use Rattle.sv_parse.proofs.parameters.HeaderParamsListed.first.Goals as goal
 
 pub returns-clause-is : goal.returns-clause-is

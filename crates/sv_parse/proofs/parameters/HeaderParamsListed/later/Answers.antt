@@ -1,11 +1,11 @@
 use Rattle.std.proofs.Common.{refl, inl, inr}
 use Rattle.sv_token.specs.declared.keywords.WordKind.TheVariants as words
 use Rattle.sv_parse.proofs.ReadingDeclarations.{header_parameter_is}
-use Rattle.sv_read.proofs.Halting.{passed, stops_then}
-use Rattle.sv_grammar.proofs.ReadRows.{word_taken}
-use Rattle.sv_grammar.specs.Symbols.{later_header_parameter}
+use Rattle.sv_parse_expr.proofs.Halting.{passed, stops_then}
+use Rattle.sv_parse_machine.proofs.ReadRows.{word_taken}
+use Rattle.sv_parse_machine.specs.Symbols.{later_header_parameter}
 use Rattle.sv_parse.specs.ReadingDeclarations.{typed_value}
-use Rattle.sv_grammar.proofs.ReadSteps.{reads_then}
+use Rattle.sv_parse_machine.proofs.ReadSteps.{reads_then}
 use Rattle.sv_parse.proofs.DeclarationRuns.{later_parameter_alike}
 use Rattle.sv_parse.proofs.parameters.HeaderParamsListed.later.Goals as goal
 

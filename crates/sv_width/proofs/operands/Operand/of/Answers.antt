@@ -2,8 +2,8 @@ use Rattle.std.proofs.Common.{Bool, subst}
 use Rattle.std.proofs.lemmas.Result.{err_from_is_err_and}
 use Rattle.sv_ast.specs.Tree.{ExpressionTree}
 use Rattle.sv_ast.specs.Views.{expression_tree}
-use Rattle.sv_walk.specs.Names.{Names}
-use Rattle.sv_walk.specs.ExpressionSteps.{asked}
+use Rattle.sv_elab_rules.specs.Names.{Names}
+use Rattle.sv_elab_rules.specs.ExpressionSteps.{asked}
 use Rattle.sv_width.specs.Answers.{IsBreach}
 use Rattle.sv_width.specs.Outcomes.{IsMeasure}
 use Rattle.sv_width.specs.Scopes.{names_of}

@@ -1,0 +1,206 @@
+use Rattle.std.proofs.Common.{◌≡◌, ◌+◌, ◌<◌, ◌≤◌, length, get_or, List, ◌++◌, Option, drop}
+use Rattle.std.proofs.Common.{map, subst, ap, sym, ◌∙◌}
+use Rattle.std.specs.List.{list_all}
+use Rattle.std.proofs.lemmas.Result.{err_from_is_err_and}
+use Rattle.sv_num.specs.declared.faults.Refusal.{Refusal}
+use Rattle.sv_ast.specs.declared.declarations.Decl.{Decl}
+use Rattle.sv_ast.specs.declared.declarations.Param.{Param}
+use Rattle.sv_ast.specs.Shape.{is_shaped_parameter, is_shaped_declaration}
+use Rattle.sv_ast.specs.Tree.{parameter_item, declared}
+use Rattle.sv_ast.specs.Views.{parameter_tree, declaration_tree, module_tree}
+use Rattle.sv_elab_rules.specs.Declarations.{nothing_declared}
+use Rattle.sv_elab_decl.specs.declared.sites.Declared.{Declared}
+use Rattle.sv_elab_decl.specs.declared.sites.Header.{Header}
+use Rattle.sv_elab_decl.specs.Sites.{site_of, header_items, IsAhead}
+use Rattle.sv_elab_decl.proofs.Courses.{Headed, headed_more, headed_ahead, Ahead, ahead_ends}
+use Rattle.sv_elab_decl.proofs.Headers.{Goes, goes_on, ports_more, port_stops, parameter_stops}
+use Rattle.sv_elab_decl.proofs.Headers.{ports_end}
+use Rattle.sv_elab_decl.proofs.SignalEnds.{is_ahead}
+use Rattle.sv_elab_decl.proofs.SiteLemmas.{shaped_ports}
+use Rattle.sv_elab_decl.proofs.Lists.{left_more, left_none, all_parts}
+use Rattle.sv_elab_decl.proofs.declarations.declare_header.Goals as goal
+
+pub returns-in_err-declare_param-clause-stopped : goal.returns-in_err-declare_param-clause-stopped
+returns-in_err-declare_param-clause-stopped c =
+    let base = c.args.site.now.base in
+    let least = c.args.least.0 in
+    let s = site_of c.args.site.now in
+    let m = c.args.site.now.master.now in
+    let all = header_items (module_tree m) in
+    let d = c.loop-param.header.declared in
+    let h : Header = record {
+      declared = c.declare_param.new.declared;
+      broken = c.loop-param.header.broken;
+    } in
+    let ports = map declared (map declaration_tree m.ports.items) in
+    let i = c.loop-param.param-index in
+    let param = c.param-item.result in
+    let listed = c.deref-param-items.ensures.value in
+    let split = left_more m.params.items i param
+    (subst (λ (xs : List Param). i < length xs) listed c.loop-param-test.true)
+    (subst (λ (xs : List Param). param ≡ get_or xs i param) listed c.param-item.is) in
+    let p = err_from_is_err_and c.from_residual.result c.from_residual.ensures.1 in
+    rw (p.1, p.2)
+    (parameter_stops base least s h d (parameter_tree param)
+    (map parameter_item (map parameter_tree (drop (i + 1) m.params.items)) ++ ports)
+    c.in_err-declare_param.field-0.0
+    (subst (λ (ps : List Param). Headed base least s nothing_declared all d
+    (map parameter_item (map parameter_tree ps) ++ ports))
+    split c.loop-param.invariant.headed)
+    c.loop-param.invariant.passed c.in_err-declare_param.ensures.stopped)
+
+pub loop-param-preserved : goal.loop-param-preserved
+loop-param-preserved c =
+    let base = c.args.site.now.base in
+    let least = c.args.least.0 in
+    let s = site_of c.args.site.now in
+    let m = c.args.site.now.master.now in
+    let all = header_items (module_tree m) in
+    let d = c.loop-param.header.declared in
+    let ports = map declared (map declaration_tree m.ports.items) in
+    let i = c.loop-param.param-index in
+    let param = c.param-item.result in
+    let listed = c.deref-param-items.ensures.value in
+    let split = left_more m.params.items i param
+    (subst (λ (xs : List Param). i < length xs) listed c.loop-param-test.true)
+    (subst (λ (xs : List Param). param ≡ get_or xs i param) listed c.param-item.is) in
+    record {
+      headed =
+          headed_more base least s nothing_declared all d c.declare_param.new.declared
+          (parameter_tree param)
+          (map parameter_item (map parameter_tree (drop (i + 1) m.params.items)) ++ ports)
+          (subst (λ (ps : List Param). Headed base least s nothing_declared all d
+          (map parameter_item (map parameter_tree ps) ++ ports))
+          split c.loop-param.invariant.headed)
+          c.in_ok-declare_param.ensures.found
+          c.in_ok-declare_param.ensures.so_far;
+      passed = c.loop-param.invariant.passed;
+      shaped =
+          (all_parts is_shaped_parameter (parameter_tree param)
+          (map parameter_tree (drop (i + 1) m.params.items))
+          (ap (λ (ps : List Param). list_all is_shaped_parameter (map parameter_tree ps))
+          (sym split)
+          ∙ c.loop-param.invariant.shaped)).1;
+    }
+
+pub loop-port-init : goal.loop-port-init
+loop-port-init c =
+    let base = c.args.site.now.base in
+    let least = c.args.least.0 in
+    let s = site_of c.args.site.now in
+    let m = c.args.site.now.master.now in
+    let all = header_items (module_tree m) in
+    let d = c.loop-param.header.declared in
+    let ports = map declared (map declaration_tree m.ports.items) in
+    let none = left_none m.params.items c.loop-param.param-index
+    (subst (λ (xs : List Param). length xs ≤ c.loop-param.param-index)
+    c.deref-param-items.ensures.value c.loop-param-test.false) in
+    let headed : Headed base least s nothing_declared all d ports =
+    subst (λ (ps : List Param). Headed base least s nothing_declared all d
+    (map parameter_item (map parameter_tree ps) ++ ports)) none c.loop-param.invariant.headed in
+    record {
+      names = headed_ahead base least s nothing_declared all d ports headed;
+      ahead = is_ahead base (module_tree m) d headed.course.so_far;
+      goes = subst (λ (b : Option Refusal). Goes base least s d ports b)
+          (sym c.loop-param.invariant.passed) headed.course;
+      shaped = shaped_ports (module_tree m) c.requires.shaped;
+    }
+
+pub returns-in_err-over-clause-stopped : goal.returns-in_err-over-clause-stopped
+returns-in_err-over-clause-stopped c =
+    let base = c.args.site.now.base in
+    let least = c.args.least.0 in
+    let s = site_of c.args.site.now in
+    let m = c.args.site.now.master.now in
+    let all = header_items (module_tree m) in
+    let d = c.loop-port.header.declared in
+    let h : Header = record {
+      declared = c.declare_signal.new.declared;
+      broken = c.loop-port.header.broken;
+    } in
+    let i = c.loop-port.port-index in
+    let port = c.port-item.result in
+    let listed = c.deref-port-items.ensures.value in
+    let split = left_more m.ports.items i port (subst (λ (xs : List Decl).
+    i < length xs) listed c.loop-port-test.true)
+    (subst (λ (xs : List Decl). port ≡ get_or xs i port) listed c.port-item.is) in
+    let p = err_from_is_err_and c.from_residual-in_err-over.result
+    c.from_residual-in_err-over.ensures.1 in
+    rw (p.1, p.2)
+    (port_stops base least s h d (declaration_tree port)
+    (map declared (map declaration_tree (drop (i + 1) m.ports.items))) c.in_err-over.field-0.0
+    (subst (λ (ps : List Decl). Ahead base least s nothing_declared all d.scope
+    (map declared (map declaration_tree ps))) split c.loop-port.invariant.names)
+    (subst (λ (ps : List Decl). Goes base least s d (map declared (map declaration_tree ps))
+    c.loop-port.header.broken) split c.loop-port.invariant.goes)
+    c.in_err-over.ensures.stopped)
+
+pub loop-port-preserved : goal.loop-port-preserved
+loop-port-preserved c =
+    let base = c.args.site.now.base in
+    let least = c.args.least.0 in
+    let s = site_of c.args.site.now in
+    let m = c.args.site.now.master.now in
+    let all = header_items (module_tree m) in
+    let d = c.loop-port.header.declared in
+    let new = c.declare_signal.new.declared in
+    let i = c.loop-port.port-index in
+    let port = c.port-item.result in
+    let left = map declared (map declaration_tree (drop (i + 1) m.ports.items)) in
+    let listed = c.deref-port-items.ensures.value in
+    let split = left_more m.ports.items i port (subst (λ (xs : List Decl).
+    i < length xs) listed c.loop-port-test.true)
+    (subst (λ (xs : List Decl). port ≡ get_or xs i port) listed c.port-item.is) in
+    let kept : new ≡ c.keep.new.self.declared = sym c.keep.ensures.declared in
+    record {
+      names = subst (λ (e : Declared). Ahead base least s nothing_declared all e.scope left) kept
+          (ports_more base least s d new (declaration_tree port) left
+          (subst (λ (ps : List Decl). Ahead base least s nothing_declared all d.scope
+          (map declared (map declaration_tree ps))) split c.loop-port.invariant.names)
+          c.in_ok-over.ensures.names);
+      ahead = subst (λ (e : Declared). IsAhead base (module_tree m) e) kept
+          c.in_ok-over.ensures.ahead;
+      goes = subst (λ (e : Declared). Goes base least s e left c.keep.new.self.broken) kept
+          (subst (λ (b : Option Refusal). Goes base least s new left b)
+          (sym c.keep.ensures.broken)
+          (goes_on base least s d (declaration_tree port) left new c.loop-port.header.broken
+          c.in_ok-over.over
+          (subst (λ (ps : List Decl). Goes base least s d (map declared (map declaration_tree ps))
+          c.loop-port.header.broken) split c.loop-port.invariant.goes)
+          c.in_ok-over.ensures.found c.in_ok-over.ensures.so_far));
+      shaped =
+          (all_parts is_shaped_declaration (declaration_tree port)
+          (map declaration_tree (drop (i + 1) m.ports.items))
+          (ap (λ (ps : List Decl). list_all is_shaped_declaration (map declaration_tree ps))
+          (sym split)
+          ∙ c.loop-port.invariant.shaped)).1;
+    }
+
+pub returns-clause-names : goal.returns-clause-names
+returns-clause-names c =
+    let base = c.args.site.now.base in
+    let least = c.args.least.0 in
+    let s = site_of c.args.site.now in
+    let m = c.args.site.now.master.now in
+    let all = header_items (module_tree m) in
+    let known = c.loop-port.header.declared.scope in
+    let none = left_none m.ports.items c.loop-port.port-index
+    (subst (λ (xs : List Decl). length xs ≤ c.loop-port.port-index) c.deref-port-items.ensures.value
+    c.loop-port-test.false) in
+    ahead_ends base least s nothing_declared all known
+    (subst (λ (ps : List Decl). Ahead base least s nothing_declared all known
+    (map declared (map declaration_tree ps))) none c.loop-port.invariant.names)
+
+pub returns-clause-ends : goal.returns-clause-ends
+returns-clause-ends c =
+    let base = c.args.site.now.base in
+    let least = c.args.least.0 in
+    let s = site_of c.args.site.now in
+    let m = c.args.site.now.master.now in
+    let d = c.loop-port.header.declared in
+    let none = left_none m.ports.items c.loop-port.port-index
+    (subst (λ (xs : List Decl). length xs ≤ c.loop-port.port-index) c.deref-port-items.ensures.value
+    c.loop-port-test.false) in
+    ports_end base least s d c.loop-port.header.broken
+    (subst (λ (ps : List Decl). Goes base least s d (map declared (map declaration_tree ps))
+    c.loop-port.header.broken) none c.loop-port.invariant.goes)

@@ -1,6 +1,0 @@
-use Rattle.sv_flatten.proofs.StatementsSame.{statement_same}
-use Rattle.sv_flatten.proofs.bodies.flat_statements_do_what_their_sources_do.Goals as goal
-
-pub returns : goal.returns
-returns c names signals numbering s f walked fit flat source before =
-    statement_same names signals numbering s f walked fit flat source before

@@ -1,7 +1,0 @@
-use Rattle.sv_flatten.proofs.LinksSame.{input_link_same}
-use Rattle.sv_flatten.proofs.bodies.input_links_assign_their_ports.Goals as goal
-
-pub returns : goal.returns
-returns c signals outer declared listed ports d e process walked some is by_name by_number values =
-    input_link_same signals outer declared listed ports d e process walked some is by_name
-    by_number values

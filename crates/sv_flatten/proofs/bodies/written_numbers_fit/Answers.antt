@@ -1,5 +1,0 @@
-use Rattle.sv_flatten.proofs.WrittenNumbers.{selectors_fit}
-use Rattle.sv_flatten.proofs.bodies.written_numbers_fit.Goals as goal
-
-pub returns : goal.returns
-returns c s = selectors_fit s

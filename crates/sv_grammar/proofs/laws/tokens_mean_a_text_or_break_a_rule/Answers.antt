@@ -1,5 +1,0 @@
-use Rattle.sv_grammar.proofs.Decisions.{means_or_breaks}
-use Rattle.sv_grammar.proofs.laws.tokens_mean_a_text_or_break_a_rule.Goals as goal
-
-pub returns : goal.returns
-returns c tokens stop = means_or_breaks tokens stop

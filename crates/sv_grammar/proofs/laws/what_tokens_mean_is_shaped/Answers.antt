@@ -1,5 +1,0 @@
-use Rattle.sv_grammar.proofs.ShapedTexts.{text_is_shaped}
-use Rattle.sv_grammar.proofs.laws.what_tokens_mean_is_shaped.Goals as goal
-
-pub returns : goal.returns
-returns c tokens text is = text_is_shaped tokens text is

@@ -1,0 +1,12 @@
+use Rattle.std.proofs.Common.{◌≡◌, ◌≤◌, ℕ, List, take}
+use Rattle.sv_token.specs.Lexemes.{placed_tokens}
+use Rattle.sv_ast.specs.GrammarRules as grammar
+use Rattle.sv_parse_expr.proofs.forms.open_brackets.Given as goal
+
+abbrev pub invariant-loop-token : goal.invariant-loop-token
+invariant-loop-token l =
+    record {
+      within : l.count ≤ l.token-index;
+      is : (bytes : List ℕ) →
+          l.count ≡ grammar.open_brackets (placed_tokens bytes (take l.token-index l.tokens));
+    }

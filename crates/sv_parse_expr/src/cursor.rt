@@ -1,0 +1,212 @@
+// Single tokens, read from the front of those that are left.
+ghost use Rattle.std.specs.Prelude.{◌≡◌, ◌+◌, ℕ, List, length, true, false, IfOk, [], ◌∷◌, IfErr};
+ghost use Rattle.std.specs.Prelude.{IfSome, IfNone};
+ghost use Rattle.sv_token.specs.Lexemes.{placed_tokens, literal_of, between};
+ghost use Rattle.sv_ast.specs.GrammarForms.{sign_at, word_at, name_at, number_at, a_sign, a_word};
+ghost use Rattle.sv_ast.specs.GrammarStatements.{IsNext};
+ghost use Rattle.sv_parse_machine.specs.StatementTable.{is_sign};
+ghost use Rattle.sv_parse_machine.specs.Symbols.{outer, punctuation, plain_name, plain_number};
+ghost use Rattle.sv_parse_machine.specs.Reads.{Reads, NextIsNotSign, NextIsNotWord, NextIsNoName};
+ghost use Rattle.sv_parse_machine.specs.Reads.{NextIsNoNumber};
+ghost use Rattle.sv_parse_expr.specs.Expectations.{HaltsAs, StopsAt};
+
+use crate::refused_words::is_refused;
+use crate::stop::{Breach, Expected, Stop};
+use std::alloc::Global;
+use sv_num::{Name, Place};
+use sv_token::{Lit, SignKind, Token, TokenKind, WordKind};
+
+/// The stop at the first token that is left, with which no text goes on.
+pub fn stuck(expected: Expected, tokens: &[Token]) -> Stop
+    ensures { result ≡ Stop.Broken (Breach.Stuck expected) (length tokens.now) }
+{
+    Stop::Broken(Breach::Stuck(expected), tokens.len())
+}
+
+/// The stop at the first token that is left, where nothing may begin that a form which is left out
+/// could stand for.
+pub fn unexpected(tokens: &[Token]) -> Stop
+    ensures { result ≡ Stop.Broken (Breach.Stuck Expected.Something) (length tokens.now) }
+{
+    stuck(Expected::Something, tokens)
+}
+
+// Whether the token is this sign, which is no operator.
+fn is_sign(kind: TokenKind, sign: SignKind) -> bool
+    ensures is { result ≡ true → kind ≡ TokenKind.Sign sign }
+    ensures other { result ≡ false → kind ≡ TokenKind.Sign sign → ⊥ }
+{
+    kind == TokenKind::Sign(sign)
+}
+
+fn is_word(kind: TokenKind, word: WordKind) -> bool
+    ensures is { result ≡ true → kind ≡ TokenKind.Word word }
+    ensures other { result ≡ false → kind ≡ TokenKind.Word word → ⊥ }
+{
+    kind == TokenKind::Word(word)
+}
+
+/// The place of this punctuation and the tokens behind it, if it comes.
+pub fn sign_at(sign: SignKind, tokens: &[Token]) -> Option<(Place, &[Token])>
+    ensures is { (bytes : List ℕ) →
+        IfSome result (λ x. sign_at sign x.0 (placed_tokens bytes tokens.now)
+        (placed_tokens bytes x.1.now)) }
+    ensures one { IfSome result (λ x. length tokens.now ≡ length x.1.now + 1) }
+    ensures none { (bytes : List ℕ) →
+        IfNone result (NextIsNotSign sign (placed_tokens bytes tokens.now)) }
+{
+    match tokens {
+        [first, rest @ ..] if is_sign(first.kind, sign) => Some((first.place, rest)),
+        _ => None,
+    }
+}
+
+/// The place of this word and the tokens behind it, if it comes.
+pub fn word_at(word: WordKind, tokens: &[Token]) -> Option<(Place, &[Token])>
+    ensures is { (bytes : List ℕ) →
+        IfSome result (λ x. word_at word x.0 (placed_tokens bytes tokens.now)
+        (placed_tokens bytes x.1.now)) }
+    ensures one { IfSome result (λ x. length tokens.now ≡ length x.1.now + 1) }
+    ensures other { (bytes : List ℕ) →
+        IfNone result (IsNext word (placed_tokens bytes tokens.now) → ⊥) }
+    ensures none { (bytes : List ℕ) →
+        IfNone result (NextIsNotWord word (placed_tokens bytes tokens.now)) }
+{
+    match tokens {
+        [first, rest @ ..] if is_word(first.kind, word) => Some((first.place, rest)),
+        _ => None,
+    }
+}
+
+/// The tokens behind this punctuation, if it comes.
+pub fn behind(sign: SignKind, tokens: &[Token]) -> Option<&[Token]>
+    ensures is { (bytes : List ℕ) →
+        IfSome result (λ rest.
+        a_sign sign (placed_tokens bytes tokens.now) (placed_tokens bytes rest.now)) }
+    ensures one { IfSome result (λ rest. length tokens.now ≡ length rest.now + 1) }
+    ensures none { (bytes : List ℕ) →
+        IfNone result (NextIsNotSign sign (placed_tokens bytes tokens.now)) }
+{
+    match sign_at(sign, tokens) {
+        Some((_place, rest)) => Some(rest),
+        None => None,
+    }
+}
+
+/// The tokens behind this word, if it comes.
+pub fn behind_word(word: WordKind, tokens: &[Token]) -> Option<&[Token]>
+    ensures is { (bytes : List ℕ) →
+        IfSome result (λ rest.
+        a_word word (placed_tokens bytes tokens.now) (placed_tokens bytes rest.now)) }
+    ensures one { IfSome result (λ rest. length tokens.now ≡ length rest.now + 1) }
+    ensures other { (bytes : List ℕ) →
+        IfNone result (IsNext word (placed_tokens bytes tokens.now) → ⊥) }
+    ensures none { (bytes : List ℕ) →
+        IfNone result (NextIsNotWord word (placed_tokens bytes tokens.now)) }
+{
+    match word_at(word, tokens) {
+        Some((_place, rest)) => Some(rest),
+        None => None,
+    }
+}
+
+/// The tokens behind this punctuation, which has to come.
+pub fn expect_sign(sign: SignKind, tokens: &[Token]) -> Result<&[Token], Stop>
+    ensures is { (bytes : List ℕ) →
+        IfOk result (λ rest.
+        a_sign sign (placed_tokens bytes tokens.now) (placed_tokens bytes rest.now)) }
+    ensures one { IfOk result (λ rest. length tokens.now ≡ length rest.now + 1) }
+    ensures stops { (bytes : List ℕ) →
+        IfErr result (λ e. StopsAt tokens.now
+        (NextIsNotSign sign (placed_tokens bytes tokens.now)) e) }
+    ensures reads { (bytes : List ℕ) → is_sign sign sign ≡ true →
+        IfOk result (λ rest.
+        Reads (outer (punctuation sign) ∷ []) [] (placed_tokens bytes tokens.now)
+        (placed_tokens bytes rest.now)) }
+    ensures halts { (bytes : List ℕ) →
+        IfErr result (λ e. HaltsAs (outer (punctuation sign) ∷ [])
+        (placed_tokens bytes tokens.now) e) }
+{
+    match behind(sign, tokens) {
+        Some(rest) => Ok(rest),
+        None => Err(unexpected(tokens)),
+    }
+}
+
+/// The place of this word, which has to come, and the tokens behind it.
+pub fn expect_word(word: WordKind, tokens: &[Token]) -> Result<(Place, &[Token]), Stop>
+    ensures is { (bytes : List ℕ) →
+        IfOk result (λ x. word_at word x.0 (placed_tokens bytes tokens.now)
+        (placed_tokens bytes x.1.now)) }
+    ensures one { IfOk result (λ x. length tokens.now ≡ length x.1.now + 1) }
+    ensures stops { (bytes : List ℕ) →
+        IfErr result (λ e. StopsAt tokens.now
+        (NextIsNotWord word (placed_tokens bytes tokens.now)) e) }
+{
+    match word_at(word, tokens) {
+        Some(found) => Ok(found),
+        None => Err(unexpected(tokens)),
+    }
+}
+
+/// A number with its place, which has to come, and the tokens behind it.
+pub fn read_number(tokens: &[Token]) -> Result<(Lit, Place, &[Token]), Stop>
+    ensures is { (bytes : List ℕ) →
+        IfOk result (λ x. number_at (literal_of x.0) x.1 (placed_tokens bytes tokens.now)
+        (placed_tokens bytes x.2.now)) }
+    ensures one { IfOk result (λ x. length tokens.now ≡ length x.2.now + 1) }
+    ensures stops { (bytes : List ℕ) →
+        IfErr result (λ e. StopsAt tokens.now (NextIsNoNumber (placed_tokens bytes tokens.now)) e) }
+    ensures reads { (bytes : List ℕ) →
+        IfOk result (λ x. Reads (outer plain_number ∷ []) [] (placed_tokens bytes tokens.now)
+        (placed_tokens bytes x.2.now)) }
+    ensures halts { (bytes : List ℕ) →
+        IfErr result (λ e. HaltsAs (outer plain_number ∷ []) (placed_tokens bytes tokens.now) e) }
+{
+    match tokens {
+        [first, rest @ ..] => match first.kind {
+            TokenKind::Number(value) => Ok((value, first.place, rest)),
+            _ => Err(unexpected(tokens)),
+        },
+        [] => Err(unexpected(tokens)),
+    }
+}
+
+/// The bytes of a token. A range past the end is cut off there.
+pub fn text_of(bytes: &[u8], token: Token) -> &[u8]
+    ensures { result.now ≡ between token.start token.«end» bytes.now }
+{
+    let end = token.end.min(bytes.len());
+    let start = token.start.min(end);
+    &bytes[start..end]
+}
+
+/// A name with its place, which has to come, and the tokens behind it.
+pub fn read_name<'a>(
+    alloc: Global,
+    bytes: &[u8],
+    tokens: &'a [Token],
+) -> Result<(Name, Place, &'a [Token]), Stop>
+    ensures is { IfOk result (λ x.
+        name_at x.0 x.1 (placed_tokens bytes.now tokens.now) (placed_tokens bytes.now x.2.now)) }
+    ensures one { IfOk result (λ x. length tokens.now ≡ length x.2.now + 1) }
+    ensures stops { IfErr result (λ e.
+        StopsAt tokens.now (NextIsNoName (placed_tokens bytes.now tokens.now)) e) }
+    ensures reads { IfOk result (λ x.
+        Reads (outer plain_name ∷ []) [] (placed_tokens bytes.now tokens.now)
+        (placed_tokens bytes.now x.2.now)) }
+    ensures halts { IfErr result (λ e.
+        HaltsAs (outer plain_name ∷ []) (placed_tokens bytes.now tokens.now) e) }
+{
+    match tokens {
+        [first, rest @ ..] if first.kind == TokenKind::Name => {
+            let text = text_of(bytes, *first);
+            if is_refused(text) {
+                Err(unexpected(tokens))
+            } else {
+                Ok((Name::new(alloc, text)?, first.place, rest))
+            }
+        }
+        _ => Err(unexpected(tokens)),
+    }
+}

@@ -1,0 +1,441 @@
+// Expressions (IEEE 1364-2005, clause 5).
+ghost use Rattle.std.specs.Prelude.{◌≡◌, ◌+◌, ◌-◌, ◌<◌, ◌≤◌, ℕ, List, [], ◌∷◌, length, IfOk, IfErr};
+ghost use Rattle.std.specs.Option.{option_map};
+ghost use Rattle.sv_token.specs.Lexemes.{placed_tokens};
+ghost use Rattle.sv_ast.specs.Views.{expression_tree, expression_trees};
+ghost use Rattle.sv_ast.specs.GrammarForms.{in_parentheses};
+ghost use Rattle.sv_ast.specs.GrammarExpressions.{IsExpression};
+ghost use Rattle.sv_ast.specs.GrammarRules.{all_limits};
+ghost use Rattle.sv_parse_machine.specs.Symbols.{Inner, inner, operand, tail, selection_end, members};
+ghost use Rattle.sv_parse_machine.specs.Symbols.{inner_brace, outer, expression, punctuation};
+ghost use Rattle.sv_parse_machine.specs.Reads.{Reads, NextIsLooser, NextIsNotSign, NextIsSign};
+ghost use Rattle.sv_parse_machine.specs.Reads.{NextIsAnyName, NextIsNumber, NextIsAnyOperator};
+ghost use Rattle.sv_parse_expr.specs.Expectations.{HaltsAs};
+ghost use Rattle.sv_parse_expr.specs.Reading.{IsChain, IsBounded, AreLaterParts, IsRepeated};
+
+use crate::cursor::{behind, expect_sign, read_name, read_number, sign_at, stuck, unexpected};
+use crate::nodes::{binary, choice, join, repeat, selected, unary};
+use crate::operators::{LOOSEST, binary_of, unary_at};
+use crate::room::Room;
+use crate::stop::{Expected, Stop};
+use std::alloc::Global;
+use sv_ast::Expr;
+use sv_token::{SignKind, Token, TokenKind};
+
+// An expression inside another one, or a whole one.
+#[cycle(expression)]
+fn read_inner<'a>(
+    alloc: Global,
+    bytes: &[u8],
+    room: Room,
+    tokens: &'a [Token],
+) -> Result<(Expr, &'a [Token]), Stop>
+    ensures is { IfOk result (λ x.
+        IsChain room.levels 11 (expression_tree x.0) (placed_tokens bytes.now tokens.now)
+        (placed_tokens bytes.now x.1.now)) }
+    ensures shorter { IfOk result (λ x. length x.1.now < length tokens.now) }
+    ensures counted { IfOk result (λ x. room.beyond ≤ length x.1.now) }
+    ensures reads { (start : ℕ) → room.beyond ≡ start - 1024 →
+        IfOk result (λ x. Reads
+        (inner start (operand room.levels) ∷ inner start (tail room.levels) ∷ []) []
+        (placed_tokens bytes.now tokens.now) (placed_tokens bytes.now x.1.now)) }
+    ensures halts { (start : ℕ) → room.beyond ≡ start - 1024 →
+        IfErr result (λ e. HaltsAs
+        (inner start (operand room.levels) ∷ inner start (tail room.levels) ∷ [])
+        (placed_tokens bytes.now tokens.now) e) }
+{
+    let (cond, rest) = read_chain(alloc, bytes, room, LOOSEST, tokens)?;
+    let Some((place, after)) = sign_at(SignKind::Question, rest) else {
+        return Ok((cond, rest));
+    };
+    let inside = room.opened(rest)?;
+    let (yes, rest) = read_inner(alloc, bytes, inside, after)?;
+    let rest = inside.expect(SignKind::Colon, rest)?;
+    let (no, rest) = read_inner(alloc, bytes, inside, rest)?;
+    Ok((choice(alloc, place, cond, yes, no)?, rest))
+}
+
+// Operands with operators between them that are no looser than the precedence. Each operand of an
+// operator of that precedence is a chain of tighter ones, so the calls go ten deep for a level of
+// the text, and never deeper for a longer chain.
+#[cycle(expression)]
+fn read_chain<'a>(
+    alloc: Global,
+    bytes: &[u8],
+    room: Room,
+    precedence: u8,
+    tokens: &'a [Token],
+) -> Result<(Expr, &'a [Token]), Stop>
+    ensures is { IfOk result (λ x.
+        IsChain room.levels precedence (expression_tree x.0) (placed_tokens bytes.now tokens.now)
+        (placed_tokens bytes.now x.1.now)) }
+    ensures shorter { IfOk result (λ x. length x.1.now < length tokens.now) }
+    ensures counted { IfOk result (λ x. room.beyond ≤ length x.1.now) }
+    ensures reads { (start : ℕ) → room.beyond ≡ start - 1024 →
+        IfOk result (λ x. Reads
+        (inner start (operand room.levels) ∷ inner start (tail room.levels) ∷ [])
+        (inner start (tail room.levels) ∷ []) (placed_tokens bytes.now tokens.now)
+        (placed_tokens bytes.now x.1.now)) }
+    ensures halts { (start : ℕ) → room.beyond ≡ start - 1024 →
+        IfErr result (λ e. HaltsAs
+        (inner start (operand room.levels) ∷ inner start (tail room.levels) ∷ [])
+        (placed_tokens bytes.now tokens.now) e) }
+    ensures looser { IfOk result (λ x. NextIsLooser precedence (placed_tokens bytes.now x.1.now)) }
+{
+    if precedence == 0 {
+        let (operand, rest) = read_operand(alloc, bytes, room, tokens)?;
+        return Ok((operand, rest));
+    }
+    let (mut left, mut rest) = read_chain(alloc, bytes, room, precedence - 1, tokens)?;
+    while let Some((op, place, after)) = binary_of(precedence, rest) {
+        room.count(rest)?;
+        let (right, more) = read_chain(alloc, bytes, room, precedence - 1, after)?;
+        left = binary(alloc, op, place, left, right)?;
+        rest = more;
+    }
+    Ok((left, rest))
+}
+
+#[cycle(expression)]
+fn read_operand<'a>(
+    alloc: Global,
+    bytes: &[u8],
+    room: Room,
+    tokens: &'a [Token],
+) -> Result<(Expr, &'a [Token]), Stop>
+    ensures is { IfOk result (λ x.
+        IsChain room.levels 0 (expression_tree x.0) (placed_tokens bytes.now tokens.now)
+        (placed_tokens bytes.now x.1.now)) }
+    ensures shorter { IfOk result (λ x. length x.1.now < length tokens.now) }
+    ensures counted { IfOk result (λ x. room.beyond ≤ length x.1.now) }
+    ensures reads { (start : ℕ) → room.beyond ≡ start - 1024 →
+        IfOk result (λ x. Reads (inner start (operand room.levels) ∷ []) []
+        (placed_tokens bytes.now tokens.now) (placed_tokens bytes.now x.1.now)) }
+    ensures halts { (start : ℕ) → room.beyond ≡ start - 1024 →
+        IfErr result (λ e. HaltsAs (inner start (operand room.levels) ∷ [])
+        (placed_tokens bytes.now tokens.now) e) }
+{
+    let [first, ..] = tokens else {
+        return Err(unexpected(tokens));
+    };
+    match first.kind {
+        TokenKind::Number(_) => read_literal(room, tokens),
+        TokenKind::Name => read_named(alloc, bytes, room, tokens),
+        TokenKind::Sign(SignKind::OpenParenthesis) => read_group(alloc, bytes, room, tokens),
+        TokenKind::Sign(SignKind::OpenBrace) => read_braces(alloc, bytes, room, tokens),
+        TokenKind::Sign(SignKind::Operator(_)) => read_prefixed(alloc, bytes, room, tokens),
+        _ => Err(unexpected(tokens)),
+    }
+}
+
+// A number.
+fn read_literal(room: Room, tokens: &[Token]) -> Result<(Expr, &[Token]), Stop>
+    ensures is { (bytes : List ℕ) →
+        IfOk result (λ x. IsChain room.levels 0 (expression_tree x.0)
+        (placed_tokens bytes tokens.now) (placed_tokens bytes x.1.now)) }
+    ensures shorter { IfOk result (λ x. length x.1.now < length tokens.now) }
+    ensures counted { IfOk result (λ x. room.beyond ≤ length x.1.now) }
+    ensures reads { (bytes : List ℕ) (start : ℕ) → room.beyond ≡ start - 1024 →
+        IfOk result (λ x. Reads (inner start (operand room.levels) ∷ []) []
+        (placed_tokens bytes tokens.now) (placed_tokens bytes x.1.now)) }
+    ensures halts { (bytes : List ℕ) (start : ℕ) → room.beyond ≡ start - 1024 →
+        NextIsNumber (placed_tokens bytes tokens.now) →
+        IfErr result (λ e. HaltsAs (inner start (operand room.levels) ∷ [])
+        (placed_tokens bytes tokens.now) e) }
+{
+    let (value, place, rest) = read_number(tokens)?;
+    room.count(tokens)?;
+    Ok((Expr::Number(value, place), rest))
+}
+
+// An expression in parentheses.
+#[cycle(expression)]
+fn read_group<'a>(
+    alloc: Global,
+    bytes: &[u8],
+    room: Room,
+    tokens: &'a [Token],
+) -> Result<(Expr, &'a [Token]), Stop>
+    ensures is { IfOk result (λ x.
+        IsChain room.levels 0 (expression_tree x.0) (placed_tokens bytes.now tokens.now)
+        (placed_tokens bytes.now x.1.now)) }
+    ensures shorter { IfOk result (λ x. length x.1.now < length tokens.now) }
+    ensures counted { IfOk result (λ x. room.beyond ≤ length x.1.now) }
+    ensures reads { (start : ℕ) → room.beyond ≡ start - 1024 →
+        IfOk result (λ x. Reads (inner start (operand room.levels) ∷ []) []
+        (placed_tokens bytes.now tokens.now) (placed_tokens bytes.now x.1.now)) }
+    ensures halts { (start : ℕ) → room.beyond ≡ start - 1024 →
+        NextIsSign SignKind.OpenParenthesis (placed_tokens bytes.now tokens.now) →
+        IfErr result (λ e. HaltsAs (inner start (operand room.levels) ∷ [])
+        (placed_tokens bytes.now tokens.now) e) }
+{
+    let rest = expect_sign(SignKind::OpenParenthesis, tokens)?;
+    let inside = room.opened(tokens)?;
+    let (expr, rest) = read_inner(alloc, bytes, inside, rest)?;
+    let rest = inside.expect(SignKind::CloseParenthesis, rest)?;
+    Ok((expr, rest))
+}
+
+// An operator, which has to be one before an operand, with its operand.
+#[cycle(expression)]
+fn read_prefixed<'a>(
+    alloc: Global,
+    bytes: &[u8],
+    room: Room,
+    tokens: &'a [Token],
+) -> Result<(Expr, &'a [Token]), Stop>
+    ensures is { IfOk result (λ x.
+        IsChain room.levels 0 (expression_tree x.0) (placed_tokens bytes.now tokens.now)
+        (placed_tokens bytes.now x.1.now)) }
+    ensures shorter { IfOk result (λ x. length x.1.now < length tokens.now) }
+    ensures counted { IfOk result (λ x. room.beyond ≤ length x.1.now) }
+    ensures reads { (start : ℕ) → room.beyond ≡ start - 1024 →
+        IfOk result (λ x. Reads (inner start (operand room.levels) ∷ []) []
+        (placed_tokens bytes.now tokens.now) (placed_tokens bytes.now x.1.now)) }
+    ensures halts { (start : ℕ) → room.beyond ≡ start - 1024 →
+        NextIsAnyOperator (placed_tokens bytes.now tokens.now) →
+        IfErr result (λ e. HaltsAs (inner start (operand room.levels) ∷ [])
+        (placed_tokens bytes.now tokens.now) e) }
+{
+    let Some((op, place, rest)) = unary_at(tokens) else {
+        return Err(unexpected(tokens));
+    };
+    let inside = room.opened(tokens)?;
+    let (expr, rest) = read_operand(alloc, bytes, inside, rest)?;
+    Ok((unary(alloc, op, place, expr)?, rest))
+}
+
+// A name, with or without a bit or a part of it.
+#[cycle(expression)]
+fn read_named<'a>(
+    alloc: Global,
+    bytes: &[u8],
+    room: Room,
+    tokens: &'a [Token],
+) -> Result<(Expr, &'a [Token]), Stop>
+    ensures is { IfOk result (λ x.
+        IsChain room.levels 0 (expression_tree x.0) (placed_tokens bytes.now tokens.now)
+        (placed_tokens bytes.now x.1.now)) }
+    ensures shorter { IfOk result (λ x. length x.1.now < length tokens.now) }
+    ensures counted { IfOk result (λ x. room.beyond ≤ length x.1.now) }
+    ensures reads { (start : ℕ) → room.beyond ≡ start - 1024 →
+        IfOk result (λ x. Reads (inner start (operand room.levels) ∷ []) []
+        (placed_tokens bytes.now tokens.now) (placed_tokens bytes.now x.1.now)) }
+    ensures halts { (start : ℕ) → room.beyond ≡ start - 1024 →
+        NextIsAnyName (placed_tokens bytes.now tokens.now) →
+        IfErr result (λ e. HaltsAs (inner start (operand room.levels) ∷ [])
+        (placed_tokens bytes.now tokens.now) e) }
+{
+    let (name, place, rest) = read_name(alloc, bytes, tokens)?;
+    room.count(tokens)?;
+    if let Some(after) = behind(SignKind::OpenBracket, rest) {
+        let inside = room.opened(rest)?;
+        let (high, low, rest) = read_bounds(alloc, bytes, inside, after)?;
+        return Ok((selected(alloc, name, place, high, low)?, rest));
+    }
+    if let Some(_part) = behind(SignKind::Dot, rest) {
+        return Err(stuck(Expected::BehindName, rest));
+    }
+    Ok((Expr::Name(name, place), rest))
+}
+
+// The index of a bit or the bounds of a part, behind the `[`, and the `]`.
+#[cycle(expression)]
+fn read_bounds<'a>(
+    alloc: Global,
+    bytes: &[u8],
+    room: Room,
+    tokens: &'a [Token],
+) -> Result<(Expr, Option<Expr>, &'a [Token]), Stop>
+    ensures is { IfOk result (λ x.
+        IsBounded room.levels (expression_tree x.0) (option_map expression_tree x.1)
+        (placed_tokens bytes.now tokens.now) (placed_tokens bytes.now x.2.now)) }
+    ensures shorter { IfOk result (λ x. length x.2.now < length tokens.now) }
+    ensures counted { IfOk result (λ x. room.beyond ≤ length x.2.now) }
+    ensures reads { (start : ℕ) → room.beyond ≡ start - 1024 →
+        IfOk result (λ x. Reads
+        (inner start (operand room.levels) ∷ inner start (tail room.levels) ∷
+        inner start (selection_end room.levels) ∷ []) [] (placed_tokens bytes.now tokens.now)
+        (placed_tokens bytes.now x.2.now)) }
+    ensures halts { (start : ℕ) → room.beyond ≡ start - 1024 →
+        IfErr result (λ e. HaltsAs
+        (inner start (operand room.levels) ∷ inner start (tail room.levels) ∷
+        inner start (selection_end room.levels) ∷ []) (placed_tokens bytes.now tokens.now) e) }
+{
+    let (first, rest) = read_inner(alloc, bytes, room, tokens)?;
+    if let Some(after) = behind(SignKind::CloseBracket, rest) {
+        room.count(rest)?;
+        return Ok((first, None, after));
+    }
+    let rest = room.expect(SignKind::Colon, rest)?;
+    let (low, rest) = read_inner(alloc, bytes, room, rest)?;
+    let rest = room.expect(SignKind::CloseBracket, rest)?;
+    Ok((first, Some(low), rest))
+}
+
+// A join or a replication.
+#[cycle(expression)]
+fn read_braces<'a>(
+    alloc: Global,
+    bytes: &[u8],
+    room: Room,
+    tokens: &'a [Token],
+) -> Result<(Expr, &'a [Token]), Stop>
+    ensures is { IfOk result (λ x.
+        IsChain room.levels 0 (expression_tree x.0) (placed_tokens bytes.now tokens.now)
+        (placed_tokens bytes.now x.1.now)) }
+    ensures shorter { IfOk result (λ x. length x.1.now < length tokens.now) }
+    ensures counted { IfOk result (λ x. room.beyond ≤ length x.1.now) }
+    ensures reads { (start : ℕ) → room.beyond ≡ start - 1024 →
+        IfOk result (λ x. Reads (inner start (operand room.levels) ∷ []) []
+        (placed_tokens bytes.now tokens.now) (placed_tokens bytes.now x.1.now)) }
+    ensures halts { (start : ℕ) → room.beyond ≡ start - 1024 →
+        NextIsSign SignKind.OpenBrace (placed_tokens bytes.now tokens.now) →
+        IfErr result (λ e. HaltsAs (inner start (operand room.levels) ∷ [])
+        (placed_tokens bytes.now tokens.now) e) }
+{
+    let Some((place, rest)) = sign_at(SignKind::OpenBrace, tokens) else {
+        return Err(unexpected(tokens));
+    };
+    let inside = room.opened(tokens)?;
+    let (first, rest) = read_inner(alloc, bytes, inside, rest)?;
+    if let Some(after) = behind(SignKind::OpenBrace, rest) {
+        let innermost = inside.opened(rest)?;
+        let (parts, rest) = read_repeated(alloc, bytes, innermost, after)?;
+        return Ok((repeat(alloc, place, first, parts)?, rest));
+    }
+    let (parts, rest) = read_later_parts(alloc, bytes, inside, first, rest)?;
+    let rest = inside.expect(SignKind::CloseBrace, rest)?;
+    Ok((join(place, parts), rest))
+}
+
+// The parts of a replication, behind its second brace, and both closing braces.
+#[cycle(expression)]
+fn read_repeated<'a>(
+    alloc: Global,
+    bytes: &[u8],
+    room: Room,
+    tokens: &'a [Token],
+) -> Result<(Vec<Expr>, &'a [Token]), Stop>
+    ensures is { IfOk result (λ x.
+        IsRepeated room.levels (expression_trees x.0.items) (placed_tokens bytes.now tokens.now)
+        (placed_tokens bytes.now x.1.now)) }
+    ensures shorter { IfOk result (λ x. length x.1.now < length tokens.now) }
+    ensures counted { IfOk result (λ x. room.beyond ≤ length x.1.now) }
+    ensures reads { (start : ℕ) → room.beyond ≡ start - 1024 →
+        IfOk result (λ x. Reads
+        (inner start (operand room.levels) ∷ inner start (tail room.levels) ∷
+        inner start (members room.levels) ∷ inner start inner_brace ∷ []) []
+        (placed_tokens bytes.now tokens.now) (placed_tokens bytes.now x.1.now)) }
+    ensures halts { (start : ℕ) → room.beyond ≡ start - 1024 →
+        IfErr result (λ e. HaltsAs
+        (inner start (operand room.levels) ∷ inner start (tail room.levels) ∷
+        inner start (members room.levels) ∷ inner start inner_brace ∷ [])
+        (placed_tokens bytes.now tokens.now) e) }
+{
+    let (first, rest) = read_inner(alloc, bytes, room, tokens)?;
+    let (parts, rest) = read_later_parts(alloc, bytes, room, first, rest)?;
+    let rest = room.expect(SignKind::CloseBrace, rest)?;
+    let rest = room.expect(SignKind::CloseBrace, rest)?;
+    Ok((parts, rest))
+}
+
+// The first part, which is read already, and those that follow it.
+#[cycle(expression)]
+fn read_later_parts<'a>(
+    alloc: Global,
+    bytes: &[u8],
+    room: Room,
+    first: Expr,
+    tokens: &'a [Token],
+) -> Result<(Vec<Expr>, &'a [Token]), Stop>
+    ensures is { IfOk result (λ x.
+        AreLaterParts room.levels (expression_tree first) (expression_trees x.0.items)
+        (placed_tokens bytes.now tokens.now) (placed_tokens bytes.now x.1.now)) }
+    ensures shorter { IfOk result (λ x. length x.1.now ≤ length tokens.now) }
+    ensures reads { (start : ℕ) → room.beyond ≡ start - 1024 →
+        IfOk result (λ x. Reads (inner start (members room.levels) ∷ [])
+        (inner start (members room.levels) ∷ []) (placed_tokens bytes.now tokens.now)
+        (placed_tokens bytes.now x.1.now)) }
+    ensures halts { (start : ℕ) → room.beyond ≡ start - 1024 →
+        IfErr result (λ e. HaltsAs (inner start (members room.levels) ∷ [])
+        (placed_tokens bytes.now tokens.now) e) }
+    ensures ends { IfOk result (λ x.
+        NextIsNotSign SignKind.Comma (placed_tokens bytes.now x.1.now)) }
+{
+    let mut parts = Vec::new(alloc);
+    parts.push(first)?;
+    let mut rest = tokens;
+    while let Some(after) = behind(SignKind::Comma, rest) {
+        room.count(rest)?;
+        let (part, more) = read_inner(alloc, bytes, room, after)?;
+        parts.push(part)?;
+        rest = more;
+    }
+    Ok((parts, rest))
+}
+
+/// An expression that stands in no other one, where so many levels are open around it, and the
+/// tokens behind it.
+pub fn read_expression<'a>(
+    alloc: Global,
+    bytes: &[u8],
+    levels: usize,
+    tokens: &'a [Token],
+) -> Result<(Expr, &'a [Token]), Stop>
+    ensures is { IfOk result (λ x.
+        IsExpression all_limits levels (expression_tree x.0) (placed_tokens bytes.now tokens.now)
+        (placed_tokens bytes.now x.1.now)) }
+    ensures shorter { IfOk result (λ x. length x.1.now < length tokens.now) }
+    ensures reads { IfOk result (λ x.
+        Reads (outer (expression levels) ∷ []) [] (placed_tokens bytes.now tokens.now)
+        (placed_tokens bytes.now x.1.now)) }
+    ensures halts { IfErr result (λ e.
+        HaltsAs (outer (expression levels) ∷ []) (placed_tokens bytes.now tokens.now) e) }
+{
+    let room = Room::of(levels, tokens);
+    let (expr, rest) = read_inner(alloc, bytes, room, tokens)?;
+    Ok((expr, rest))
+}
+
+/// An expression that may have no token, since it begins an arm too many. None is ever read.
+pub fn read_expression_too_many<'a>(
+    alloc: Global,
+    bytes: &[u8],
+    levels: usize,
+    tokens: &'a [Token],
+) -> Result<(Expr, &'a [Token]), Stop>
+    ensures never { IfOk result (λ x. ⊥) }
+    ensures halts { IfErr result (λ e.
+        HaltsAs (inner (length tokens.now + 1024) (operand levels) ∷
+        inner (length tokens.now + 1024) (tail levels) ∷ [])
+        (placed_tokens bytes.now tokens.now) e) }
+{
+    read_inner(alloc, bytes, Room::none(levels, tokens), tokens)
+}
+
+/// An expression in parentheses that are no part of it.
+pub fn read_in_parentheses<'a>(
+    alloc: Global,
+    bytes: &[u8],
+    levels: usize,
+    tokens: &'a [Token],
+) -> Result<(Expr, &'a [Token]), Stop>
+    ensures is { IfOk result (λ x.
+        in_parentheses (IsExpression all_limits levels (expression_tree x.0))
+        (placed_tokens bytes.now tokens.now) (placed_tokens bytes.now x.1.now)) }
+    ensures shorter { IfOk result (λ x. length x.1.now < length tokens.now) }
+    ensures reads { IfOk result (λ x.
+        Reads (outer (punctuation SignKind.OpenParenthesis) ∷ outer (expression levels) ∷
+        outer (punctuation SignKind.CloseParenthesis) ∷ []) [] (placed_tokens bytes.now tokens.now)
+        (placed_tokens bytes.now x.1.now)) }
+    ensures halts { IfErr result (λ e.
+        HaltsAs (outer (punctuation SignKind.OpenParenthesis) ∷ outer (expression levels) ∷
+        outer (punctuation SignKind.CloseParenthesis) ∷ [])
+        (placed_tokens bytes.now tokens.now) e) }
+{
+    let rest = expect_sign(SignKind::OpenParenthesis, tokens)?;
+    let (expr, rest) = read_expression(alloc, bytes, levels, rest)?;
+    let rest = expect_sign(SignKind::CloseParenthesis, rest)?;
+    Ok((expr, rest))
+}

@@ -1,0 +1,643 @@
+-- Where a lexeme is not taken, the table says which of four words may begin there.
+use Rattle.std.proofs.Common.{ℕ, zero, suc, ◌+◌, Bool, true, false, not, ◌&&◌, ◌||◌, List, [], ◌∷◌}
+use Rattle.std.proofs.Common.{Option, Some, None, refl}
+use Rattle.std.specs.Prelude.{IsTrue}
+use Rattle.std.proofs.lemmas.Bool.{false≢true}
+use Rattle.sv_num.specs.declared.operators.UnOp.{UnOp}
+use Rattle.sv_ast.specs.GrammarForms.{binary_operator, unary_operator}
+use Rattle.sv_token.specs.declared.keywords.WordKind.TheVariants as words
+use Rattle.sv_token.specs.declared.signs.SignKind.{SignKind}
+use Rattle.sv_token.specs.declared.signs.SignKind.TheVariants as signs
+use Rattle.sv_token.specs.Lexemes.{Lexeme, word, identifier, numeral, sign}
+use Rattle.sv_token.specs.Words.{is_refused_word}
+use Rattle.sv_parse_machine.specs.Symbols.{punctuation, plain_name, plain_number, expression, more_names}
+use Rattle.sv_parse_machine.specs.Symbols.{more_values, perhaps_lattice, lattice_lines, less_equal}
+use Rattle.sv_parse_machine.specs.Symbols.{perhaps_maps, map_name, perhaps_key_range, rows}
+use Rattle.sv_parse_machine.specs.Symbols.{perhaps_second_key, end_of_map, one_module}
+use Rattle.sv_parse_machine.specs.Symbols.{perhaps_header_parameters, header_parameter}
+use Rattle.sv_parse_machine.specs.Symbols.{later_header_parameter, more_header_parameters, parameter_type}
+use Rattle.sv_parse_machine.specs.Symbols.{perhaps_ports, ports, later_port, more_ports, perhaps_wire}
+use Rattle.sv_parse_machine.specs.Symbols.{perhaps_wire_or_reg, perhaps_signed, perhaps_range}
+use Rattle.sv_parse_machine.specs.Symbols.{perhaps_label, label_end, perhaps_second_name, items}
+use Rattle.sv_parse_machine.specs.Symbols.{more_parameters, perhaps_value, more_wires, reg_label}
+use Rattle.sv_parse_machine.specs.Symbols.{reg_label_end, reg_name, behind_reg_name, label_selector}
+use Rattle.sv_parse_machine.specs.Symbols.{memory_name, assigned, value_or_release, later_assigned}
+use Rattle.sv_parse_machine.specs.Symbols.{more_assigned, event, event_inside, perhaps_overrides}
+use Rattle.sv_parse_machine.specs.Symbols.{overrides, more_named_overrides, links, link, more_named_links}
+use Rattle.sv_parse_machine.specs.Symbols.{more_instances, statement, statements, perhaps_block_name}
+use Rattle.sv_parse_machine.specs.Symbols.{perhaps_else, perhaps_bits, bits_end, more_targets, assigns}
+use Rattle.sv_parse_machine.specs.Symbols.{arms, more_choices, perhaps_colon}
+use Rattle.sv_parse_machine.specs.ModuleTable.{star_in_event}
+use Rattle.sv_parse_machine.specs.Symbols.{Outer, Expected, something, an_item, a_statement, an_edge}
+use Rattle.sv_parse_machine.specs.Symbols.{a_port, InnerReaction, takes_inner, over_inner, stuck_inner}
+use Rattle.sv_parse_machine.specs.Symbols.{OuterReaction, takes, over, stuck, unexpected, and_then}
+use Rattle.sv_parse_machine.specs.Symbols.{unless_refused}
+use Rattle.sv_parse_machine.specs.ExpressionTable.{name_operand, prefix_operand, operand_on}
+use Rattle.sv_parse_machine.specs.ExpressionTable.{as_expression}
+use Rattle.sv_parse_machine.specs.StatementTable.{is_sign, is_star, is_less_equal, taken_if}
+use Rattle.sv_parse_machine.specs.StatementTable.{assignment_behind, no_more_arms, default_arm}
+use Rattle.sv_parse_machine.specs.ModuleTable.{star_in_event}
+use Rattle.sv_parse_machine.specs.Machine.{outer_on}
+
+-- ---- within expressions
+
+-- taken, or stuck where nothing of the others may begin
+abbrev pub PlainlyStuck : InnerReaction → Type 0
+PlainlyStuck over_inner = ⊥
+PlainlyStuck (takes_inner level xs) = Unit {0}
+PlainlyStuck (stuck_inner something) = Unit {0}
+PlainlyStuck (stuck_inner e) = ⊥
+
+name_is_plain : (n : ℕ) (b : Bool) → PlainlyStuck (name_operand n b)
+name_is_plain n true = tt
+name_is_plain n false = tt
+
+prefix_is_plain : (n : ℕ) (u : Option UnOp) → PlainlyStuck (prefix_operand n u)
+prefix_is_plain n None = tt
+prefix_is_plain n (Some op) = tt
+
+pub operand_is_plain : (n : ℕ) (x : Lexeme) → PlainlyStuck (operand_on n x)
+operand_is_plain n (identifier y) = name_is_plain n (is_refused_word y)
+operand_is_plain n (sign (signs.Operator o)) = prefix_is_plain n (unary_operator o)
+operand_is_plain n x = tt
+
+-- ---- what may begin
+
+abbrev pub is_item : Expected → Bool
+is_item an_item = true
+is_item e = false
+
+abbrev pub is_statement : Expected → Bool
+is_statement a_statement = true
+is_statement e = false
+
+abbrev pub is_edge : Expected → Bool
+is_edge an_edge = true
+is_edge e = false
+
+abbrev pub is_port : Expected → Bool
+is_port a_port = true
+is_port e = false
+
+-- it is taken, or no text goes on with it, as it should
+abbrev pub is_as : Bool → OuterReaction → Bool
+is_as true (takes level arm ys) = true
+is_as false (stuck e) = true
+is_as b r = false
+
+abbrev pub is_over : OuterReaction → Bool
+is_over over = true
+is_over r = false
+
+-- where the one lexeme is not taken, `always`, `begin`, `posedge` and, in place of a name, `input`
+-- are as it says
+abbrev pub agrees : (named : Bool) → (on : OuterReaction) →
+    (always begin posedge input : OuterReaction) → Bool
+agrees named (stuck e) a b p i =
+    is_as (is_item e) a && (is_as (is_statement e) b
+    && (is_as (is_edge e) p && (not named || is_as (is_port e) i)))
+agrees named over a b p i = is_over a && (is_over b && (is_over p && is_over i))
+agrees named r a b p i = true
+
+abbrev pub is_named : Lexeme → Bool
+is_named (identifier x) = true
+is_named x = false
+
+-- no refused word
+abbrev pub IsFree : Lexeme → Type 0
+IsFree (identifier x) = IsTrue (not (is_refused_word x))
+IsFree x = Unit {0}
+
+abbrev pub Agrees : Outer → Lexeme → Type 0
+Agrees y x =
+    IsTrue (agrees (is_named x) (outer_on y x) (outer_on y (word words.Always))
+    (outer_on y (word words.Begin)) (outer_on y (word words.Posedge))
+    (outer_on y (word words.Input)))
+
+free_agrees : (b : Bool) (ys : List Outer) (a c p i : OuterReaction) → IsTrue (not b) →
+    IsTrue (agrees true (unless_refused b (takes 0 0 ys)) a c p i)
+free_agrees true ys a c p i free = absurd (false≢true free)
+free_agrees false ys a c p i free = refl
+
+-- a symbol that takes none of the four words
+plain_if : (b : Bool) →
+    IsTrue (agrees false (taken_if b) unexpected unexpected unexpected unexpected)
+plain_if true = refl
+plain_if false = refl
+
+edge_if : (b : Bool) (i : OuterReaction) →
+    IsTrue (agrees false (star_in_event b) (stuck an_edge) (stuck an_edge)
+    (takes 0 0 (plain_name ∷ punctuation signs.CloseParenthesis ∷ [])) i)
+edge_if true i = refl
+edge_if false i = refl
+
+statement_name : (n : ℕ) (b : Bool) (a c p i : OuterReaction) → IsTrue (not b)
+    → IsTrue (agrees true
+    (and_then (statements n ∷ [])
+    (unless_refused b (takes 0 0 (perhaps_bits n ∷ assignment_behind n)))) a c p i)
+statement_name n true a c p i free = absurd (false≢true free)
+statement_name n false a c p i free = refl
+
+-- an expression's first token
+expression_agrees : (named : Bool) (n arm : ℕ) (ys : List Outer) (r : InnerReaction) →
+    PlainlyStuck r → IsTrue
+    (agrees named (as_expression n arm ys r) unexpected unexpected unexpected unexpected)
+expression_agrees true n arm ys (takes_inner level xs) kind = refl
+expression_agrees false n arm ys (takes_inner level xs) kind = refl
+expression_agrees named n arm ys over_inner kind = absurd kind
+expression_agrees true n arm ys (stuck_inner something) kind = refl
+expression_agrees false n arm ys (stuck_inner something) kind = refl
+expression_agrees named n arm ys (stuck_inner e) kind = absurd kind
+
+more_arms_agree : (before : ℕ) →
+    IsTrue (agrees false (no_more_arms before) unexpected unexpected unexpected unexpected)
+more_arms_agree zero = refl
+more_arms_agree (suc k) = refl
+
+default_agrees : (n before : ℕ) (default : Bool) →
+    IsTrue (agrees false (default_arm n before default) unexpected unexpected unexpected unexpected)
+default_agrees n before true = refl
+default_agrees n before false = refl
+
+agrees_names : (s : SignKind) (x : Lexeme) → Agrees (more_names s) x
+agrees_names signs.Semicolon (sign signs.Comma) = refl
+agrees_names signs.Semicolon (identifier y) = refl
+agrees_names signs.Semicolon x = refl
+agrees_names signs.CloseBrace (sign signs.Comma) = refl
+agrees_names signs.CloseBrace (identifier y) = refl
+agrees_names signs.CloseBrace x = refl
+agrees_names s (identifier y) = refl
+agrees_names s x = refl
+
+agrees_punctuation : (s : SignKind) (x : Lexeme) → Agrees (punctuation s) x
+agrees_punctuation s (sign t) = plain_if (is_sign s t)
+agrees_punctuation s (identifier y) = refl
+agrees_punctuation s x = refl
+
+agrees_more_values : (x : Lexeme) → IsFree x → Agrees more_values x
+agrees_more_values (sign signs.Comma) free = refl
+agrees_more_values (sign signs.CloseParenthesis) free = refl
+agrees_more_values (identifier y) free = refl
+agrees_more_values x free = refl
+
+agrees_lattice_lines : (x : Lexeme) → IsFree x → Agrees lattice_lines x
+agrees_lattice_lines (word words.Point) free = refl
+agrees_lattice_lines (identifier x) free =
+    free_agrees (is_refused_word x)
+    (less_equal ∷ plain_name ∷ punctuation signs.Semicolon ∷ lattice_lines ∷ [])
+    (outer_on lattice_lines (word words.Always)) (outer_on lattice_lines (word words.Begin))
+    (outer_on lattice_lines (word words.Posedge)) (outer_on lattice_lines (word words.Input)) free
+agrees_lattice_lines (word words.Endlattice) free = refl
+agrees_lattice_lines x free = refl
+
+agrees_perhaps_lattice : (x : Lexeme) → IsFree x → Agrees perhaps_lattice x
+agrees_perhaps_lattice (word words.Lattice) free = refl
+agrees_perhaps_lattice (identifier y) free = refl
+agrees_perhaps_lattice x free = refl
+
+agrees_map_name : (x : Lexeme) → IsFree x → Agrees map_name x
+agrees_map_name (identifier x) free =
+    free_agrees (is_refused_word x)
+    (punctuation signs.OpenBracket ∷ plain_number ∷ punctuation signs.Colon ∷ plain_number ∷
+    punctuation signs.CloseBracket ∷ []) (outer_on map_name (word words.Always))
+    (outer_on map_name (word words.Begin)) (outer_on map_name (word words.Posedge))
+    (outer_on map_name (word words.Input)) free
+agrees_map_name x free = refl
+
+agrees_perhaps_key_range : (x : Lexeme) → IsFree x → Agrees perhaps_key_range x
+agrees_perhaps_key_range (sign signs.OpenBracket) free = refl
+agrees_perhaps_key_range (identifier y) free = refl
+agrees_perhaps_key_range x free = refl
+
+agrees_perhaps_second_key : (x : Lexeme) → IsFree x → Agrees perhaps_second_key x
+agrees_perhaps_second_key (sign signs.Comma) free = refl
+agrees_perhaps_second_key (identifier y) free = refl
+agrees_perhaps_second_key x free = refl
+
+agrees_end_of_map : (x : Lexeme) → IsFree x → Agrees end_of_map x
+agrees_end_of_map (word words.Endlabelmap) free = refl
+agrees_end_of_map (identifier y) free = refl
+agrees_end_of_map x free = refl
+
+agrees_rows : (x : Lexeme) → IsFree x → Agrees rows x
+agrees_rows (numeral v) free = refl
+agrees_rows (word words.Default) free = refl
+agrees_rows (word words.Endlabelmap) free = refl
+agrees_rows (identifier y) free = refl
+agrees_rows x free = refl
+
+agrees_perhaps_maps : (x : Lexeme) → IsFree x → Agrees perhaps_maps x
+agrees_perhaps_maps (word words.Labelmap) free = refl
+agrees_perhaps_maps (identifier y) free = refl
+agrees_perhaps_maps x free = refl
+
+agrees_parameter_type : (x : Lexeme) → IsFree x → Agrees parameter_type x
+agrees_parameter_type (word words.Signed) free = refl
+agrees_parameter_type (sign signs.OpenBracket) free = refl
+agrees_parameter_type (identifier y) free = refl
+agrees_parameter_type x free = refl
+
+agrees_header_parameter : (x : Lexeme) → IsFree x → Agrees header_parameter x
+agrees_header_parameter (word words.Parameter) free = refl
+agrees_header_parameter (identifier y) free = refl
+agrees_header_parameter x free = refl
+
+agrees_later_header_parameter : (x : Lexeme) → IsFree x → Agrees later_header_parameter x
+agrees_later_header_parameter (word words.Parameter) free = refl
+agrees_later_header_parameter (identifier x) free =
+    free_agrees (is_refused_word x) (punctuation signs.Equals ∷ expression 0 ∷ [])
+    (outer_on later_header_parameter (word words.Always))
+    (outer_on later_header_parameter (word words.Begin))
+    (outer_on later_header_parameter (word words.Posedge))
+    (outer_on later_header_parameter (word words.Input)) free
+agrees_later_header_parameter x free = refl
+
+agrees_more_header_parameters : (x : Lexeme) → IsFree x → Agrees more_header_parameters x
+agrees_more_header_parameters (sign signs.Comma) free = refl
+agrees_more_header_parameters (sign signs.CloseParenthesis) free = refl
+agrees_more_header_parameters (identifier y) free = refl
+agrees_more_header_parameters x free = refl
+
+agrees_perhaps_header_parameters : (x : Lexeme) → IsFree x → Agrees perhaps_header_parameters x
+agrees_perhaps_header_parameters (sign signs.Hash) free = refl
+agrees_perhaps_header_parameters (identifier y) free = refl
+agrees_perhaps_header_parameters x free = refl
+
+agrees_perhaps_wire : (x : Lexeme) → IsFree x → Agrees perhaps_wire x
+agrees_perhaps_wire (word words.Wire) free = refl
+agrees_perhaps_wire (identifier y) free = refl
+agrees_perhaps_wire x free = refl
+
+agrees_perhaps_wire_or_reg : (x : Lexeme) → IsFree x → Agrees perhaps_wire_or_reg x
+agrees_perhaps_wire_or_reg (word words.Wire) free = refl
+agrees_perhaps_wire_or_reg (word words.Reg) free = refl
+agrees_perhaps_wire_or_reg (identifier y) free = refl
+agrees_perhaps_wire_or_reg x free = refl
+
+agrees_perhaps_signed : (x : Lexeme) → IsFree x → Agrees perhaps_signed x
+agrees_perhaps_signed (word words.Signed) free = refl
+agrees_perhaps_signed (identifier y) free = refl
+agrees_perhaps_signed x free = refl
+
+agrees_perhaps_range : (x : Lexeme) → IsFree x → Agrees perhaps_range x
+agrees_perhaps_range (sign signs.OpenBracket) free = refl
+agrees_perhaps_range (identifier y) free = refl
+agrees_perhaps_range x free = refl
+
+agrees_perhaps_second_name : (x : Lexeme) → IsFree x → Agrees perhaps_second_name x
+agrees_perhaps_second_name (sign signs.Comma) free = refl
+agrees_perhaps_second_name (identifier y) free = refl
+agrees_perhaps_second_name x free = refl
+
+agrees_label_end : (x : Lexeme) → IsFree x → Agrees label_end x
+agrees_label_end (sign signs.CloseBrace) free = refl
+agrees_label_end (sign signs.OpenParenthesis) free = refl
+agrees_label_end (identifier y) free = refl
+agrees_label_end x free = refl
+
+agrees_perhaps_label : (x : Lexeme) → IsFree x → Agrees perhaps_label x
+agrees_perhaps_label (sign signs.OpenBrace) free = refl
+agrees_perhaps_label (identifier y) free = refl
+agrees_perhaps_label x free = refl
+
+agrees_later_port : (x : Lexeme) → IsFree x → Agrees later_port x
+agrees_later_port (word words.Input) free = refl
+agrees_later_port (word words.Output) free = refl
+agrees_later_port (identifier x) free =
+    free_agrees (is_refused_word x) [] (outer_on later_port (word words.Always))
+    (outer_on later_port (word words.Begin)) (outer_on later_port (word words.Posedge))
+    (outer_on later_port (word words.Input)) free
+agrees_later_port x free = refl
+
+agrees_more_ports : (x : Lexeme) → IsFree x → Agrees more_ports x
+agrees_more_ports (sign signs.Comma) free = refl
+agrees_more_ports (sign signs.CloseParenthesis) free = refl
+agrees_more_ports (identifier y) free = refl
+agrees_more_ports x free = refl
+
+agrees_ports : (x : Lexeme) → IsFree x → Agrees ports x
+agrees_ports (word words.Input) free = refl
+agrees_ports (word words.Output) free = refl
+agrees_ports (sign signs.CloseParenthesis) free = refl
+agrees_ports (identifier y) free = refl
+agrees_ports x free = refl
+
+agrees_perhaps_ports : (x : Lexeme) → IsFree x → Agrees perhaps_ports x
+agrees_perhaps_ports (sign signs.OpenParenthesis) free = refl
+agrees_perhaps_ports (identifier y) free = refl
+agrees_perhaps_ports x free = refl
+
+agrees_more_parameters : (x : Lexeme) → IsFree x → Agrees more_parameters x
+agrees_more_parameters (sign signs.Comma) free = refl
+agrees_more_parameters (sign signs.Semicolon) free = refl
+agrees_more_parameters (identifier y) free = refl
+agrees_more_parameters x free = refl
+
+agrees_perhaps_value : (x : Lexeme) → IsFree x → Agrees perhaps_value x
+agrees_perhaps_value (sign signs.Equals) free = refl
+agrees_perhaps_value (identifier y) free = refl
+agrees_perhaps_value x free = refl
+
+agrees_more_wires : (x : Lexeme) → IsFree x → Agrees more_wires x
+agrees_more_wires (sign signs.Comma) free = refl
+agrees_more_wires (sign signs.Semicolon) free = refl
+agrees_more_wires (identifier y) free = refl
+agrees_more_wires x free = refl
+
+agrees_behind_reg_name : (x : Lexeme) → IsFree x → Agrees behind_reg_name x
+agrees_behind_reg_name (sign signs.OpenBracket) free = refl
+agrees_behind_reg_name (sign signs.Comma) free = refl
+agrees_behind_reg_name (sign signs.Semicolon) free = refl
+agrees_behind_reg_name (identifier y) free = refl
+agrees_behind_reg_name x free = refl
+
+agrees_memory_name : (x : Lexeme) → IsFree x → Agrees memory_name x
+agrees_memory_name (identifier x) free =
+    free_agrees (is_refused_word x)
+    (punctuation signs.OpenBracket ∷ plain_number ∷ punctuation signs.Colon ∷ plain_number ∷
+    punctuation signs.CloseBracket ∷ []) (outer_on memory_name (word words.Always))
+    (outer_on memory_name (word words.Begin)) (outer_on memory_name (word words.Posedge))
+    (outer_on memory_name (word words.Input)) free
+agrees_memory_name x free = refl
+
+agrees_label_selector : (x : Lexeme) → IsFree x → Agrees label_selector x
+agrees_label_selector (sign signs.Hash) free = refl
+agrees_label_selector (identifier x) free =
+    free_agrees (is_refused_word x)
+    (perhaps_second_name ∷ punctuation signs.CloseParenthesis ∷ punctuation signs.CloseBrace ∷
+    plain_name ∷ more_names signs.Semicolon ∷ []) (outer_on label_selector (word words.Always))
+    (outer_on label_selector (word words.Begin)) (outer_on label_selector (word words.Posedge))
+    (outer_on label_selector (word words.Input)) free
+agrees_label_selector x free = refl
+
+agrees_reg_name : (x : Lexeme) → IsFree x → Agrees reg_name x
+agrees_reg_name (identifier x) free =
+    free_agrees (is_refused_word x) (behind_reg_name ∷ []) (outer_on reg_name (word words.Always))
+    (outer_on reg_name (word words.Begin)) (outer_on reg_name (word words.Posedge))
+    (outer_on reg_name (word words.Input)) free
+agrees_reg_name x free = refl
+
+agrees_reg_label_end : (x : Lexeme) → IsFree x → Agrees reg_label_end x
+agrees_reg_label_end (sign signs.CloseBrace) free = refl
+agrees_reg_label_end (sign signs.OpenParenthesis) free = refl
+agrees_reg_label_end (identifier y) free = refl
+agrees_reg_label_end x free = refl
+
+agrees_reg_label : (x : Lexeme) → IsFree x → Agrees reg_label x
+agrees_reg_label (sign signs.OpenBrace) free = refl
+agrees_reg_label (identifier x) free =
+    free_agrees (is_refused_word x) (behind_reg_name ∷ []) (outer_on reg_label (word words.Always))
+    (outer_on reg_label (word words.Begin)) (outer_on reg_label (word words.Posedge))
+    (outer_on reg_label (word words.Input)) free
+agrees_reg_label x free = refl
+
+agrees_later_assigned : (x : Lexeme) → IsFree x → Agrees later_assigned x
+agrees_later_assigned (identifier x) free =
+    free_agrees (is_refused_word x) (punctuation signs.Equals ∷ expression 0 ∷ [])
+    (outer_on later_assigned (word words.Always)) (outer_on later_assigned (word words.Begin))
+    (outer_on later_assigned (word words.Posedge)) (outer_on later_assigned (word words.Input)) free
+agrees_later_assigned (sign signs.OpenBrace) free = refl
+agrees_later_assigned x free = refl
+
+agrees_more_assigned : (x : Lexeme) → IsFree x → Agrees more_assigned x
+agrees_more_assigned (sign signs.Comma) free = refl
+agrees_more_assigned (sign signs.Semicolon) free = refl
+agrees_more_assigned (identifier y) free = refl
+agrees_more_assigned x free = refl
+
+agrees_value_or_release : (x : Lexeme) → IsFree x → Agrees value_or_release x
+agrees_value_or_release (word words.Release) free = refl
+agrees_value_or_release x free =
+    expression_agrees (is_named x) 0 0 (more_assigned ∷ []) (operand_on 0 x) (operand_is_plain 0 x)
+
+agrees_assigned : (x : Lexeme) → IsFree x → Agrees assigned x
+agrees_assigned (identifier x) free =
+    free_agrees (is_refused_word x) (punctuation signs.Equals ∷ value_or_release ∷ [])
+    (outer_on assigned (word words.Always)) (outer_on assigned (word words.Begin))
+    (outer_on assigned (word words.Posedge)) (outer_on assigned (word words.Input)) free
+agrees_assigned (sign signs.OpenBrace) free = refl
+agrees_assigned x free = refl
+
+agrees_event_inside : (x : Lexeme) → IsFree x → Agrees event_inside x
+agrees_event_inside (sign (signs.Operator o)) free =
+    edge_if (is_star (binary_operator o)) (outer_on event_inside (word words.Input))
+agrees_event_inside (word words.Posedge) free = refl
+agrees_event_inside (identifier y) free = refl
+agrees_event_inside x free = refl
+
+agrees_event : (x : Lexeme) → IsFree x → Agrees event x
+agrees_event (sign (signs.Operator o)) free = plain_if (is_star (binary_operator o))
+agrees_event (sign signs.OpenParenthesis) free = refl
+agrees_event (identifier y) free = refl
+agrees_event x free = refl
+
+agrees_more_named_overrides : (x : Lexeme) → IsFree x → Agrees more_named_overrides x
+agrees_more_named_overrides (sign signs.Comma) free = refl
+agrees_more_named_overrides (sign signs.CloseParenthesis) free = refl
+agrees_more_named_overrides (identifier y) free = refl
+agrees_more_named_overrides x free = refl
+
+agrees_overrides : (x : Lexeme) → IsFree x → Agrees overrides x
+agrees_overrides (sign signs.Dot) free = refl
+agrees_overrides x free =
+    expression_agrees (is_named x) 0 0 (more_values ∷ []) (operand_on 0 x) (operand_is_plain 0 x)
+
+agrees_perhaps_overrides : (x : Lexeme) → IsFree x → Agrees perhaps_overrides x
+agrees_perhaps_overrides (sign signs.Hash) free = refl
+agrees_perhaps_overrides (identifier y) free = refl
+agrees_perhaps_overrides x free = refl
+
+agrees_link : (x : Lexeme) → IsFree x → Agrees link x
+agrees_link (sign signs.CloseParenthesis) free = refl
+agrees_link x free =
+    expression_agrees (is_named x) 0 0 (punctuation signs.CloseParenthesis ∷ []) (operand_on 0 x)
+    (operand_is_plain 0 x)
+
+agrees_more_named_links : (x : Lexeme) → IsFree x → Agrees more_named_links x
+agrees_more_named_links (sign signs.Comma) free = refl
+agrees_more_named_links (sign signs.CloseParenthesis) free = refl
+agrees_more_named_links (identifier y) free = refl
+agrees_more_named_links x free = refl
+
+agrees_links : (x : Lexeme) → IsFree x → Agrees links x
+agrees_links (sign signs.CloseParenthesis) free = refl
+agrees_links (sign signs.Dot) free = refl
+agrees_links x free =
+    expression_agrees (is_named x) 0 0 (more_values ∷ []) (operand_on 0 x) (operand_is_plain 0 x)
+
+agrees_more_instances : (x : Lexeme) → IsFree x → Agrees more_instances x
+agrees_more_instances (sign signs.Comma) free = refl
+agrees_more_instances (sign signs.Semicolon) free = refl
+agrees_more_instances (identifier y) free = refl
+agrees_more_instances x free = refl
+
+agrees_bits_end : (n : ℕ) (x : Lexeme) → IsFree x → Agrees (bits_end n) x
+agrees_bits_end n (sign signs.CloseBracket) free = refl
+agrees_bits_end n (sign signs.Colon) free = refl
+agrees_bits_end n (identifier y) free = refl
+agrees_bits_end n x free = refl
+
+agrees_perhaps_bits : (n : ℕ) (x : Lexeme) → IsFree x → Agrees (perhaps_bits n) x
+agrees_perhaps_bits n (sign signs.OpenBracket) free = refl
+agrees_perhaps_bits n (identifier y) free = refl
+agrees_perhaps_bits n x free = refl
+
+agrees_more_targets : (n : ℕ) (x : Lexeme) → IsFree x → Agrees (more_targets n) x
+agrees_more_targets n (sign signs.Comma) free = refl
+agrees_more_targets n (sign signs.CloseBrace) free = refl
+agrees_more_targets n (identifier y) free = refl
+agrees_more_targets n x free = refl
+
+agrees_more_choices : (n : ℕ) (x : Lexeme) → IsFree x → Agrees (more_choices n) x
+agrees_more_choices n (sign signs.Comma) free = refl
+agrees_more_choices n (sign signs.Colon) free = refl
+agrees_more_choices n (identifier y) free = refl
+agrees_more_choices n x free = refl
+
+agrees_perhaps_block_name : (x : Lexeme) → IsFree x → Agrees perhaps_block_name x
+agrees_perhaps_block_name (sign signs.Colon) free = refl
+agrees_perhaps_block_name (identifier y) free = refl
+agrees_perhaps_block_name x free = refl
+
+agrees_perhaps_colon : (x : Lexeme) → IsFree x → Agrees perhaps_colon x
+agrees_perhaps_colon (sign signs.Colon) free = refl
+agrees_perhaps_colon (identifier y) free = refl
+agrees_perhaps_colon x free = refl
+
+agrees_perhaps_else : (n : ℕ) (x : Lexeme) → IsFree x → Agrees (perhaps_else n) x
+agrees_perhaps_else n (word words.Else) free = refl
+agrees_perhaps_else n (identifier y) free = refl
+agrees_perhaps_else n x free = refl
+
+agrees_items : (x : Lexeme) → IsFree x → Agrees items x
+agrees_items (word words.Parameter) free = refl
+agrees_items (word words.Localparam) free = refl
+agrees_items (word words.Wire) free = refl
+agrees_items (word words.Reg) free = refl
+agrees_items (word words.Assign) free = refl
+agrees_items (word words.Always) free = refl
+agrees_items (word words.Invariant) free = refl
+agrees_items (identifier x) free =
+    free_agrees (is_refused_word x)
+    (perhaps_overrides ∷ plain_name ∷ punctuation signs.OpenParenthesis ∷ links ∷ more_instances ∷
+    items ∷ []) (outer_on items (word words.Always)) (outer_on items (word words.Begin))
+    (outer_on items (word words.Posedge)) (outer_on items (word words.Input)) free
+agrees_items (word words.Endmodule) free = refl
+agrees_items x free = refl
+
+agrees_one_module : (x : Lexeme) → IsFree x → Agrees one_module x
+agrees_one_module (word words.Module) free = refl
+agrees_one_module (identifier y) free = refl
+agrees_one_module x free = refl
+
+agrees_statement : (n : ℕ) (x : Lexeme) → IsFree x → Agrees (statement n) x
+agrees_statement n (identifier x) free =
+    free_agrees (is_refused_word x) (perhaps_bits n ∷ assignment_behind n)
+    (outer_on (statement n) (word words.Always)) (outer_on (statement n) (word words.Begin))
+    (outer_on (statement n) (word words.Posedge)) (outer_on (statement n) (word words.Input)) free
+agrees_statement n (word words.Begin) free = refl
+agrees_statement n (sign signs.Semicolon) free = refl
+agrees_statement n x free = refl
+
+agrees_statements : (n : ℕ) (x : Lexeme) → IsFree x → Agrees (statements n) x
+agrees_statements n (identifier x) free =
+    statement_name n (is_refused_word x) (outer_on (statements n) (word words.Always))
+    (outer_on (statements n) (word words.Begin)) (outer_on (statements n) (word words.Posedge))
+    (outer_on (statements n) (word words.Input)) free
+agrees_statements n (word words.Begin) free = refl
+agrees_statements n (sign signs.Semicolon) free = refl
+agrees_statements n x free = refl
+
+agrees_assigns : (x : Lexeme) → IsFree x → Agrees assigns x
+agrees_assigns (sign (signs.Operator o)) free = plain_if (is_less_equal (binary_operator o))
+agrees_assigns (identifier y) free = refl
+agrees_assigns x free = refl
+
+agrees_less_equal : (x : Lexeme) → IsFree x → Agrees less_equal x
+agrees_less_equal (sign (signs.Operator o)) free = plain_if (is_less_equal (binary_operator o))
+agrees_less_equal (identifier y) free = refl
+agrees_less_equal x free = refl
+
+agrees_arms : (n before : ℕ) (default : Bool) (x : Lexeme) → IsFree x →
+    Agrees (arms n before default) x
+agrees_arms n before default (word words.Endcase) free = more_arms_agree before
+agrees_arms n before default (word words.Default) free = default_agrees n before default
+agrees_arms n before default x free =
+    expression_agrees (is_named x) n (before + 1)
+    (more_choices n ∷ statement n ∷ arms n (before + 1) default ∷ []) (operand_on n x)
+    (operand_is_plain n x)
+
+pub rows_agree : (y : Outer) (x : Lexeme) → IsFree x → Agrees y x
+rows_agree (punctuation s) x free = agrees_punctuation s x
+rows_agree plain_name (identifier x) free =
+    free_agrees (is_refused_word x) [] (outer_on plain_name (word words.Always))
+    (outer_on plain_name (word words.Begin)) (outer_on plain_name (word words.Posedge))
+    (outer_on plain_name (word words.Input)) free
+rows_agree plain_name x free = refl
+rows_agree plain_number (numeral v) free = refl
+rows_agree plain_number (identifier y) free = refl
+rows_agree plain_number x free = refl
+rows_agree (expression n) x free =
+    expression_agrees (is_named x) n 0 [] (operand_on n x) (operand_is_plain n x)
+rows_agree (more_names s) x free = agrees_names s x
+rows_agree more_values x free = agrees_more_values x free
+rows_agree perhaps_lattice x free = agrees_perhaps_lattice x free
+rows_agree lattice_lines x free = agrees_lattice_lines x free
+rows_agree less_equal x free = agrees_less_equal x free
+rows_agree perhaps_maps x free = agrees_perhaps_maps x free
+rows_agree map_name x free = agrees_map_name x free
+rows_agree perhaps_key_range x free = agrees_perhaps_key_range x free
+rows_agree rows x free = agrees_rows x free
+rows_agree perhaps_second_key x free = agrees_perhaps_second_key x free
+rows_agree end_of_map x free = agrees_end_of_map x free
+rows_agree one_module x free = agrees_one_module x free
+rows_agree perhaps_header_parameters x free = agrees_perhaps_header_parameters x free
+rows_agree header_parameter x free = agrees_header_parameter x free
+rows_agree later_header_parameter x free = agrees_later_header_parameter x free
+rows_agree more_header_parameters x free = agrees_more_header_parameters x free
+rows_agree parameter_type x free = agrees_parameter_type x free
+rows_agree perhaps_ports x free = agrees_perhaps_ports x free
+rows_agree ports x free = agrees_ports x free
+rows_agree later_port x free = agrees_later_port x free
+rows_agree more_ports x free = agrees_more_ports x free
+rows_agree perhaps_wire x free = agrees_perhaps_wire x free
+rows_agree perhaps_wire_or_reg x free = agrees_perhaps_wire_or_reg x free
+rows_agree perhaps_signed x free = agrees_perhaps_signed x free
+rows_agree perhaps_range x free = agrees_perhaps_range x free
+rows_agree perhaps_label x free = agrees_perhaps_label x free
+rows_agree label_end x free = agrees_label_end x free
+rows_agree perhaps_second_name x free = agrees_perhaps_second_name x free
+rows_agree items x free = agrees_items x free
+rows_agree more_parameters x free = agrees_more_parameters x free
+rows_agree perhaps_value x free = agrees_perhaps_value x free
+rows_agree more_wires x free = agrees_more_wires x free
+rows_agree reg_label x free = agrees_reg_label x free
+rows_agree reg_label_end x free = agrees_reg_label_end x free
+rows_agree reg_name x free = agrees_reg_name x free
+rows_agree behind_reg_name x free = agrees_behind_reg_name x free
+rows_agree label_selector x free = agrees_label_selector x free
+rows_agree memory_name x free = agrees_memory_name x free
+rows_agree assigned x free = agrees_assigned x free
+rows_agree value_or_release x free = agrees_value_or_release x free
+rows_agree later_assigned x free = agrees_later_assigned x free
+rows_agree more_assigned x free = agrees_more_assigned x free
+rows_agree event x free = agrees_event x free
+rows_agree event_inside x free = agrees_event_inside x free
+rows_agree perhaps_overrides x free = agrees_perhaps_overrides x free
+rows_agree overrides x free = agrees_overrides x free
+rows_agree more_named_overrides x free = agrees_more_named_overrides x free
+rows_agree links x free = agrees_links x free
+rows_agree link x free = agrees_link x free
+rows_agree more_named_links x free = agrees_more_named_links x free
+rows_agree more_instances x free = agrees_more_instances x free
+rows_agree (statement n) x free = agrees_statement n x free
+rows_agree (statements n) x free = agrees_statements n x free
+rows_agree perhaps_block_name x free = agrees_perhaps_block_name x free
+rows_agree (perhaps_else n) x free = agrees_perhaps_else n x free
+rows_agree (perhaps_bits n) x free = agrees_perhaps_bits n x free
+rows_agree (bits_end n) x free = agrees_bits_end n x free
+rows_agree (more_targets n) x free = agrees_more_targets n x free
+rows_agree assigns x free = agrees_assigns x free
+rows_agree (arms n before default) x free = agrees_arms n before default x free
+rows_agree (more_choices n) x free = agrees_more_choices n x free
+rows_agree perhaps_colon x free = agrees_perhaps_colon x free

@@ -1,0 +1,569 @@
+-- From steps to forms: items and modules.
+use Rattle.std.proofs.Common.{◌≡◌, zero, suc, List, [], ◌∷◌, inl, inr, refl, subst, ◌∙◌}
+use Rattle.sv_num.specs.declared.faults.Place.{Place}
+use Rattle.sv_token.specs.declared.keywords.WordKind.TheVariants as words
+use Rattle.sv_token.specs.declared.signs.SignKind.TheVariants as signs
+use Rattle.sv_token.specs.Lexemes.{Lexeme, word, identifier, sign, Placed}
+use Rattle.sv_token.specs.Words.{is_refused_word}
+use Rattle.sv_ast.specs.GrammarForms.{binary_operator}
+use Rattle.sv_ast.specs.GrammarExpressions.{Limits}
+use Rattle.sv_parse_machine.specs.Symbols.{punctuation, plain_name, plain_number, expression, more_names}
+use Rattle.sv_parse_machine.specs.Symbols.{more_values, perhaps_second_name, items, behind_reg_name}
+use Rattle.sv_parse_machine.specs.Symbols.{value_or_release, more_assigned, perhaps_overrides, links}
+use Rattle.sv_parse_machine.specs.Symbols.{more_instances}
+use Rattle.sv_parse_machine.specs.ModuleTable.{more_parameters_on, perhaps_value_on, more_wires_on}
+use Rattle.sv_parse_machine.specs.ModuleTable.{behind_reg_name_on, memory_name_on, label_selector_on}
+use Rattle.sv_parse_machine.specs.ModuleTable.{reg_name_on, reg_label_end_on, reg_label_on}
+use Rattle.sv_parse_machine.specs.ModuleTable.{later_assigned_on, more_assigned_on, value_or_release_on}
+use Rattle.sv_parse_machine.specs.ModuleTable.{assigned_on, event_inside_on, event_on}
+use Rattle.sv_parse_machine.specs.ModuleTable.{more_named_overrides_on, overrides_on}
+use Rattle.sv_parse_machine.specs.ModuleTable.{perhaps_overrides_on, link_on, more_named_links_on}
+use Rattle.sv_parse_machine.specs.ModuleTable.{links_on, more_instances_on, items_on, one_module_on}
+use Rattle.sv_parse_machine.proofs.InnerSteps.{placed, no_token}
+use Rattle.sv_parse_machine.proofs.InnerForms.{last_token}
+use Rattle.sv_parse_machine.proofs.OuterForms.{more_parameters_form, perhaps_value_form, more_wires_form}
+use Rattle.sv_parse_machine.proofs.OuterForms.{behind_reg_name_form, memory_name_form}
+use Rattle.sv_parse_machine.proofs.OuterForms.{label_selector_form, reg_name_form, reg_label_end_form}
+use Rattle.sv_parse_machine.proofs.OuterForms.{reg_label_form, later_assigned_form, more_assigned_form}
+use Rattle.sv_parse_machine.proofs.OuterForms.{value_or_release_form, assigned_form, event_inside_form}
+use Rattle.sv_parse_machine.proofs.OuterForms.{event_form, more_named_overrides_form, overrides_form}
+use Rattle.sv_parse_machine.proofs.OuterForms.{perhaps_overrides_form, link_form, more_named_links_form}
+use Rattle.sv_parse_machine.proofs.OuterForms.{links_form, more_instances_form, items_form}
+use Rattle.sv_parse_machine.proofs.OuterForms.{one_module_form, Accepts}
+use Rattle.sv_parse_machine.proofs.OuterTokens.{taken_as_name, taken_star, taken_star_inside, b_begins}
+use Rattle.sv_parse_machine.proofs.OuterTokens.{no_expression}
+
+pub b_more_parameters : (l : Limits) (x : Lexeme) (p : Place) (ts rest : List Placed) →
+    Accepts l (placed x p) ts rest (more_parameters_on x) →
+    more_parameters_form l (placed x p ∷ ts) rest
+b_more_parameters l (sign signs.Semicolon) p ts rest is = (
+  zero,
+  (
+    placed (sign signs.Semicolon) p ∷
+        ts,
+    refl,
+    (p, last_token (sign signs.Semicolon) p ts rest is.2),
+  ),
+)
+b_more_parameters l (sign signs.Comma) p ts rest
+    (opens, arm, (q0, a0, (q1, a1, (m1, a2, (m2, (k, (m3, others, final)), same))))) =
+    subst (more_parameters_form l (placed (sign signs.Comma) p ∷ ts)) same
+    (suc k, (m3, (m1, (ts, (p, refl), (q0, a0, (q1, a1, a2))), others), final))
+b_more_parameters l x p ts rest is = absurd is
+
+pub none_more_parameters : (l : Limits) (rest : List Placed) → more_parameters_form l [] rest → ⊥
+none_more_parameters l rest (zero, (m, none, (p, e))) = no_token (none ∙ e)
+none_more_parameters l rest (suc k, (m, (m1, (m0, (p, e), behind), others), final)) = no_token e
+
+pub b_perhaps_value : (l : Limits) (x : Lexeme) (p : Place) (ts rest : List Placed) →
+    Accepts l (placed x p) ts rest (perhaps_value_on x) →
+    perhaps_value_form l (placed x p ∷ ts) rest
+b_perhaps_value l (sign signs.Equals) p ts rest is = inr (ts, (p, refl), is.2)
+b_perhaps_value l x p ts rest is = inl (tt, is)
+
+pub none_perhaps_value : (l : Limits) (rest : List Placed) → perhaps_value_form l [] rest →
+    [] ≡ rest
+none_perhaps_value l rest (inl (over, same)) = same
+none_perhaps_value l rest (inr (m, (p, e), behind)) = absurd (no_token e)
+
+pub b_more_wires : (l : Limits) (x : Lexeme) (p : Place) (ts rest : List Placed) →
+    Accepts l (placed x p) ts rest (more_wires_on x) → more_wires_form l (placed x p ∷ ts) rest
+b_more_wires l (sign signs.Semicolon) p ts rest is = (
+  zero,
+  (
+    placed (sign signs.Semicolon) p ∷
+        ts,
+    refl,
+    (p, last_token (sign signs.Semicolon) p ts rest is.2),
+  ),
+)
+b_more_wires l (sign signs.Comma) p ts rest
+    (opens, arm, (q0, a0, (m1, a1, (m2, (k, (m3, others, final)), same)))) =
+    subst (more_wires_form l (placed (sign signs.Comma) p ∷ ts)) same
+    (suc k, (m3, (m1, (ts, (p, refl), (q0, a0, a1)), others), final))
+b_more_wires l x p ts rest is = absurd is
+
+pub none_more_wires : (l : Limits) (rest : List Placed) → more_wires_form l [] rest → ⊥
+none_more_wires l rest (zero, (m, none, (p, e))) = no_token (none ∙ e)
+none_more_wires l rest (suc k, (m, (m1, (m0, (p, e), behind), others), final)) = no_token e
+
+pub b_behind_reg_name : (l : Limits) (x : Lexeme) (p : Place) (ts rest : List Placed) →
+    Accepts l (placed x p) ts rest (behind_reg_name_on x) →
+    behind_reg_name_form l (placed x p ∷ ts) rest
+b_behind_reg_name l (sign signs.OpenBracket) p ts rest is = inl (ts, (p, refl), is.2)
+b_behind_reg_name l (sign signs.Comma) p ts rest is = inr (inl (ts, (p, refl), is.2))
+b_behind_reg_name l (sign signs.Semicolon) p ts rest is = inr (inr (ts, (p, refl), is.2))
+b_behind_reg_name l x p ts rest is = absurd is
+
+pub none_behind_reg_name : (l : Limits) (rest : List Placed) → behind_reg_name_form l [] rest → ⊥
+none_behind_reg_name l rest (inl (m, (p, e), behind)) = no_token e
+none_behind_reg_name l rest (inr (inl (m, (p, e), behind))) = no_token e
+none_behind_reg_name l rest (inr (inr (m, (p, e), behind))) = no_token e
+
+pub b_memory_name : (l : Limits) (x : Lexeme) (p : Place) (ts rest : List Placed) →
+    Accepts l (placed x p) ts rest (memory_name_on x) → memory_name_form l (placed x p ∷ ts) rest
+b_memory_name l (identifier x) p ts rest is =
+    let name = taken_as_name l
+    (punctuation signs.OpenBracket ∷ plain_number ∷ punctuation signs.Colon ∷ plain_number ∷
+    punctuation signs.CloseBracket ∷ []) (placed (identifier x) p) ts rest (is_refused_word x)
+    is in (ts, (x, (p, (name.0, refl))), name.1)
+b_memory_name l x p ts rest is = absurd is
+
+pub none_memory_name : (l : Limits) (rest : List Placed) → memory_name_form l [] rest → ⊥
+none_memory_name l rest (m, (x, (p, (free, e))), behind) = no_token e
+
+pub b_label_selector : (l : Limits) (x : Lexeme) (p : Place) (ts rest : List Placed) →
+    Accepts l (placed x p) ts rest (label_selector_on x) →
+    label_selector_form l (placed x p ∷ ts) rest
+b_label_selector l (sign signs.Hash) p ts rest is = inl (ts, (p, refl), is.2)
+b_label_selector l (identifier x) p ts rest is =
+    let name = taken_as_name l
+    (perhaps_second_name ∷ punctuation signs.CloseParenthesis ∷ punctuation signs.CloseBrace ∷
+    plain_name ∷ more_names signs.Semicolon ∷ []) (placed (identifier x) p) ts rest
+    (is_refused_word x) is in inr (ts, (x, (p, (name.0, refl))), name.1)
+b_label_selector l x p ts rest is = absurd is
+
+pub none_label_selector : (l : Limits) (rest : List Placed) → label_selector_form l [] rest → ⊥
+none_label_selector l rest (inl (m, (p, e), behind)) = no_token e
+none_label_selector l rest (inr (m, (x, (p, (free, e))), behind)) = no_token e
+
+pub b_reg_name : (l : Limits) (x : Lexeme) (p : Place) (ts rest : List Placed) →
+    Accepts l (placed x p) ts rest (reg_name_on x) → reg_name_form l (placed x p ∷ ts) rest
+b_reg_name l (identifier x) p ts rest is =
+    let name = taken_as_name l (behind_reg_name ∷ []) (placed (identifier x) p) ts rest
+    (is_refused_word x) is in (ts, (x, (p, (name.0, refl))), name.1)
+b_reg_name l x p ts rest is = absurd is
+
+pub none_reg_name : (l : Limits) (rest : List Placed) → reg_name_form l [] rest → ⊥
+none_reg_name l rest (m, (x, (p, (free, e))), behind) = no_token e
+
+pub b_reg_label_end : (l : Limits) (x : Lexeme) (p : Place) (ts rest : List Placed) →
+    Accepts l (placed x p) ts rest (reg_label_end_on x) →
+    reg_label_end_form l (placed x p ∷ ts) rest
+b_reg_label_end l (sign signs.CloseBrace) p ts rest is = inl (ts, (p, refl), is.2)
+b_reg_label_end l (sign signs.OpenParenthesis) p ts rest is = inr (ts, (p, refl), is.2)
+b_reg_label_end l x p ts rest is = absurd is
+
+pub none_reg_label_end : (l : Limits) (rest : List Placed) → reg_label_end_form l [] rest → ⊥
+none_reg_label_end l rest (inl (m, (p, e), behind)) = no_token e
+none_reg_label_end l rest (inr (m, (p, e), behind)) = no_token e
+
+pub b_reg_label : (l : Limits) (x : Lexeme) (p : Place) (ts rest : List Placed) →
+    Accepts l (placed x p) ts rest (reg_label_on x) → reg_label_form l (placed x p ∷ ts) rest
+b_reg_label l (sign signs.OpenBrace) p ts rest is = inl (ts, (p, refl), is.2)
+b_reg_label l (identifier x) p ts rest is =
+    let name = taken_as_name l (behind_reg_name ∷ []) (placed (identifier x) p) ts rest
+    (is_refused_word x) is in inr (ts, (x, (p, (name.0, refl))), name.1)
+b_reg_label l x p ts rest is = absurd is
+
+pub none_reg_label : (l : Limits) (rest : List Placed) → reg_label_form l [] rest → ⊥
+none_reg_label l rest (inl (m, (p, e), behind)) = no_token e
+none_reg_label l rest (inr (m, (x, (p, (free, e))), behind)) = no_token e
+
+pub b_later_assigned : (l : Limits) (x : Lexeme) (p : Place) (ts rest : List Placed) →
+    Accepts l (placed x p) ts rest (later_assigned_on x) →
+    later_assigned_form l (placed x p ∷ ts) rest
+b_later_assigned l (identifier x) p ts rest is =
+    let name = taken_as_name l (punctuation signs.Equals ∷ expression 0 ∷ [])
+    (placed (identifier x) p) ts rest (is_refused_word x) is in
+    inl (ts, (x, (p, (name.0, refl))), name.1)
+b_later_assigned l (sign signs.OpenBrace) p ts rest is = inr (ts, (p, refl), is.2)
+b_later_assigned l x p ts rest is = absurd is
+
+pub none_later_assigned : (l : Limits) (rest : List Placed) → later_assigned_form l [] rest → ⊥
+none_later_assigned l rest (inl (m, (x, (p, (free, e))), behind)) = no_token e
+none_later_assigned l rest (inr (m, (p, e), behind)) = no_token e
+
+pub b_more_assigned : (l : Limits) (x : Lexeme) (p : Place) (ts rest : List Placed) →
+    Accepts l (placed x p) ts rest (more_assigned_on x) →
+    more_assigned_form l (placed x p ∷ ts) rest
+b_more_assigned l (sign signs.Semicolon) p ts rest is = (
+  zero,
+  (
+    placed (sign signs.Semicolon) p ∷
+        ts,
+    refl,
+    (p, last_token (sign signs.Semicolon) p ts rest is.2),
+  ),
+)
+b_more_assigned l (sign signs.Comma) p ts rest
+    (opens, arm, (m1, a0, (m2, (k, (m3, others, final)), same))) =
+    subst (more_assigned_form l (placed (sign signs.Comma) p ∷ ts)) same
+    (suc k, (m3, (m1, (ts, (p, refl), a0), others), final))
+b_more_assigned l x p ts rest is = absurd is
+
+pub none_more_assigned : (l : Limits) (rest : List Placed) → more_assigned_form l [] rest → ⊥
+none_more_assigned l rest (zero, (m, none, (p, e))) = no_token (none ∙ e)
+none_more_assigned l rest (suc k, (m, (m1, (m0, (p, e), behind), others), final)) = no_token e
+
+pub b_value_or_release : (l : Limits) (x : Lexeme) (p : Place) (ts rest : List Placed) →
+    Accepts l (placed x p) ts rest (value_or_release_on x) →
+    value_or_release_form l (placed x p ∷ ts) rest
+b_value_or_release l (word words.Release) p ts rest is = inl (ts, (p, refl), is.2)
+b_value_or_release l x p ts rest is =
+    let begun = b_begins l 0 0 (more_assigned ∷ []) x p ts rest is in
+    inr (begun.1, begun.2, begun.3)
+
+pub none_value_or_release : (l : Limits) (rest : List Placed) → value_or_release_form l [] rest → ⊥
+none_value_or_release l rest (inl (m, (p, e), behind)) = no_token e
+none_value_or_release l rest (inr (m, is, behind)) = no_expression l 0 m is
+
+pub b_assigned : (l : Limits) (x : Lexeme) (p : Place) (ts rest : List Placed) →
+    Accepts l (placed x p) ts rest (assigned_on x) → assigned_form l (placed x p ∷ ts) rest
+b_assigned l (identifier x) p ts rest is =
+    let name = taken_as_name l (punctuation signs.Equals ∷ value_or_release ∷ [])
+    (placed (identifier x) p) ts rest (is_refused_word x) is in
+    inl (ts, (x, (p, (name.0, refl))), name.1)
+b_assigned l (sign signs.OpenBrace) p ts rest is = inr (ts, (p, refl), is.2)
+b_assigned l x p ts rest is = absurd is
+
+pub none_assigned : (l : Limits) (rest : List Placed) → assigned_form l [] rest → ⊥
+none_assigned l rest (inl (m, (x, (p, (free, e))), behind)) = no_token e
+none_assigned l rest (inr (m, (p, e), behind)) = no_token e
+
+pub b_event_inside : (l : Limits) (x : Lexeme) (p : Place) (ts rest : List Placed) →
+    Accepts l (placed x p) ts rest (event_inside_on x) → event_inside_form l (placed x p ∷ ts) rest
+b_event_inside l (sign (signs.Operator o)) p ts rest is =
+    let star = taken_star_inside l (placed (sign (signs.Operator o)) p) ts rest (binary_operator o)
+    is in inl (ts, (p, (o, star.0, refl)), star.1)
+b_event_inside l (word words.Posedge) p ts rest is = inr (ts, (p, refl), is.2)
+b_event_inside l x p ts rest is = absurd is
+
+pub none_event_inside : (l : Limits) (rest : List Placed) → event_inside_form l [] rest → ⊥
+none_event_inside l rest (inl (m, (p, (o, op, e)), behind)) = no_token e
+none_event_inside l rest (inr (m, (p, e), behind)) = no_token e
+
+pub b_event : (l : Limits) (x : Lexeme) (p : Place) (ts rest : List Placed) →
+    Accepts l (placed x p) ts rest (event_on x) → event_form l (placed x p ∷ ts) rest
+b_event l (sign (signs.Operator o)) p ts rest is =
+    let star = taken_star l (placed (sign (signs.Operator o)) p) ts rest (binary_operator o) is in
+    inl (ts, (p, (o, star.0, refl)), star.1)
+b_event l (sign signs.OpenParenthesis) p ts rest is = inr (ts, (p, refl), is.2)
+b_event l x p ts rest is = absurd is
+
+pub none_event : (l : Limits) (rest : List Placed) → event_form l [] rest → ⊥
+none_event l rest (inl (m, (p, (o, op, e)), behind)) = no_token e
+none_event l rest (inr (m, (p, e), behind)) = no_token e
+
+pub b_more_named_overrides : (l : Limits) (x : Lexeme) (p : Place) (ts rest : List Placed) →
+    Accepts l (placed x p) ts rest (more_named_overrides_on x) →
+    more_named_overrides_form l (placed x p ∷ ts) rest
+b_more_named_overrides l (sign signs.CloseParenthesis) p ts rest is = (
+  zero,
+  (
+    placed (sign signs.CloseParenthesis) p ∷
+        ts,
+    refl,
+    (p, last_token (sign signs.CloseParenthesis) p ts rest is.2),
+  ),
+)
+b_more_named_overrides l (sign signs.Comma) p ts rest (
+  opens,
+  arm,
+  (
+    q0,
+    a0,
+    (q1, a1, (q2, a2, (q3, a3, (m1, a4, (m2, (k, (m3, others, final)), same))))),
+  ),
+) =
+    subst (more_named_overrides_form l (placed (sign signs.Comma) p ∷ ts)) same (
+      suc k,
+      (
+        m3,
+        (
+          m1,
+          (ts, (p, refl), (q0, a0, (q1, a1, (q2, a2, (q3, a3, a4))))),
+          others,
+        ),
+        final,
+      ),
+    )
+b_more_named_overrides l x p ts rest is = absurd is
+
+pub none_more_named_overrides : (l : Limits) (rest : List Placed) →
+    more_named_overrides_form l [] rest → ⊥
+none_more_named_overrides l rest (zero, (m, none, (p, e))) = no_token (none ∙ e)
+none_more_named_overrides l rest (suc k, (m, (m1, (m0, (p, e), behind), others), final)) =
+    no_token e
+
+pub b_overrides : (l : Limits) (x : Lexeme) (p : Place) (ts rest : List Placed) →
+    Accepts l (placed x p) ts rest (overrides_on x) → overrides_form l (placed x p ∷ ts) rest
+b_overrides l (sign signs.Dot) p ts rest is = inl (ts, (p, refl), is.2)
+b_overrides l x p ts rest is =
+    let begun = b_begins l 0 0 (more_values ∷ []) x p ts rest is in inr (begun.1, begun.2, begun.3)
+
+pub none_overrides : (l : Limits) (rest : List Placed) → overrides_form l [] rest → ⊥
+none_overrides l rest (inl (m, (p, e), behind)) = no_token e
+none_overrides l rest (inr (m, is, behind)) = no_expression l 0 m is
+
+pub b_perhaps_overrides : (l : Limits) (x : Lexeme) (p : Place) (ts rest : List Placed) →
+    Accepts l (placed x p) ts rest (perhaps_overrides_on x) →
+    perhaps_overrides_form l (placed x p ∷ ts) rest
+b_perhaps_overrides l (sign signs.Hash) p ts rest is = inr (ts, (p, refl), is.2)
+b_perhaps_overrides l x p ts rest is = inl (tt, is)
+
+pub none_perhaps_overrides : (l : Limits) (rest : List Placed) → perhaps_overrides_form l [] rest →
+    [] ≡ rest
+none_perhaps_overrides l rest (inl (over, same)) = same
+none_perhaps_overrides l rest (inr (m, (p, e), behind)) = absurd (no_token e)
+
+pub b_link : (l : Limits) (x : Lexeme) (p : Place) (ts rest : List Placed) →
+    Accepts l (placed x p) ts rest (link_on x) → link_form l (placed x p ∷ ts) rest
+b_link l (sign signs.CloseParenthesis) p ts rest is = inl (ts, (p, refl), is.2)
+b_link l x p ts rest is =
+    let begun = b_begins l 0 0 (punctuation signs.CloseParenthesis ∷ []) x p ts rest is in
+    inr (begun.1, begun.2, begun.3)
+
+pub none_link : (l : Limits) (rest : List Placed) → link_form l [] rest → ⊥
+none_link l rest (inl (m, (p, e), behind)) = no_token e
+none_link l rest (inr (m, is, behind)) = no_expression l 0 m is
+
+pub b_more_named_links : (l : Limits) (x : Lexeme) (p : Place) (ts rest : List Placed) →
+    Accepts l (placed x p) ts rest (more_named_links_on x) →
+    more_named_links_form l (placed x p ∷ ts) rest
+b_more_named_links l (sign signs.CloseParenthesis) p ts rest is = (
+  zero,
+  (
+    placed (sign signs.CloseParenthesis) p ∷
+        ts,
+    refl,
+    (p, last_token (sign signs.CloseParenthesis) p ts rest is.2),
+  ),
+)
+b_more_named_links l (sign signs.Comma) p ts rest
+    (opens, arm, (q0, a0, (q1, a1, (q2, a2, (m1, a3, (m2, (k, (m3, others, final)), same)))))) =
+    subst (more_named_links_form l (placed (sign signs.Comma) p ∷ ts)) same
+    (suc k, (m3, (m1, (ts, (p, refl), (q0, a0, (q1, a1, (q2, a2, a3)))), others), final))
+b_more_named_links l x p ts rest is = absurd is
+
+pub none_more_named_links : (l : Limits) (rest : List Placed) → more_named_links_form l [] rest → ⊥
+none_more_named_links l rest (zero, (m, none, (p, e))) = no_token (none ∙ e)
+none_more_named_links l rest (suc k, (m, (m1, (m0, (p, e), behind), others), final)) = no_token e
+
+pub b_links : (l : Limits) (x : Lexeme) (p : Place) (ts rest : List Placed) →
+    Accepts l (placed x p) ts rest (links_on x) → links_form l (placed x p ∷ ts) rest
+b_links l (sign signs.CloseParenthesis) p ts rest is = inl (ts, (p, refl), is.2)
+b_links l (sign signs.Dot) p ts rest is = inr (inl (ts, (p, refl), is.2))
+b_links l x p ts rest is =
+    let begun = b_begins l 0 0 (more_values ∷ []) x p ts rest is in
+    inr (inr (begun.1, begun.2, begun.3))
+
+pub none_links : (l : Limits) (rest : List Placed) → links_form l [] rest → ⊥
+none_links l rest (inl (m, (p, e), behind)) = no_token e
+none_links l rest (inr (inl (m, (p, e), behind))) = no_token e
+none_links l rest (inr (inr (m, is, behind))) = no_expression l 0 m is
+
+pub b_more_instances : (l : Limits) (x : Lexeme) (p : Place) (ts rest : List Placed) →
+    Accepts l (placed x p) ts rest (more_instances_on x) →
+    more_instances_form l (placed x p ∷ ts) rest
+b_more_instances l (sign signs.Semicolon) p ts rest is = (
+  zero,
+  (
+    placed (sign signs.Semicolon) p ∷
+        ts,
+    refl,
+    (p, last_token (sign signs.Semicolon) p ts rest is.2),
+  ),
+)
+b_more_instances l (sign signs.Comma) p ts rest
+    (opens, arm, (q0, a0, (q1, a1, (m1, a2, (m2, (k, (m3, others, final)), same))))) =
+    subst (more_instances_form l (placed (sign signs.Comma) p ∷ ts)) same
+    (suc k, (m3, (m1, (ts, (p, refl), (q0, a0, (q1, a1, a2))), others), final))
+b_more_instances l x p ts rest is = absurd is
+
+pub none_more_instances : (l : Limits) (rest : List Placed) → more_instances_form l [] rest → ⊥
+none_more_instances l rest (zero, (m, none, (p, e))) = no_token (none ∙ e)
+none_more_instances l rest (suc k, (m, (m1, (m0, (p, e), behind), others), final)) = no_token e
+
+pub b_items : (l : Limits) (x : Lexeme) (p : Place) (ts rest : List Placed) →
+    Accepts l (placed x p) ts rest (items_on x) → items_form l (placed x p ∷ ts) rest
+b_items l (word words.Endmodule) p ts rest is = (
+  zero,
+  (
+    placed (word words.Endmodule) p ∷
+        ts,
+    refl,
+    (p, last_token (word words.Endmodule) p ts rest is.2),
+  ),
+)
+b_items l (word words.Parameter) p ts rest (
+  opens,
+  arm,
+  (
+    q0,
+    a0,
+    (q1, a1, (q2, a2, (q3, a3, (m1, a4, (m2, (k, (m3, others, final)), same))))),
+  ),
+) =
+    subst (items_form l (placed (word words.Parameter) p ∷ ts)) same (
+      suc k,
+      (
+        m3,
+        (
+          m1,
+          inl (ts, (p, refl), (q0, a0, (q1, a1, (q2, a2, (q3, a3, a4))))),
+          others,
+        ),
+        final,
+      ),
+    )
+b_items l (word words.Localparam) p ts rest (
+  opens,
+  arm,
+  (
+    q0,
+    a0,
+    (q1, a1, (q2, a2, (q3, a3, (m1, a4, (m2, (k, (m3, others, final)), same))))),
+  ),
+) =
+    subst (items_form l (placed (word words.Localparam) p ∷ ts)) same (
+      suc k,
+      (
+        m3,
+        (
+          m1,
+          inr (inl (ts, (p, refl), (q0, a0, (q1, a1, (q2, a2, (q3, a3, a4)))))),
+          others,
+        ),
+        final,
+      ),
+    )
+b_items l (word words.Wire) p ts rest (
+  opens,
+  arm,
+  (
+    q0,
+    a0,
+    (q1, a1, (q2, a2, (q3, a3, (q4, a4, (m1, a5, (m2, (k, (m3, others, final)), same)))))),
+  ),
+) =
+    subst (items_form l (placed (word words.Wire) p ∷ ts)) same (
+      suc k,
+      (
+        m3,
+        (
+          m1,
+          inr
+              (inr (inl (ts, (p, refl), (q0, a0, (q1, a1, (q2, a2, (q3, a3, (q4, a4, a5)))))))),
+          others,
+        ),
+        final,
+      ),
+    )
+b_items l (word words.Reg) p ts rest
+    (opens, arm, (q0, a0, (q1, a1, (m1, a2, (m2, (k, (m3, others, final)), same))))) =
+    subst (items_form l (placed (word words.Reg) p ∷ ts)) same (
+      suc k,
+      (
+        m3,
+        (
+          m1,
+          inr (inr (inr (inl (ts, (p, refl), (q0, a0, (q1, a1, a2)))))),
+          others,
+        ),
+        final,
+      ),
+    )
+b_items l (word words.Assign) p ts rest
+    (opens, arm, (m1, a0, (m2, (k, (m3, others, final)), same))) =
+    subst (items_form l (placed (word words.Assign) p ∷ ts)) same
+    (suc k, (m3, (m1, inr (inr (inr (inr (inl (ts, (p, refl), a0))))), others), final))
+b_items l (word words.Always) p ts rest
+    (opens, arm, (q0, a0, (q1, a1, (m1, a2, (m2, (k, (m3, others, final)), same))))) =
+    subst (items_form l (placed (word words.Always) p ∷ ts)) same (
+      suc k,
+      (
+        m3,
+        (
+          m1,
+          inr (inr (inr (inr (inr (inl (ts, (p, refl), (q0, a0, (q1, a1, a2)))))))),
+          others,
+        ),
+        final,
+      ),
+    )
+b_items l (word words.Invariant) p ts rest
+    (opens, arm, (q0, a0, (m1, a1, (m2, (k, (m3, others, final)), same)))) =
+    subst (items_form l (placed (word words.Invariant) p ∷ ts)) same (
+      suc k,
+      (
+        m3,
+        (
+          m1,
+          inr (inr (inr (inr (inr (inr (inl (ts, (p, refl), (q0, a0, a1)))))))),
+          others,
+        ),
+        final,
+      ),
+    )
+b_items l (identifier x) p ts rest is =
+    let name = taken_as_name l (perhaps_overrides ∷ plain_name ∷ punctuation signs.OpenParenthesis ∷
+    links ∷ more_instances ∷ items ∷ []) (placed (identifier x) p) ts rest
+    (is_refused_word x) is in
+    let (q0, a0, (q1, a1, (q2, a2, (q3, a3, (m1, a4, (m2, (k, (m3, others, final)), same)))))) =
+    name.1 in
+    subst (items_form l (placed (identifier x) p ∷ ts)) same (
+      suc k,
+      (
+        m3,
+        (
+          m1,
+          inr
+              (inr
+              (inr
+              (inr
+              (inr
+              (inr (inr (
+                ts,
+                (x, (p, (name.0, refl))),
+                (q0, a0, (q1, a1, (q2, a2, (q3, a3, a4)))),
+              ))))))),
+          others,
+        ),
+        final,
+      ),
+    )
+b_items l x p ts rest is = absurd is
+
+pub none_items : (l : Limits) (rest : List Placed) → items_form l [] rest → ⊥
+none_items l rest (zero, (m, none, (p, e))) = no_token (none ∙ e)
+none_items l rest (suc k, (m, (m1, inl (m0, (p, e), behind), others), final)) = no_token e
+none_items l rest (suc k, (m, (m1, inr (inl (m0, (p, e), behind)), others), final)) = no_token e
+none_items l rest (suc k, (m, (m1, inr (inr (inl (m0, (p, e), behind))), others), final)) =
+    no_token e
+none_items l rest (suc k, (m, (m1, inr (inr (inr (inl (m0, (p, e), behind)))), others), final)) =
+    no_token e
+none_items l rest (
+  suc
+      k,
+  (m, (m1, inr (inr (inr (inr (inl (m0, (p, e), behind))))), others), final),
+) = no_token e
+none_items l rest (
+  suc
+      k,
+  (m, (m1, inr (inr (inr (inr (inr (inl (m0, (p, e), behind)))))), others), final),
+) =
+    no_token e
+none_items l rest (
+  suc
+      k,
+  (m, (m1, inr (inr (inr (inr (inr (inr (inl (m0, (p, e), behind))))))), others), final),
+) =
+    no_token e
+none_items l rest (
+  suc
+      k,
+  (
+    m,
+    (m1, inr (inr (inr (inr (inr (inr (inr (m0, (x, (p, (free, e))), behind))))))), others),
+    final,
+  ),
+) = no_token e
+
+pub b_one_module : (l : Limits) (x : Lexeme) (p : Place) (ts rest : List Placed) →
+    Accepts l (placed x p) ts rest (one_module_on x) → one_module_form l (placed x p ∷ ts) rest
+b_one_module l (word words.Module) p ts rest is = (ts, (p, refl), is.2)
+b_one_module l x p ts rest is = absurd is
+
+pub none_one_module : (l : Limits) (rest : List Placed) → one_module_form l [] rest → ⊥
+none_one_module l rest (m, (p, e), behind) = no_token e

@@ -1,0 +1,153 @@
+-- Single steps outside expressions: names, operators, and the first token of an expression.
+use Rattle.std.proofs.Common.{◌≡◌, ℕ, Bool, true, false, not, List, [], ◌∷◌, ◌++◌, Option, Some}
+use Rattle.std.proofs.Common.{None, refl, sym, subst}
+use Rattle.std.specs.Prelude.{IsTrue}
+use Rattle.sv_num.specs.declared.operators.UnOp.{UnOp}
+use Rattle.sv_num.specs.declared.operators.BinOp.{BinOp}
+use Rattle.sv_num.specs.declared.operators.BinOp.TheVariants.{Mul, Le}
+use Rattle.sv_num.specs.declared.faults.Place.{Place}
+use Rattle.sv_token.specs.declared.signs.SignKind.TheVariants as signs
+use Rattle.sv_token.specs.Lexemes.{Lexeme, identifier, sign, Placed}
+use Rattle.sv_token.specs.Words.{is_refused_word}
+use Rattle.sv_ast.specs.GrammarForms.{◌⨾◌, unary_operator}
+use Rattle.sv_ast.specs.GrammarExpressions.{Limits, is_within, read_tokens}
+use Rattle.sv_parse_machine.specs.Symbols.{Inner, operand, tail, Outer, punctuation, InnerReaction}
+use Rattle.sv_parse_machine.specs.Symbols.{takes_inner, over_inner, stuck_inner, OuterReaction, over}
+use Rattle.sv_parse_machine.specs.Symbols.{takes_all, unless_refused}
+use Rattle.sv_parse_machine.specs.ExpressionTable.{name_operand, prefix_operand, operand_on}
+use Rattle.sv_parse_machine.specs.ExpressionTable.{as_expression, expression_on}
+use Rattle.sv_parse_machine.specs.StatementTable.{is_star, is_less_equal, taken_if}
+use Rattle.sv_parse_machine.specs.ModuleTable.{star_in_event}
+use Rattle.sv_parse_machine.proofs.ExpressionForms.{tail_form, inner_forms, AcceptsInner, expression_form}
+use Rattle.sv_parse_machine.proofs.ExpressionParts.{to_parts, from_parts}
+use Rattle.sv_parse_machine.proofs.InnerSteps.{placed, none_opens, no_arm, free_name, alone, f_inner}
+use Rattle.sv_parse_machine.proofs.InnerForms.{b_inner, no_operand}
+use Rattle.sv_parse_machine.proofs.OuterForms.{IsOver, outer_forms, Accepts}
+
+-- ---- names and operators
+
+pub unrefused : (l : Limits) (ys : List Outer) (t : Placed) (ts rest : List Placed) (x : List ℕ)
+    → IsTrue (not (is_refused_word x)) → outer_forms l ys ts rest
+    → Accepts l t ts rest (unless_refused (is_refused_word x) (takes_all ys))
+unrefused l ys t ts rest x free is =
+    free_name (is_refused_word x) free (λ b. Accepts l t ts rest (unless_refused b (takes_all ys)))
+    (none_opens l, no_arm l, is)
+
+pub taken_as_name : (l : Limits) (ys : List Outer) (t : Placed) (ts rest : List Placed) (b : Bool)
+    → Accepts l t ts rest (unless_refused b (takes_all ys))
+    → IsTrue (not b) × outer_forms l ys ts rest
+taken_as_name l ys t ts rest true is = absurd is
+taken_as_name l ys t ts rest false is = (refl, is.2)
+
+pub skipped : (l : Limits) (t : Placed) (ts rest : List Placed) (r : OuterReaction) → IsOver r →
+    t ∷ ts ≡ rest → Accepts l t ts rest r
+skipped l t ts rest over kind same = same
+skipped l t ts rest r kind same = absurd kind
+
+pub taken_star : (l : Limits) (t : Placed) (ts rest : List Placed) (b : Option BinOp) →
+    Accepts l t ts rest (taken_if (is_star b)) → (b ≡ Some Mul) × (ts ≡ rest)
+taken_star l t ts rest (Some Mul) is = (refl, is.2)
+taken_star l t ts rest b is = absurd is
+
+pub taken_less_equal : (l : Limits) (t : Placed) (ts rest : List Placed) (b : Option BinOp)
+    → Accepts l t ts rest (taken_if (is_less_equal b))
+    → (b ≡ Some Le) × (ts ≡ rest)
+taken_less_equal l t ts rest (Some Le) is = (refl, is.2)
+taken_less_equal l t ts rest b is = absurd is
+
+pub taken_star_inside : (l : Limits) (t : Placed) (ts rest : List Placed) (b : Option BinOp)
+    → Accepts l t ts rest (star_in_event (is_star b))
+    → (b ≡ Some Mul) × outer_forms l (punctuation signs.CloseParenthesis ∷ []) ts rest
+taken_star_inside l t ts rest (Some Mul) is = (refl, is.2)
+taken_star_inside l t ts rest b is = absurd is
+
+-- ---- expressions
+
+abbrev NotOver : InnerReaction → Type 0
+NotOver over_inner = ⊥
+NotOver r = Unit {0}
+
+name_not_over : (n : ℕ) (b : Bool) → NotOver (name_operand n b)
+name_not_over n true = tt
+name_not_over n false = tt
+
+prefix_not_over : (n : ℕ) (u : Option UnOp) → NotOver (prefix_operand n u)
+prefix_not_over n None = tt
+prefix_not_over n (Some op) = tt
+
+operand_not_over : (n : ℕ) (x : Lexeme) → NotOver (operand_on n x)
+operand_not_over n (identifier y) = name_not_over n (is_refused_word y)
+operand_not_over n (sign (signs.Operator o)) = prefix_not_over n (unary_operator o)
+operand_not_over n x = tt
+
+append_inner : (l : Limits) (xs zs : List Inner) (ts mid rest : List Placed) →
+    inner_forms l xs ts mid → inner_forms l zs mid rest → inner_forms l (xs ++ zs) ts rest
+append_inner l [] zs ts mid rest first second =
+    subst (λ us. inner_forms l zs us rest) (sym first) second
+append_inner l (x ∷ xs) zs ts mid rest first second =
+    (first.0, first.1, append_inner l xs zs first.0 mid rest first.2 second)
+
+split_inner : (l : Limits) (xs zs : List Inner) (ts rest : List Placed) →
+    inner_forms l (xs ++ zs) ts rest → (inner_forms l xs ⨾ inner_forms l zs) ts rest
+split_inner l [] zs ts rest is = (ts, refl, is)
+split_inner l (x ∷ xs) zs ts rest is =
+    let others = split_inner l xs zs is.0 rest is.2 in
+    (others.0, (is.0, is.1, others.1), others.2)
+
+begun : (l : Limits) (n arm : ℕ) (ys : List Outer) (t : Placed) (ts m mid rest : List Placed)
+    (r : InnerReaction) → NotOver r
+    → AcceptsInner l t ts m r → tail_form l n m mid
+    → IsTrue (is_within l.tokens (read_tokens l (t ∷ ts) mid)) → IsTrue (is_within l.arms arm)
+    → outer_forms l ys mid rest → Accepts l t ts rest (as_expression n arm ys r)
+begun l n arm ys t ts m mid rest (takes_inner level xs) kind first behind count few others = (
+  first.0,
+  few,
+  mid,
+  append_inner l xs (tail n ∷ []) ts m mid first.1
+      (mid, behind, refl),
+  count,
+  others,
+)
+begun l n arm ys t ts m mid rest over_inner kind first behind count few others = absurd kind
+begun l n arm ys t ts m mid rest (stuck_inner e) kind first behind count few others = absurd first
+
+-- an expression begins with its token
+pub f_begins : (l : Limits) (n arm : ℕ) (ys : List Outer) (t : Placed) (ts mid rest : List Placed)
+    → expression_form l n (t ∷ ts) mid
+    → IsTrue (is_within l.arms arm) → outer_forms l ys mid rest
+    → Accepts l t ts rest (expression_on n arm ys t.lexeme)
+f_begins l n arm ys t ts mid rest (w, is, ends, next, count) few others =
+    let parts = to_parts l n w (t ∷ ts) mid is ends next in
+    begun l n arm ys t ts parts.0 mid rest (operand_on n t.lexeme) (operand_not_over n t.lexeme)
+    (f_inner l (operand n) t ts parts.0 parts.1) parts.2 count few others
+
+-- the arm may begin, and an expression stands there with the others behind it
+abbrev Begun : Limits → (n arm : ℕ) → List Outer → Placed → List Placed → List Placed → Type 0
+Begun l n arm ys t ts rest =
+    IsTrue (is_within l.arms arm) × (mid : List Placed) × expression_form l n (t ∷ ts) mid
+    × outer_forms l ys mid rest
+
+begun_back : (l : Limits) (n arm : ℕ) (ys : List Outer) (x : Lexeme) (p : Place)
+    (ts rest : List Placed) (r : InnerReaction) → operand_on n x ≡ r → NotOver r
+    → Accepts l (placed x p) ts rest (as_expression n arm ys r)
+    → Begun l n arm ys (placed x p) ts rest
+begun_back l n arm ys x p ts rest (takes_inner level xs) found kind
+    (opens, few, mid, inners, count, others) =
+    let (m, first, behind) = split_inner l xs (tail n ∷ []) ts mid inners in
+    let operand = b_inner l (operand n) x p ts m
+    (subst (AcceptsInner l (placed x p) ts m) (sym found) (opens, first)) in
+    let whole = from_parts l n (placed x p ∷ ts) mid
+    (m, operand, alone (tail_form l n) m mid behind) in
+    (few, mid, (whole.0, whole.1, whole.2, whole.3, count), others)
+begun_back l n arm ys x p ts rest over_inner found kind is = absurd kind
+begun_back l n arm ys x p ts rest (stuck_inner e) found kind is = absurd is
+
+pub b_begins : (l : Limits) (n arm : ℕ) (ys : List Outer) (x : Lexeme) (p : Place)
+    (ts rest : List Placed) → Accepts l (placed x p) ts rest (expression_on n arm ys x)
+    → Begun l n arm ys (placed x p) ts rest
+b_begins l n arm ys x p ts rest is =
+    begun_back l n arm ys x p ts rest (operand_on n x) refl (operand_not_over n x) is
+
+pub no_expression : (l : Limits) (n : ℕ) (mid : List Placed) → expression_form l n [] mid → ⊥
+no_expression l n mid (w, is, ends, next, count) =
+    no_operand l n (to_parts l n w [] mid is ends next).0 (to_parts l n w [] mid is ends next).1

@@ -1,0 +1,297 @@
+-- For each symbol outside expressions that may be left out, or that an expression may begin: what
+-- reading it comes to where no token of its own comes.
+use Rattle.std.proofs.Common.{◌≡◌, ℕ, ◌+◌, ◌≤◌, Bool, List, [], ◌∷◌, length, refl, arith}
+use Rattle.sv_token.specs.declared.keywords.WordKind.TheVariants as words
+use Rattle.sv_token.specs.declared.signs.SignKind.TheVariants as signs
+use Rattle.sv_token.specs.Lexemes.{Lexeme, word, sign, Placed}
+use Rattle.sv_parse_machine.specs.Symbols.{punctuation, more_values, perhaps_lattice, perhaps_maps}
+use Rattle.sv_parse_machine.specs.Symbols.{perhaps_key_range, perhaps_second_key}
+use Rattle.sv_parse_machine.specs.Symbols.{perhaps_header_parameters, parameter_type, perhaps_ports}
+use Rattle.sv_parse_machine.specs.Symbols.{perhaps_wire, perhaps_wire_or_reg, perhaps_signed}
+use Rattle.sv_parse_machine.specs.Symbols.{perhaps_range, perhaps_label, perhaps_second_name}
+use Rattle.sv_parse_machine.specs.Symbols.{perhaps_value, value_or_release, more_assigned}
+use Rattle.sv_parse_machine.specs.Symbols.{perhaps_overrides, overrides, links, link, statement}
+use Rattle.sv_parse_machine.specs.Symbols.{perhaps_block_name, perhaps_else, perhaps_bits, arms}
+use Rattle.sv_parse_machine.specs.Symbols.{more_choices, perhaps_colon, outer, over}
+use Rattle.sv_parse_machine.specs.ExpressionTable.{expression_on}
+use Rattle.sv_parse_machine.specs.Machine.{outer_on}
+use Rattle.sv_parse_machine.specs.Reads.{IsNot, NextIsNot, Reads}
+use Rattle.sv_parse_machine.proofs.ReadSteps.{skips, expression_from, begins_expression}
+
+row_perhaps_lattice : (x : Lexeme) → IsNot (word words.Lattice) x →
+    outer_on perhaps_lattice x ≡ over
+row_perhaps_lattice (word words.Lattice) no_0 = absurd (no_0 refl)
+row_perhaps_lattice x no_0 = refl
+
+pub skips_perhaps_lattice : (ts : List Placed) → NextIsNot (word words.Lattice) ts →
+    Reads (outer perhaps_lattice ∷ []) [] ts ts
+skips_perhaps_lattice [] no_0 = skips perhaps_lattice [] refl tt
+skips_perhaps_lattice (t ∷ ts) no_0 =
+    skips perhaps_lattice (t ∷ ts) refl (row_perhaps_lattice t.lexeme no_0)
+
+row_perhaps_key_range : (x : Lexeme) → IsNot (sign signs.OpenBracket) x →
+    outer_on perhaps_key_range x ≡ over
+row_perhaps_key_range (sign signs.OpenBracket) no_0 = absurd (no_0 refl)
+row_perhaps_key_range x no_0 = refl
+
+pub skips_perhaps_key_range : (ts : List Placed) → NextIsNot (sign signs.OpenBracket) ts →
+    Reads (outer perhaps_key_range ∷ []) [] ts ts
+skips_perhaps_key_range [] no_0 = skips perhaps_key_range [] refl tt
+skips_perhaps_key_range (t ∷ ts) no_0 =
+    skips perhaps_key_range (t ∷ ts) refl (row_perhaps_key_range t.lexeme no_0)
+
+row_perhaps_second_key : (x : Lexeme) → IsNot (sign signs.Comma) x →
+    outer_on perhaps_second_key x ≡ over
+row_perhaps_second_key (sign signs.Comma) no_0 = absurd (no_0 refl)
+row_perhaps_second_key x no_0 = refl
+
+pub skips_perhaps_second_key : (ts : List Placed) → NextIsNot (sign signs.Comma) ts →
+    Reads (outer perhaps_second_key ∷ []) [] ts ts
+skips_perhaps_second_key [] no_0 = skips perhaps_second_key [] refl tt
+skips_perhaps_second_key (t ∷ ts) no_0 =
+    skips perhaps_second_key (t ∷ ts) refl (row_perhaps_second_key t.lexeme no_0)
+
+row_perhaps_maps : (x : Lexeme) → IsNot (word words.Labelmap) x → outer_on perhaps_maps x ≡ over
+row_perhaps_maps (word words.Labelmap) no_0 = absurd (no_0 refl)
+row_perhaps_maps x no_0 = refl
+
+pub skips_perhaps_maps : (ts : List Placed) → NextIsNot (word words.Labelmap) ts →
+    Reads (outer perhaps_maps ∷ []) [] ts ts
+skips_perhaps_maps [] no_0 = skips perhaps_maps [] refl tt
+skips_perhaps_maps (t ∷ ts) no_0 = skips perhaps_maps (t ∷ ts) refl (row_perhaps_maps t.lexeme no_0)
+
+row_parameter_type : (x : Lexeme) → IsNot (word words.Signed) x → IsNot (sign signs.OpenBracket) x →
+    outer_on parameter_type x ≡ over
+row_parameter_type (word words.Signed) no_0 no_1 = absurd (no_0 refl)
+row_parameter_type (sign signs.OpenBracket) no_0 no_1 = absurd (no_1 refl)
+row_parameter_type x no_0 no_1 = refl
+
+pub skips_parameter_type : (ts : List Placed) → NextIsNot (word words.Signed) ts →
+    NextIsNot (sign signs.OpenBracket) ts → Reads (outer parameter_type ∷ []) [] ts ts
+skips_parameter_type [] no_0 no_1 = skips parameter_type [] refl tt
+skips_parameter_type (t ∷ ts) no_0 no_1 =
+    skips parameter_type (t ∷ ts) refl (row_parameter_type t.lexeme no_0 no_1)
+
+row_perhaps_header_parameters : (x : Lexeme) → IsNot (sign signs.Hash) x →
+    outer_on perhaps_header_parameters x ≡ over
+row_perhaps_header_parameters (sign signs.Hash) no_0 = absurd (no_0 refl)
+row_perhaps_header_parameters x no_0 = refl
+
+pub skips_perhaps_header_parameters : (ts : List Placed) → NextIsNot (sign signs.Hash) ts →
+    Reads (outer perhaps_header_parameters ∷ []) [] ts ts
+skips_perhaps_header_parameters [] no_0 = skips perhaps_header_parameters [] refl tt
+skips_perhaps_header_parameters (t ∷ ts) no_0 =
+    skips perhaps_header_parameters (t ∷ ts) refl (row_perhaps_header_parameters t.lexeme no_0)
+
+row_perhaps_wire : (x : Lexeme) → IsNot (word words.Wire) x → outer_on perhaps_wire x ≡ over
+row_perhaps_wire (word words.Wire) no_0 = absurd (no_0 refl)
+row_perhaps_wire x no_0 = refl
+
+pub skips_perhaps_wire : (ts : List Placed) → NextIsNot (word words.Wire) ts →
+    Reads (outer perhaps_wire ∷ []) [] ts ts
+skips_perhaps_wire [] no_0 = skips perhaps_wire [] refl tt
+skips_perhaps_wire (t ∷ ts) no_0 = skips perhaps_wire (t ∷ ts) refl (row_perhaps_wire t.lexeme no_0)
+
+row_perhaps_wire_or_reg : (x : Lexeme) → IsNot (word words.Wire) x → IsNot (word words.Reg) x →
+    outer_on perhaps_wire_or_reg x ≡ over
+row_perhaps_wire_or_reg (word words.Wire) no_0 no_1 = absurd (no_0 refl)
+row_perhaps_wire_or_reg (word words.Reg) no_0 no_1 = absurd (no_1 refl)
+row_perhaps_wire_or_reg x no_0 no_1 = refl
+
+pub skips_perhaps_wire_or_reg : (ts : List Placed) → NextIsNot (word words.Wire) ts →
+    NextIsNot (word words.Reg) ts → Reads (outer perhaps_wire_or_reg ∷ []) [] ts ts
+skips_perhaps_wire_or_reg [] no_0 no_1 = skips perhaps_wire_or_reg [] refl tt
+skips_perhaps_wire_or_reg (t ∷ ts) no_0 no_1 =
+    skips perhaps_wire_or_reg (t ∷ ts) refl (row_perhaps_wire_or_reg t.lexeme no_0 no_1)
+
+row_perhaps_signed : (x : Lexeme) → IsNot (word words.Signed) x → outer_on perhaps_signed x ≡ over
+row_perhaps_signed (word words.Signed) no_0 = absurd (no_0 refl)
+row_perhaps_signed x no_0 = refl
+
+pub skips_perhaps_signed : (ts : List Placed) → NextIsNot (word words.Signed) ts →
+    Reads (outer perhaps_signed ∷ []) [] ts ts
+skips_perhaps_signed [] no_0 = skips perhaps_signed [] refl tt
+skips_perhaps_signed (t ∷ ts) no_0 =
+    skips perhaps_signed (t ∷ ts) refl (row_perhaps_signed t.lexeme no_0)
+
+row_perhaps_range : (x : Lexeme) → IsNot (sign signs.OpenBracket) x →
+    outer_on perhaps_range x ≡ over
+row_perhaps_range (sign signs.OpenBracket) no_0 = absurd (no_0 refl)
+row_perhaps_range x no_0 = refl
+
+pub skips_perhaps_range : (ts : List Placed) → NextIsNot (sign signs.OpenBracket) ts →
+    Reads (outer perhaps_range ∷ []) [] ts ts
+skips_perhaps_range [] no_0 = skips perhaps_range [] refl tt
+skips_perhaps_range (t ∷ ts) no_0 =
+    skips perhaps_range (t ∷ ts) refl (row_perhaps_range t.lexeme no_0)
+
+row_perhaps_second_name : (x : Lexeme) → IsNot (sign signs.Comma) x →
+    outer_on perhaps_second_name x ≡ over
+row_perhaps_second_name (sign signs.Comma) no_0 = absurd (no_0 refl)
+row_perhaps_second_name x no_0 = refl
+
+pub skips_perhaps_second_name : (ts : List Placed) → NextIsNot (sign signs.Comma) ts →
+    Reads (outer perhaps_second_name ∷ []) [] ts ts
+skips_perhaps_second_name [] no_0 = skips perhaps_second_name [] refl tt
+skips_perhaps_second_name (t ∷ ts) no_0 =
+    skips perhaps_second_name (t ∷ ts) refl (row_perhaps_second_name t.lexeme no_0)
+
+row_perhaps_label : (x : Lexeme) → IsNot (sign signs.OpenBrace) x → outer_on perhaps_label x ≡ over
+row_perhaps_label (sign signs.OpenBrace) no_0 = absurd (no_0 refl)
+row_perhaps_label x no_0 = refl
+
+pub skips_perhaps_label : (ts : List Placed) → NextIsNot (sign signs.OpenBrace) ts →
+    Reads (outer perhaps_label ∷ []) [] ts ts
+skips_perhaps_label [] no_0 = skips perhaps_label [] refl tt
+skips_perhaps_label (t ∷ ts) no_0 =
+    skips perhaps_label (t ∷ ts) refl (row_perhaps_label t.lexeme no_0)
+
+row_perhaps_ports : (x : Lexeme) → IsNot (sign signs.OpenParenthesis) x →
+    outer_on perhaps_ports x ≡ over
+row_perhaps_ports (sign signs.OpenParenthesis) no_0 = absurd (no_0 refl)
+row_perhaps_ports x no_0 = refl
+
+pub skips_perhaps_ports : (ts : List Placed) → NextIsNot (sign signs.OpenParenthesis) ts →
+    Reads (outer perhaps_ports ∷ []) [] ts ts
+skips_perhaps_ports [] no_0 = skips perhaps_ports [] refl tt
+skips_perhaps_ports (t ∷ ts) no_0 =
+    skips perhaps_ports (t ∷ ts) refl (row_perhaps_ports t.lexeme no_0)
+
+row_perhaps_value : (x : Lexeme) → IsNot (sign signs.Equals) x → outer_on perhaps_value x ≡ over
+row_perhaps_value (sign signs.Equals) no_0 = absurd (no_0 refl)
+row_perhaps_value x no_0 = refl
+
+pub skips_perhaps_value : (ts : List Placed) → NextIsNot (sign signs.Equals) ts →
+    Reads (outer perhaps_value ∷ []) [] ts ts
+skips_perhaps_value [] no_0 = skips perhaps_value [] refl tt
+skips_perhaps_value (t ∷ ts) no_0 =
+    skips perhaps_value (t ∷ ts) refl (row_perhaps_value t.lexeme no_0)
+
+row_value_or_release : (x : Lexeme) → IsNot (word words.Release) x →
+    outer_on value_or_release x ≡ expression_on 0 0 (more_assigned ∷ []) x
+row_value_or_release (word words.Release) no_0 = absurd (no_0 refl)
+row_value_or_release x no_0 = refl
+
+pub begins_value_or_release : (ts : List Placed) → NextIsNot (word words.Release) ts →
+    Reads (outer value_or_release ∷ []) (expression_from (length ts) 0 (more_assigned ∷ [])) ts ts
+begins_value_or_release [] no_0 =
+    begins_expression value_or_release 0 0 (more_assigned ∷ []) [] (omega arith) refl tt
+begins_value_or_release (t ∷ ts) no_0 =
+    begins_expression value_or_release 0 0 (more_assigned ∷ []) (t ∷ ts) (omega arith) refl
+    (row_value_or_release t.lexeme no_0)
+
+row_overrides : (x : Lexeme) → IsNot (sign signs.Dot) x →
+    outer_on overrides x ≡ expression_on 0 0 (more_values ∷ []) x
+row_overrides (sign signs.Dot) no_0 = absurd (no_0 refl)
+row_overrides x no_0 = refl
+
+pub begins_overrides : (ts : List Placed) → NextIsNot (sign signs.Dot) ts →
+    Reads (outer overrides ∷ []) (expression_from (length ts) 0 (more_values ∷ [])) ts ts
+begins_overrides [] no_0 =
+    begins_expression overrides 0 0 (more_values ∷ []) [] (omega arith) refl tt
+begins_overrides (t ∷ ts) no_0 =
+    begins_expression overrides 0 0 (more_values ∷ []) (t ∷ ts) (omega arith) refl
+    (row_overrides t.lexeme no_0)
+
+row_perhaps_overrides : (x : Lexeme) → IsNot (sign signs.Hash) x →
+    outer_on perhaps_overrides x ≡ over
+row_perhaps_overrides (sign signs.Hash) no_0 = absurd (no_0 refl)
+row_perhaps_overrides x no_0 = refl
+
+pub skips_perhaps_overrides : (ts : List Placed) → NextIsNot (sign signs.Hash) ts →
+    Reads (outer perhaps_overrides ∷ []) [] ts ts
+skips_perhaps_overrides [] no_0 = skips perhaps_overrides [] refl tt
+skips_perhaps_overrides (t ∷ ts) no_0 =
+    skips perhaps_overrides (t ∷ ts) refl (row_perhaps_overrides t.lexeme no_0)
+
+row_link : (x : Lexeme) → IsNot (sign signs.CloseParenthesis) x →
+    outer_on link x ≡ expression_on 0 0 (punctuation signs.CloseParenthesis ∷ []) x
+row_link (sign signs.CloseParenthesis) no_0 = absurd (no_0 refl)
+row_link x no_0 = refl
+
+pub begins_link : (ts : List Placed) → NextIsNot (sign signs.CloseParenthesis) ts →
+    Reads (outer link ∷ [])
+    (expression_from (length ts) 0 (punctuation signs.CloseParenthesis ∷ [])) ts ts
+begins_link [] no_0 =
+    begins_expression link 0 0 (punctuation signs.CloseParenthesis ∷ []) [] (omega arith) refl tt
+begins_link (t ∷ ts) no_0 =
+    begins_expression link 0 0 (punctuation signs.CloseParenthesis ∷ []) (t ∷ ts) (omega arith) refl
+    (row_link t.lexeme no_0)
+
+row_links : (x : Lexeme) → IsNot (sign signs.CloseParenthesis) x → IsNot (sign signs.Dot) x →
+    outer_on links x ≡ expression_on 0 0 (more_values ∷ []) x
+row_links (sign signs.CloseParenthesis) no_0 no_1 = absurd (no_0 refl)
+row_links (sign signs.Dot) no_0 no_1 = absurd (no_1 refl)
+row_links x no_0 no_1 = refl
+
+pub begins_links : (ts : List Placed) → NextIsNot (sign signs.CloseParenthesis) ts →
+    NextIsNot (sign signs.Dot) ts →
+    Reads (outer links ∷ []) (expression_from (length ts) 0 (more_values ∷ [])) ts ts
+begins_links [] no_0 no_1 = begins_expression links 0 0 (more_values ∷ []) [] (omega arith) refl tt
+begins_links (t ∷ ts) no_0 no_1 =
+    begins_expression links 0 0 (more_values ∷ []) (t ∷ ts) (omega arith) refl
+    (row_links t.lexeme no_0 no_1)
+
+row_perhaps_bits : (n : ℕ) (x : Lexeme) → IsNot (sign signs.OpenBracket) x →
+    outer_on (perhaps_bits n) x ≡ over
+row_perhaps_bits n (sign signs.OpenBracket) no_0 = absurd (no_0 refl)
+row_perhaps_bits n x no_0 = refl
+
+pub skips_perhaps_bits : (n : ℕ) (ts : List Placed) → NextIsNot (sign signs.OpenBracket) ts →
+    Reads (outer (perhaps_bits n) ∷ []) [] ts ts
+skips_perhaps_bits n [] no_0 = skips (perhaps_bits n) [] refl tt
+skips_perhaps_bits n (t ∷ ts) no_0 =
+    skips (perhaps_bits n) (t ∷ ts) refl (row_perhaps_bits n t.lexeme no_0)
+
+row_perhaps_block_name : (x : Lexeme) → IsNot (sign signs.Colon) x →
+    outer_on perhaps_block_name x ≡ over
+row_perhaps_block_name (sign signs.Colon) no_0 = absurd (no_0 refl)
+row_perhaps_block_name x no_0 = refl
+
+pub skips_perhaps_block_name : (ts : List Placed) → NextIsNot (sign signs.Colon) ts →
+    Reads (outer perhaps_block_name ∷ []) [] ts ts
+skips_perhaps_block_name [] no_0 = skips perhaps_block_name [] refl tt
+skips_perhaps_block_name (t ∷ ts) no_0 =
+    skips perhaps_block_name (t ∷ ts) refl (row_perhaps_block_name t.lexeme no_0)
+
+row_perhaps_colon : (x : Lexeme) → IsNot (sign signs.Colon) x → outer_on perhaps_colon x ≡ over
+row_perhaps_colon (sign signs.Colon) no_0 = absurd (no_0 refl)
+row_perhaps_colon x no_0 = refl
+
+pub skips_perhaps_colon : (ts : List Placed) → NextIsNot (sign signs.Colon) ts →
+    Reads (outer perhaps_colon ∷ []) [] ts ts
+skips_perhaps_colon [] no_0 = skips perhaps_colon [] refl tt
+skips_perhaps_colon (t ∷ ts) no_0 =
+    skips perhaps_colon (t ∷ ts) refl (row_perhaps_colon t.lexeme no_0)
+
+row_perhaps_else : (n : ℕ) (x : Lexeme) → IsNot (word words.Else) x →
+    outer_on (perhaps_else n) x ≡ over
+row_perhaps_else n (word words.Else) no_0 = absurd (no_0 refl)
+row_perhaps_else n x no_0 = refl
+
+pub skips_perhaps_else : (n : ℕ) (ts : List Placed) → NextIsNot (word words.Else) ts →
+    Reads (outer (perhaps_else n) ∷ []) [] ts ts
+skips_perhaps_else n [] no_0 = skips (perhaps_else n) [] refl tt
+skips_perhaps_else n (t ∷ ts) no_0 =
+    skips (perhaps_else n) (t ∷ ts) refl (row_perhaps_else n t.lexeme no_0)
+
+row_arms : (n before : ℕ) (default : Bool) (x : Lexeme) → IsNot (word words.Endcase) x →
+    IsNot (word words.Default) x →
+    outer_on (arms n before default) x ≡
+    expression_on n (before + 1) (more_choices n ∷ statement n ∷ arms n (before + 1) default ∷ []) x
+row_arms n before default (word words.Endcase) no_0 no_1 = absurd (no_0 refl)
+row_arms n before default (word words.Default) no_0 no_1 = absurd (no_1 refl)
+row_arms n before default x no_0 no_1 = refl
+
+pub begins_arms : (n before : ℕ) (default : Bool) (ts : List Placed) → (before + 1) ≤ 256 →
+    NextIsNot (word words.Endcase) ts → NextIsNot (word words.Default) ts →
+    Reads (outer (arms n before default) ∷ [])
+    (expression_from (length ts) n
+    (more_choices n ∷ statement n ∷ arms n (before + 1) default ∷ [])) ts ts
+begins_arms n before default [] few no_0 no_1 =
+    begins_expression (arms n before default) n (before + 1)
+    (more_choices n ∷ statement n ∷ arms n (before + 1) default ∷ []) [] few refl tt
+begins_arms n before default (t ∷ ts) few no_0 no_1 =
+    begins_expression (arms n before default) n (before + 1)
+    (more_choices n ∷ statement n ∷ arms n (before + 1) default ∷ []) (t ∷ ts) few refl
+    (row_arms n before default t.lexeme no_0 no_1)

@@ -1,0 +1,400 @@
+-- From steps to forms: lattices, label maps and headers.
+use Rattle.std.proofs.Common.{◌≡◌, zero, suc, List, [], ◌∷◌, inl, inr, refl, subst, ◌∙◌}
+use Rattle.sv_num.specs.declared.faults.Place.{Place}
+use Rattle.sv_token.specs.declared.keywords.WordKind.TheVariants as words
+use Rattle.sv_token.specs.declared.signs.SignKind.TheVariants as signs
+use Rattle.sv_token.specs.Lexemes.{Lexeme, word, identifier, numeral, sign, Placed}
+use Rattle.sv_token.specs.Words.{is_refused_word}
+use Rattle.sv_ast.specs.GrammarExpressions.{Limits}
+use Rattle.sv_parse_machine.specs.Symbols.{punctuation, plain_name, plain_number, expression}
+use Rattle.sv_parse_machine.specs.Symbols.{lattice_lines, less_equal}
+use Rattle.sv_parse_machine.specs.StatementTable.{more_values_on}
+use Rattle.sv_parse_machine.specs.ModuleTable.{lattice_lines_on, perhaps_lattice_on, map_name_on}
+use Rattle.sv_parse_machine.specs.ModuleTable.{perhaps_key_range_on, perhaps_second_key_on, end_of_map_on}
+use Rattle.sv_parse_machine.specs.ModuleTable.{rows_on, perhaps_maps_on, parameter_type_on}
+use Rattle.sv_parse_machine.specs.ModuleTable.{header_parameter_on, later_header_parameter_on}
+use Rattle.sv_parse_machine.specs.ModuleTable.{more_header_parameters_on, perhaps_header_parameters_on}
+use Rattle.sv_parse_machine.specs.ModuleTable.{perhaps_wire_on, perhaps_wire_or_reg_on, perhaps_signed_on}
+use Rattle.sv_parse_machine.specs.ModuleTable.{perhaps_range_on, perhaps_second_name_on, label_end_on}
+use Rattle.sv_parse_machine.specs.ModuleTable.{perhaps_label_on, later_port_on, more_ports_on, ports_on}
+use Rattle.sv_parse_machine.specs.ModuleTable.{perhaps_ports_on}
+use Rattle.sv_parse_machine.proofs.InnerSteps.{placed, no_token}
+use Rattle.sv_parse_machine.proofs.InnerForms.{last_token}
+use Rattle.sv_parse_machine.proofs.OuterForms.{more_values_form, lattice_lines_form, perhaps_lattice_form}
+use Rattle.sv_parse_machine.proofs.OuterForms.{map_name_form, perhaps_key_range_form}
+use Rattle.sv_parse_machine.proofs.OuterForms.{perhaps_second_key_form, end_of_map_form, rows_form}
+use Rattle.sv_parse_machine.proofs.OuterForms.{perhaps_maps_form, parameter_type_form}
+use Rattle.sv_parse_machine.proofs.OuterForms.{header_parameter_form, later_header_parameter_form}
+use Rattle.sv_parse_machine.proofs.OuterForms.{more_header_parameters_form}
+use Rattle.sv_parse_machine.proofs.OuterForms.{perhaps_header_parameters_form, perhaps_wire_form}
+use Rattle.sv_parse_machine.proofs.OuterForms.{perhaps_wire_or_reg_form, perhaps_signed_form}
+use Rattle.sv_parse_machine.proofs.OuterForms.{perhaps_range_form, perhaps_second_name_form}
+use Rattle.sv_parse_machine.proofs.OuterForms.{label_end_form, perhaps_label_form, later_port_form}
+use Rattle.sv_parse_machine.proofs.OuterForms.{more_ports_form, ports_form, perhaps_ports_form, Accepts}
+use Rattle.sv_parse_machine.proofs.OuterTokens.{taken_as_name}
+
+pub b_more_values : (l : Limits) (x : Lexeme) (p : Place) (ts rest : List Placed) →
+    Accepts l (placed x p) ts rest (more_values_on x) → more_values_form l (placed x p ∷ ts) rest
+b_more_values l (sign signs.CloseParenthesis) p ts rest is = (
+  zero,
+  (
+    placed (sign signs.CloseParenthesis) p ∷
+        ts,
+    refl,
+    (p, last_token (sign signs.CloseParenthesis) p ts rest is.2),
+  ),
+)
+b_more_values l (sign signs.Comma) p ts rest
+    (opens, arm, (m1, a0, (m2, (k, (m3, others, final)), same))) =
+    subst (more_values_form l (placed (sign signs.Comma) p ∷ ts)) same
+    (suc k, (m3, (m1, (ts, (p, refl), a0), others), final))
+b_more_values l x p ts rest is = absurd is
+
+pub none_more_values : (l : Limits) (rest : List Placed) → more_values_form l [] rest → ⊥
+none_more_values l rest (zero, (m, none, (p, e))) = no_token (none ∙ e)
+none_more_values l rest (suc k, (m, (m1, (m0, (p, e), behind), others), final)) = no_token e
+
+pub b_lattice_lines : (l : Limits) (x : Lexeme) (p : Place) (ts rest : List Placed) →
+    Accepts l (placed x p) ts rest (lattice_lines_on x) →
+    lattice_lines_form l (placed x p ∷ ts) rest
+b_lattice_lines l (word words.Endlattice) p ts rest is = (
+  zero,
+  (
+    placed (word words.Endlattice) p ∷
+        ts,
+    refl,
+    (p, last_token (word words.Endlattice) p ts rest is.2),
+  ),
+)
+b_lattice_lines l (word words.Point) p ts rest
+    (opens, arm, (q0, a0, (m1, a1, (m2, (k, (m3, others, final)), same)))) =
+    subst (lattice_lines_form l (placed (word words.Point) p ∷ ts)) same
+    (suc k, (m3, (m1, inl (ts, (p, refl), (q0, a0, a1)), others), final))
+b_lattice_lines l (identifier x) p ts rest is =
+    let name = taken_as_name l
+    (less_equal ∷ plain_name ∷ punctuation signs.Semicolon ∷ lattice_lines ∷ [])
+    (placed (identifier x) p) ts rest (is_refused_word x) is in
+    let (q0, a0, (q1, a1, (m1, a2, (m2, (k, (m3, others, final)), same)))) = name.1 in
+    subst (lattice_lines_form l (placed (identifier x) p ∷ ts)) same (
+      suc k,
+      (
+        m3,
+        (
+          m1,
+          inr (ts, (x, (p, (name.0, refl))), (q0, a0, (q1, a1, a2))),
+          others,
+        ),
+        final,
+      ),
+    )
+b_lattice_lines l x p ts rest is = absurd is
+
+pub none_lattice_lines : (l : Limits) (rest : List Placed) → lattice_lines_form l [] rest → ⊥
+none_lattice_lines l rest (zero, (m, none, (p, e))) = no_token (none ∙ e)
+none_lattice_lines l rest (suc k, (m, (m1, inl (m0, (p, e), behind), others), final)) = no_token e
+none_lattice_lines l rest (suc k, (m, (m1, inr (m0, (x, (p, (free, e))), behind), others), final)) =
+    no_token e
+
+pub b_perhaps_lattice : (l : Limits) (x : Lexeme) (p : Place) (ts rest : List Placed) →
+    Accepts l (placed x p) ts rest (perhaps_lattice_on x) →
+    perhaps_lattice_form l (placed x p ∷ ts) rest
+b_perhaps_lattice l (word words.Lattice) p ts rest is = inr (ts, (p, refl), is.2)
+b_perhaps_lattice l x p ts rest is = inl (tt, is)
+
+pub none_perhaps_lattice : (l : Limits) (rest : List Placed) → perhaps_lattice_form l [] rest →
+    [] ≡ rest
+none_perhaps_lattice l rest (inl (over, same)) = same
+none_perhaps_lattice l rest (inr (m, (p, e), behind)) = absurd (no_token e)
+
+pub b_map_name : (l : Limits) (x : Lexeme) (p : Place) (ts rest : List Placed) →
+    Accepts l (placed x p) ts rest (map_name_on x) → map_name_form l (placed x p ∷ ts) rest
+b_map_name l (identifier x) p ts rest is =
+    let name = taken_as_name l
+    (punctuation signs.OpenBracket ∷ plain_number ∷ punctuation signs.Colon ∷ plain_number ∷
+    punctuation signs.CloseBracket ∷ []) (placed (identifier x) p) ts rest (is_refused_word x)
+    is in (ts, (x, (p, (name.0, refl))), name.1)
+b_map_name l x p ts rest is = absurd is
+
+pub none_map_name : (l : Limits) (rest : List Placed) → map_name_form l [] rest → ⊥
+none_map_name l rest (m, (x, (p, (free, e))), behind) = no_token e
+
+pub b_perhaps_key_range : (l : Limits) (x : Lexeme) (p : Place) (ts rest : List Placed) →
+    Accepts l (placed x p) ts rest (perhaps_key_range_on x) →
+    perhaps_key_range_form l (placed x p ∷ ts) rest
+b_perhaps_key_range l (sign signs.OpenBracket) p ts rest is = inr (ts, (p, refl), is.2)
+b_perhaps_key_range l x p ts rest is = inl (tt, is)
+
+pub none_perhaps_key_range : (l : Limits) (rest : List Placed) → perhaps_key_range_form l [] rest →
+    [] ≡ rest
+none_perhaps_key_range l rest (inl (over, same)) = same
+none_perhaps_key_range l rest (inr (m, (p, e), behind)) = absurd (no_token e)
+
+pub b_perhaps_second_key : (l : Limits) (x : Lexeme) (p : Place) (ts rest : List Placed) →
+    Accepts l (placed x p) ts rest (perhaps_second_key_on x) →
+    perhaps_second_key_form l (placed x p ∷ ts) rest
+b_perhaps_second_key l (sign signs.Comma) p ts rest is = inr (ts, (p, refl), is.2)
+b_perhaps_second_key l x p ts rest is = inl (tt, is)
+
+pub none_perhaps_second_key : (l : Limits) (rest : List Placed) →
+    perhaps_second_key_form l [] rest → [] ≡ rest
+none_perhaps_second_key l rest (inl (over, same)) = same
+none_perhaps_second_key l rest (inr (m, (p, e), behind)) = absurd (no_token e)
+
+pub b_end_of_map : (l : Limits) (x : Lexeme) (p : Place) (ts rest : List Placed) →
+    Accepts l (placed x p) ts rest (end_of_map_on x) → end_of_map_form l (placed x p ∷ ts) rest
+b_end_of_map l (word words.Endlabelmap) p ts rest is = (ts, (p, refl), is.2)
+b_end_of_map l x p ts rest is = absurd is
+
+pub none_end_of_map : (l : Limits) (rest : List Placed) → end_of_map_form l [] rest → ⊥
+none_end_of_map l rest (m, (p, e), behind) = no_token e
+
+pub b_rows : (l : Limits) (x : Lexeme) (p : Place) (ts rest : List Placed) →
+    Accepts l (placed x p) ts rest (rows_on x) → rows_form l (placed x p ∷ ts) rest
+b_rows l (word words.Default) p ts rest (opens, arm, (q0, a0, (q1, a1, (q2, a2, (m1, a3, same))))) =
+    subst (rows_form l (placed (word words.Default) p ∷ ts)) same (
+      zero,
+      (
+        placed (word words.Default) p ∷ ts,
+        refl,
+        inl
+            (ts, (p, refl), (q0, a0, (q1, a1, (q2, a2, a3)))),
+      ),
+    )
+b_rows l (word words.Endlabelmap) p ts rest is = (
+  zero,
+  (
+    placed (word words.Endlabelmap) p ∷ ts,
+    refl,
+    inr
+        (p, last_token (word words.Endlabelmap) p ts rest is.2),
+  ),
+)
+b_rows l (numeral v) p ts rest
+    (opens, arm, (q0, a0, (q1, a1, (q2, a2, (m1, a3, (m2, (k, (m3, others, final)), same)))))) =
+    subst (rows_form l (placed (numeral v) p ∷ ts)) same
+    (suc k, (m3, (m1, (ts, (v, (p, refl)), (q0, a0, (q1, a1, (q2, a2, a3)))), others), final))
+b_rows l x p ts rest is = absurd is
+
+pub none_rows : (l : Limits) (rest : List Placed) → rows_form l [] rest → ⊥
+none_rows l rest (zero, (m, none, inl (m0, (p, e), behind))) = no_token (none ∙ e)
+none_rows l rest (zero, (m, none, inr (p, e))) = no_token (none ∙ e)
+none_rows l rest (suc k, (m, (m1, (m0, (v, (p, e)), behind), others), final)) = no_token e
+
+pub b_perhaps_maps : (l : Limits) (x : Lexeme) (p : Place) (ts rest : List Placed) →
+    Accepts l (placed x p) ts rest (perhaps_maps_on x) → perhaps_maps_form l (placed x p ∷ ts) rest
+b_perhaps_maps l (word words.Labelmap) p ts rest
+    (opens, arm, (q0, a0, (q1, a1, (m1, a2, (m2, (k, (m3, others, final)), same))))) =
+    subst (perhaps_maps_form l (placed (word words.Labelmap) p ∷ ts)) same
+    (suc k, (m3, (m1, (ts, (p, refl), (q0, a0, (q1, a1, a2))), others), final))
+b_perhaps_maps l x p ts rest is = (zero, (placed x p ∷ ts, refl, (tt, is)))
+
+pub none_perhaps_maps : (l : Limits) (rest : List Placed) → perhaps_maps_form l [] rest → [] ≡ rest
+none_perhaps_maps l rest (zero, (m, none, (over, same))) = none ∙ same
+none_perhaps_maps l rest (suc k, (m, (m1, (m0, (p, e), behind), others), final)) =
+    absurd (no_token e)
+
+pub b_parameter_type : (l : Limits) (x : Lexeme) (p : Place) (ts rest : List Placed) →
+    Accepts l (placed x p) ts rest (parameter_type_on x) →
+    parameter_type_form l (placed x p ∷ ts) rest
+b_parameter_type l (word words.Signed) p ts rest is = inr (inl (ts, (p, refl), is.2))
+b_parameter_type l (sign signs.OpenBracket) p ts rest is = inr (inr (ts, (p, refl), is.2))
+b_parameter_type l x p ts rest is = inl (tt, is)
+
+pub none_parameter_type : (l : Limits) (rest : List Placed) → parameter_type_form l [] rest →
+    [] ≡ rest
+none_parameter_type l rest (inl (over, same)) = same
+none_parameter_type l rest (inr (inl (m, (p, e), behind))) = absurd (no_token e)
+none_parameter_type l rest (inr (inr (m, (p, e), behind))) = absurd (no_token e)
+
+pub b_header_parameter : (l : Limits) (x : Lexeme) (p : Place) (ts rest : List Placed) →
+    Accepts l (placed x p) ts rest (header_parameter_on x) →
+    header_parameter_form l (placed x p ∷ ts) rest
+b_header_parameter l (word words.Parameter) p ts rest is = (ts, (p, refl), is.2)
+b_header_parameter l x p ts rest is = absurd is
+
+pub none_header_parameter : (l : Limits) (rest : List Placed) → header_parameter_form l [] rest → ⊥
+none_header_parameter l rest (m, (p, e), behind) = no_token e
+
+pub b_later_header_parameter : (l : Limits) (x : Lexeme) (p : Place) (ts rest : List Placed) →
+    Accepts l (placed x p) ts rest (later_header_parameter_on x) →
+    later_header_parameter_form l (placed x p ∷ ts) rest
+b_later_header_parameter l (word words.Parameter) p ts rest is = inl (ts, (p, refl), is.2)
+b_later_header_parameter l (identifier x) p ts rest is =
+    let name = taken_as_name l (punctuation signs.Equals ∷ expression 0 ∷ [])
+    (placed (identifier x) p) ts rest (is_refused_word x) is in
+    inr (ts, (x, (p, (name.0, refl))), name.1)
+b_later_header_parameter l x p ts rest is = absurd is
+
+pub none_later_header_parameter : (l : Limits) (rest : List Placed) →
+    later_header_parameter_form l [] rest → ⊥
+none_later_header_parameter l rest (inl (m, (p, e), behind)) = no_token e
+none_later_header_parameter l rest (inr (m, (x, (p, (free, e))), behind)) = no_token e
+
+pub b_more_header_parameters : (l : Limits) (x : Lexeme) (p : Place) (ts rest : List Placed) →
+    Accepts l (placed x p) ts rest (more_header_parameters_on x) →
+    more_header_parameters_form l (placed x p ∷ ts) rest
+b_more_header_parameters l (sign signs.CloseParenthesis) p ts rest is = (
+  zero,
+  (
+    placed (sign signs.CloseParenthesis) p ∷
+        ts,
+    refl,
+    (p, last_token (sign signs.CloseParenthesis) p ts rest is.2),
+  ),
+)
+b_more_header_parameters l (sign signs.Comma) p ts rest
+    (opens, arm, (m1, a0, (m2, (k, (m3, others, final)), same))) =
+    subst (more_header_parameters_form l (placed (sign signs.Comma) p ∷ ts)) same
+    (suc k, (m3, (m1, (ts, (p, refl), a0), others), final))
+b_more_header_parameters l x p ts rest is = absurd is
+
+pub none_more_header_parameters : (l : Limits) (rest : List Placed) →
+    more_header_parameters_form l [] rest → ⊥
+none_more_header_parameters l rest (zero, (m, none, (p, e))) = no_token (none ∙ e)
+none_more_header_parameters l rest (suc k, (m, (m1, (m0, (p, e), behind), others), final)) =
+    no_token e
+
+pub b_perhaps_header_parameters : (l : Limits) (x : Lexeme) (p : Place) (ts rest : List Placed) →
+    Accepts l (placed x p) ts rest (perhaps_header_parameters_on x) →
+    perhaps_header_parameters_form l (placed x p ∷ ts) rest
+b_perhaps_header_parameters l (sign signs.Hash) p ts rest is = inr (ts, (p, refl), is.2)
+b_perhaps_header_parameters l x p ts rest is = inl (tt, is)
+
+pub none_perhaps_header_parameters : (l : Limits) (rest : List Placed) →
+    perhaps_header_parameters_form l [] rest → [] ≡ rest
+none_perhaps_header_parameters l rest (inl (over, same)) = same
+none_perhaps_header_parameters l rest (inr (m, (p, e), behind)) = absurd (no_token e)
+
+pub b_perhaps_wire : (l : Limits) (x : Lexeme) (p : Place) (ts rest : List Placed) →
+    Accepts l (placed x p) ts rest (perhaps_wire_on x) → perhaps_wire_form l (placed x p ∷ ts) rest
+b_perhaps_wire l (word words.Wire) p ts rest is = inr (ts, (p, refl), is.2)
+b_perhaps_wire l x p ts rest is = inl (tt, is)
+
+pub none_perhaps_wire : (l : Limits) (rest : List Placed) → perhaps_wire_form l [] rest → [] ≡ rest
+none_perhaps_wire l rest (inl (over, same)) = same
+none_perhaps_wire l rest (inr (m, (p, e), behind)) = absurd (no_token e)
+
+pub b_perhaps_wire_or_reg : (l : Limits) (x : Lexeme) (p : Place) (ts rest : List Placed) →
+    Accepts l (placed x p) ts rest (perhaps_wire_or_reg_on x) →
+    perhaps_wire_or_reg_form l (placed x p ∷ ts) rest
+b_perhaps_wire_or_reg l (word words.Wire) p ts rest is = inr (inl (ts, (p, refl), is.2))
+b_perhaps_wire_or_reg l (word words.Reg) p ts rest is = inr (inr (ts, (p, refl), is.2))
+b_perhaps_wire_or_reg l x p ts rest is = inl (tt, is)
+
+pub none_perhaps_wire_or_reg : (l : Limits) (rest : List Placed) →
+    perhaps_wire_or_reg_form l [] rest → [] ≡ rest
+none_perhaps_wire_or_reg l rest (inl (over, same)) = same
+none_perhaps_wire_or_reg l rest (inr (inl (m, (p, e), behind))) = absurd (no_token e)
+none_perhaps_wire_or_reg l rest (inr (inr (m, (p, e), behind))) = absurd (no_token e)
+
+pub b_perhaps_signed : (l : Limits) (x : Lexeme) (p : Place) (ts rest : List Placed) →
+    Accepts l (placed x p) ts rest (perhaps_signed_on x) →
+    perhaps_signed_form l (placed x p ∷ ts) rest
+b_perhaps_signed l (word words.Signed) p ts rest is = inr (ts, (p, refl), is.2)
+b_perhaps_signed l x p ts rest is = inl (tt, is)
+
+pub none_perhaps_signed : (l : Limits) (rest : List Placed) → perhaps_signed_form l [] rest →
+    [] ≡ rest
+none_perhaps_signed l rest (inl (over, same)) = same
+none_perhaps_signed l rest (inr (m, (p, e), behind)) = absurd (no_token e)
+
+pub b_perhaps_range : (l : Limits) (x : Lexeme) (p : Place) (ts rest : List Placed) →
+    Accepts l (placed x p) ts rest (perhaps_range_on x) →
+    perhaps_range_form l (placed x p ∷ ts) rest
+b_perhaps_range l (sign signs.OpenBracket) p ts rest is = inr (ts, (p, refl), is.2)
+b_perhaps_range l x p ts rest is = inl (tt, is)
+
+pub none_perhaps_range : (l : Limits) (rest : List Placed) → perhaps_range_form l [] rest →
+    [] ≡ rest
+none_perhaps_range l rest (inl (over, same)) = same
+none_perhaps_range l rest (inr (m, (p, e), behind)) = absurd (no_token e)
+
+pub b_perhaps_second_name : (l : Limits) (x : Lexeme) (p : Place) (ts rest : List Placed) →
+    Accepts l (placed x p) ts rest (perhaps_second_name_on x) →
+    perhaps_second_name_form l (placed x p ∷ ts) rest
+b_perhaps_second_name l (sign signs.Comma) p ts rest is = inr (ts, (p, refl), is.2)
+b_perhaps_second_name l x p ts rest is = inl (tt, is)
+
+pub none_perhaps_second_name : (l : Limits) (rest : List Placed) →
+    perhaps_second_name_form l [] rest → [] ≡ rest
+none_perhaps_second_name l rest (inl (over, same)) = same
+none_perhaps_second_name l rest (inr (m, (p, e), behind)) = absurd (no_token e)
+
+pub b_label_end : (l : Limits) (x : Lexeme) (p : Place) (ts rest : List Placed) →
+    Accepts l (placed x p) ts rest (label_end_on x) → label_end_form l (placed x p ∷ ts) rest
+b_label_end l (sign signs.CloseBrace) p ts rest is = inl (ts, (p, refl), is.2)
+b_label_end l (sign signs.OpenParenthesis) p ts rest is = inr (ts, (p, refl), is.2)
+b_label_end l x p ts rest is = absurd is
+
+pub none_label_end : (l : Limits) (rest : List Placed) → label_end_form l [] rest → ⊥
+none_label_end l rest (inl (m, (p, e), behind)) = no_token e
+none_label_end l rest (inr (m, (p, e), behind)) = no_token e
+
+pub b_perhaps_label : (l : Limits) (x : Lexeme) (p : Place) (ts rest : List Placed) →
+    Accepts l (placed x p) ts rest (perhaps_label_on x) →
+    perhaps_label_form l (placed x p ∷ ts) rest
+b_perhaps_label l (sign signs.OpenBrace) p ts rest is = inr (ts, (p, refl), is.2)
+b_perhaps_label l x p ts rest is = inl (tt, is)
+
+pub none_perhaps_label : (l : Limits) (rest : List Placed) → perhaps_label_form l [] rest →
+    [] ≡ rest
+none_perhaps_label l rest (inl (over, same)) = same
+none_perhaps_label l rest (inr (m, (p, e), behind)) = absurd (no_token e)
+
+pub b_later_port : (l : Limits) (x : Lexeme) (p : Place) (ts rest : List Placed) →
+    Accepts l (placed x p) ts rest (later_port_on x) → later_port_form l (placed x p ∷ ts) rest
+b_later_port l (word words.Input) p ts rest is = inl (ts, (p, refl), is.2)
+b_later_port l (word words.Output) p ts rest is = inr (inl (ts, (p, refl), is.2))
+b_later_port l (identifier x) p ts rest is =
+    let name = taken_as_name l [] (placed (identifier x) p) ts rest (is_refused_word x) is in
+    inr (inr (ts, (x, (p, (name.0, refl))), name.1))
+b_later_port l x p ts rest is = absurd is
+
+pub none_later_port : (l : Limits) (rest : List Placed) → later_port_form l [] rest → ⊥
+none_later_port l rest (inl (m, (p, e), behind)) = no_token e
+none_later_port l rest (inr (inl (m, (p, e), behind))) = no_token e
+none_later_port l rest (inr (inr (m, (x, (p, (free, e))), behind))) = no_token e
+
+pub b_more_ports : (l : Limits) (x : Lexeme) (p : Place) (ts rest : List Placed) →
+    Accepts l (placed x p) ts rest (more_ports_on x) → more_ports_form l (placed x p ∷ ts) rest
+b_more_ports l (sign signs.CloseParenthesis) p ts rest is = (
+  zero,
+  (
+    placed (sign signs.CloseParenthesis) p ∷
+        ts,
+    refl,
+    (p, last_token (sign signs.CloseParenthesis) p ts rest is.2),
+  ),
+)
+b_more_ports l (sign signs.Comma) p ts rest
+    (opens, arm, (m1, a0, (m2, (k, (m3, others, final)), same))) =
+    subst (more_ports_form l (placed (sign signs.Comma) p ∷ ts)) same
+    (suc k, (m3, (m1, (ts, (p, refl), a0), others), final))
+b_more_ports l x p ts rest is = absurd is
+
+pub none_more_ports : (l : Limits) (rest : List Placed) → more_ports_form l [] rest → ⊥
+none_more_ports l rest (zero, (m, none, (p, e))) = no_token (none ∙ e)
+none_more_ports l rest (suc k, (m, (m1, (m0, (p, e), behind), others), final)) = no_token e
+
+pub b_ports : (l : Limits) (x : Lexeme) (p : Place) (ts rest : List Placed) →
+    Accepts l (placed x p) ts rest (ports_on x) → ports_form l (placed x p ∷ ts) rest
+b_ports l (word words.Input) p ts rest is = inl (ts, (p, refl), is.2)
+b_ports l (word words.Output) p ts rest is = inr (inl (ts, (p, refl), is.2))
+b_ports l (sign signs.CloseParenthesis) p ts rest is = inr (inr (ts, (p, refl), is.2))
+b_ports l x p ts rest is = absurd is
+
+pub none_ports : (l : Limits) (rest : List Placed) → ports_form l [] rest → ⊥
+none_ports l rest (inl (m, (p, e), behind)) = no_token e
+none_ports l rest (inr (inl (m, (p, e), behind))) = no_token e
+none_ports l rest (inr (inr (m, (p, e), behind))) = no_token e
+
+pub b_perhaps_ports : (l : Limits) (x : Lexeme) (p : Place) (ts rest : List Placed) →
+    Accepts l (placed x p) ts rest (perhaps_ports_on x) →
+    perhaps_ports_form l (placed x p ∷ ts) rest
+b_perhaps_ports l (sign signs.OpenParenthesis) p ts rest is = inr (ts, (p, refl), is.2)
+b_perhaps_ports l x p ts rest is = inl (tt, is)
+
+pub none_perhaps_ports : (l : Limits) (rest : List Placed) → perhaps_ports_form l [] rest →
+    [] ≡ rest
+none_perhaps_ports l rest (inl (over, same)) = same
+none_perhaps_ports l rest (inr (m, (p, e), behind)) = absurd (no_token e)

@@ -1,0 +1,185 @@
+// What stands before the statement of an arm (IEEE 1364-2005, clause 9.5).
+ghost use Rattle.std.specs.Prelude.{◌≡◌, ◌+◌, ◌<◌, ◌≤◌, Bool, true, false, ◌||◌, ℕ, List, length};
+ghost use Rattle.std.specs.Prelude.{IfOk, IfErr, OnOk, [], ◌∷◌};
+ghost use Rattle.sv_token.specs.Lexemes.{placed_tokens};
+ghost use Rattle.sv_token.specs.declared.signs.SignKind.TheVariants as signs;
+ghost use Rattle.sv_token.specs.declared.keywords.WordKind.TheVariants as words;
+ghost use Rattle.sv_ast.specs.Views.{expression_tree, expression_trees};
+ghost use Rattle.sv_ast.specs.GrammarForms.{◌⨾◌, a_sign, word_at, commas, optional};
+ghost use Rattle.sv_ast.specs.GrammarExpressions.{IsExpression};
+ghost use Rattle.sv_ast.specs.GrammarStatements.{IsNext, IsArmHead, is_default};
+ghost use Rattle.sv_ast.specs.GrammarRules.{all_limits};
+ghost use Rattle.sv_parse_machine.specs.Symbols.{outer, statement, arms, more_choices, perhaps_colon};
+ghost use Rattle.sv_parse_machine.specs.Reads.{Reads, NextIsNotWord};
+ghost use Rattle.sv_parse_expr.specs.Expectations.{HaltsAs};
+ghost use Rattle.sv_parse_stmt.specs.ReadingArms.{ArmComes, behind_arm, behind_items};
+
+use std::alloc::Global;
+use sv_ast::Expr;
+use sv_num::Place;
+use sv_parse_expr::cursor::{behind, expect_sign, unexpected, word_at};
+use sv_parse_expr::expressions::{read_expression, read_expression_too_many};
+use sv_parse_expr::lists::{Expressions, read_list_from};
+use sv_parse_expr::room::MOST_ARMS;
+use sv_parse_expr::stop::{Breach, Stop};
+use sv_token::{SignKind, Token, WordKind};
+
+// The first item of an arm behind so many others.
+fn read_first_item<'a>(
+    alloc: Global,
+    bytes: &[u8],
+    levels: usize,
+    before: usize,
+    tokens: &'a [Token],
+) -> Result<(Expr, &'a [Token]), Stop>
+    ensures is { IfOk result (λ x.
+        IsExpression all_limits levels (expression_tree x.0) (placed_tokens bytes.now tokens.now)
+        (placed_tokens bytes.now x.1.now)) }
+    ensures shorter { IfOk result (λ x. length x.1.now < length tokens.now) }
+    ensures few { OnOk result (before + 1 ≤ 256) }
+    ensures reads { (default : Bool) → ArmComes before (placed_tokens bytes.now tokens.now) →
+        NextIsNotWord words.Default (placed_tokens bytes.now tokens.now) →
+        IfOk result (λ x. Reads (outer (arms levels before default) ∷ [])
+        (behind_items levels before default) (placed_tokens bytes.now tokens.now)
+        (placed_tokens bytes.now x.1.now)) }
+    ensures halts { (default : Bool) → ArmComes before (placed_tokens bytes.now tokens.now) →
+        NextIsNotWord words.Default (placed_tokens bytes.now tokens.now) →
+        IfErr result (λ e. HaltsAs (outer (arms levels before default) ∷ [])
+        (placed_tokens bytes.now tokens.now) e) }
+{
+    if before < MOST_ARMS {
+        let (item, rest) = read_expression(alloc, bytes, levels, tokens)?;
+        return Ok((item, rest));
+    }
+    let (item, rest) = read_expression_too_many(alloc, bytes, levels, tokens)?;
+    Ok((item, rest))
+}
+
+// The items of an arm behind so many others, up to its `:`.
+fn read_items<'a>(
+    alloc: Global,
+    bytes: &[u8],
+    levels: usize,
+    before: usize,
+    tokens: &'a [Token],
+) -> Result<(Vec<Expr>, &'a [Token]), Stop>
+    ensures is { IfOk result (λ x.
+        (commas (IsExpression all_limits levels) (expression_trees x.0.items) ⨾ a_sign signs.Colon)
+        (placed_tokens bytes.now tokens.now) (placed_tokens bytes.now x.1.now)) }
+    ensures shorter { IfOk result (λ x. length x.1.now < length tokens.now) }
+    ensures few { OnOk result (before + 1 ≤ 256) }
+    ensures reads { (default : Bool) → ArmComes before (placed_tokens bytes.now tokens.now) →
+        NextIsNotWord words.Default (placed_tokens bytes.now tokens.now) →
+        IfOk result (λ x. Reads (outer (arms levels before default) ∷ [])
+        (behind_arm levels before default) (placed_tokens bytes.now tokens.now)
+        (placed_tokens bytes.now x.1.now)) }
+    ensures halts { (default : Bool) → ArmComes before (placed_tokens bytes.now tokens.now) →
+        NextIsNotWord words.Default (placed_tokens bytes.now tokens.now) →
+        IfErr result (λ e. HaltsAs (outer (arms levels before default) ∷ [])
+        (placed_tokens bytes.now tokens.now) e) }
+{
+    let (first, rest) = read_first_item(alloc, bytes, levels, before, tokens)?;
+    let (items, rest) = read_list_from::<Expressions>(alloc, bytes, levels, first, rest)?;
+    let rest = expect_sign(SignKind::Colon, rest)?;
+    Ok((items, rest))
+}
+
+// The items of an arm with the place of its first token.
+fn read_placed_items<'a>(
+    alloc: Global,
+    bytes: &[u8],
+    levels: usize,
+    before: usize,
+    tokens: &'a [Token],
+) -> Result<(Place, Vec<Expr>, &'a [Token]), Stop>
+    ensures is { IfOk result (λ x.
+        IsArmHead all_limits levels false x.0 (expression_trees x.1.items)
+        (placed_tokens bytes.now tokens.now) (placed_tokens bytes.now x.2.now)) }
+    ensures shorter { IfOk result (λ x. length x.2.now < length tokens.now) }
+    ensures few { OnOk result (before + 1 ≤ 256) }
+    ensures items { IfOk result (λ x. is_default (expression_trees x.1.items) ≡ false) }
+    ensures reads { (default : Bool) → ArmComes before (placed_tokens bytes.now tokens.now) →
+        NextIsNotWord words.Default (placed_tokens bytes.now tokens.now) →
+        IfOk result (λ x. Reads (outer (arms levels before default) ∷ [])
+        (behind_arm levels before default) (placed_tokens bytes.now tokens.now)
+        (placed_tokens bytes.now x.2.now)) }
+    ensures halts { (default : Bool) → ArmComes before (placed_tokens bytes.now tokens.now) →
+        NextIsNotWord words.Default (placed_tokens bytes.now tokens.now) →
+        IfErr result (λ e. HaltsAs (outer (arms levels before default) ∷ [])
+        (placed_tokens bytes.now tokens.now) e) }
+{
+    let [first, ..] = tokens else {
+        return Err(unexpected(tokens));
+    };
+    let (items, rest) = read_items(alloc, bytes, levels, before, tokens)?;
+    Ok((first.place, items, rest))
+}
+
+// The tokens behind the `:`, if one comes.
+fn behind_colon(tokens: &[Token]) -> &[Token]
+    ensures is { (bytes : List ℕ) →
+        optional (a_sign signs.Colon) (placed_tokens bytes tokens.now)
+        (placed_tokens bytes result.now) }
+    ensures shorter { length result.now ≤ length tokens.now }
+    ensures reads { (bytes : List ℕ) →
+        Reads (outer perhaps_colon ∷ []) [] (placed_tokens bytes tokens.now)
+        (placed_tokens bytes result.now) }
+{
+    match behind(SignKind::Colon, tokens) {
+        Some(rest) => rest,
+        None => tokens,
+    }
+}
+
+// Nothing, where the `default` that comes may stand behind so many arms and perhaps a default.
+fn allow_default(before: usize, has_default: bool, tokens: &[Token]) -> Result<(), Stop>
+    ensures few { OnOk result (before + 1 ≤ 256) }
+    ensures first { OnOk result (has_default ≡ false) }
+    ensures halts { (bytes : List ℕ) (n : ℕ) →
+        IsNext words.Default (placed_tokens bytes tokens.now) →
+        IfErr result (λ e. HaltsAs (outer (arms n before has_default) ∷ [])
+        (placed_tokens bytes tokens.now) e) }
+{
+    if has_default {
+        return Err(unexpected(tokens));
+    }
+    if before >= MOST_ARMS {
+        return Err(Stop::Broken(Breach::TooLong, tokens.len()));
+    }
+    Ok(())
+}
+
+/// The place of an arm behind so many others and perhaps a default, its items, none of the default,
+/// and the tokens of its statement.
+pub fn read_arm_head<'a>(
+    alloc: Global,
+    bytes: &[u8],
+    levels: usize,
+    before: usize,
+    has_default: bool,
+    tokens: &'a [Token],
+) -> Result<(Place, Vec<Expr>, &'a [Token]), Stop>
+    ensures is { IfOk result (λ x.
+        IsArmHead all_limits levels has_default x.0 (expression_trees x.1.items)
+        (placed_tokens bytes.now tokens.now) (placed_tokens bytes.now x.2.now)) }
+    ensures shorter { IfOk result (λ x. length x.2.now < length tokens.now) }
+    ensures few { OnOk result (before + 1 ≤ 256) }
+    ensures reads { ArmComes before (placed_tokens bytes.now tokens.now) →
+        IfOk result (λ x. Reads (outer (arms levels before has_default) ∷ [])
+        (behind_arm levels before (has_default || is_default (expression_trees x.1.items)))
+        (placed_tokens bytes.now tokens.now) (placed_tokens bytes.now x.2.now)) }
+    ensures halts { ArmComes before (placed_tokens bytes.now tokens.now) →
+        IfErr result (λ e. HaltsAs (outer (arms levels before has_default) ∷ [])
+        (placed_tokens bytes.now tokens.now) e) }
+{
+    match word_at(WordKind::Default, tokens) {
+        Some((place, rest)) => {
+            allow_default(before, has_default, tokens)?;
+            Ok((place, Vec::new(alloc), behind_colon(rest)))
+        }
+        None => {
+            let (place, items, rest) = read_placed_items(alloc, bytes, levels, before, tokens)?;
+            Ok((place, items, rest))
+        }
+    }
+}

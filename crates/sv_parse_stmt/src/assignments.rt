@@ -1,0 +1,308 @@
+// Items that begin with `assign` (IEEE 1364-2005, clause 6.1; releases are this project's profile).
+ghost use Rattle.std.specs.Prelude.{◌<◌, ◌≤◌, ℕ, List, length, map, IfOk, IfErr, [], ◌∷◌};
+ghost use Rattle.sv_token.specs.Lexemes.{placed_tokens};
+ghost use Rattle.sv_ast.specs.Tree.{TargetTree, ItemTree};
+ghost use Rattle.sv_ast.specs.Views.{target_tree, item_tree};
+ghost use Rattle.sv_ast.specs.GrammarForms.{◌or◌};
+ghost use Rattle.sv_token.specs.declared.signs.SignKind.TheVariants as signs;
+ghost use Rattle.sv_token.specs.declared.keywords.WordKind.TheVariants as words;
+ghost use Rattle.sv_ast.specs.GrammarStatements.{AreTargets, IsNext, only};
+ghost use Rattle.sv_ast.specs.GrammarModules.{IsWholeTarget, IsContinuous, AreContinuous};
+ghost use Rattle.sv_ast.specs.GrammarModules.{IsReleased};
+ghost use Rattle.sv_ast.specs.GrammarRules.{all_limits};
+ghost use Rattle.sv_parse_machine.specs.Symbols.{outer, punctuation, plain_name, expression, items};
+ghost use Rattle.sv_parse_machine.specs.Symbols.{assigned, later_assigned};
+ghost use Rattle.sv_parse_machine.specs.Reads.{Reads, NextIsNotSign};
+ghost use Rattle.sv_parse_expr.specs.Expectations.{HaltsAs};
+ghost use Rattle.sv_parse_stmt.specs.ReadingAssignments.{AssignsTo, ReleasesAs, IsAssignEnd};
+ghost use Rattle.sv_parse_stmt.specs.ReadingAssignments.{behind_targets, behind_release};
+
+use crate::closed::{read_closed, read_closed_name};
+use crate::targets::first_place;
+use std::alloc::Global;
+use sv_ast::{Item, Select, Target};
+use sv_num::{Name, Place};
+use sv_parse_expr::cursor::{behind, behind_word, expect_sign, expect_word, read_name};
+use sv_parse_expr::expressions::read_expression;
+use sv_parse_expr::lists::{Listed, one, read_list, read_list_from};
+use sv_parse_expr::stop::Stop;
+use sv_token::{SignKind, Token, WordKind};
+
+// A whole signal as target.
+fn read_whole_target<'a>(
+    alloc: Global,
+    bytes: &[u8],
+    tokens: &'a [Token],
+) -> Result<(Target, &'a [Token]), Stop>
+    ensures is { IfOk result (λ x.
+        IsWholeTarget (target_tree x.0) (placed_tokens bytes.now tokens.now)
+        (placed_tokens bytes.now x.1.now)) }
+    ensures shorter { IfOk result (λ x. length x.1.now < length tokens.now) }
+    ensures reads { IfOk result (λ x.
+        Reads (outer plain_name ∷ []) [] (placed_tokens bytes.now tokens.now)
+        (placed_tokens bytes.now x.1.now)) }
+    ensures halts { IfErr result (λ e.
+        HaltsAs (outer plain_name ∷ []) (placed_tokens bytes.now tokens.now) e) }
+{
+    let (name, place, rest) = read_name(alloc, bytes, tokens)?;
+    let target = Target {
+        name,
+        place,
+        select: Select::Whole,
+    };
+    Ok((target, rest))
+}
+
+// Whole signals as targets.
+struct WholeTargets;
+
+impl Listed for WholeTargets {
+    type Item = Target;
+
+    ghost Tree = { TargetTree };
+
+    ghost tree = { target_tree };
+
+    ghost First = { λ n. IsWholeTarget };
+
+    ghost Later = { λ n before. IsWholeTarget };
+
+    ghost Begins = { λ ts. Unit {0} };
+
+    ghost start = { λ n. outer plain_name ∷ [] };
+
+    ghost behind = { λ n. [] };
+
+    ghost next = { λ n. outer plain_name ∷ [] };
+
+    fn first<'a>(
+        alloc: Global,
+        bytes: &[u8],
+        _open: usize,
+        tokens: &'a [Token],
+    ) -> Result<(Target, &'a [Token]), Stop> {
+        read_whole_target(alloc, bytes, tokens)
+    }
+
+    fn later<'a>(
+        alloc: Global,
+        bytes: &[u8],
+        _open: usize,
+        _before: &Target,
+        tokens: &'a [Token],
+    ) -> Result<(Target, &'a [Token]), Stop> {
+        read_whole_target(alloc, bytes, tokens)
+    }
+}
+
+// The targets of an assignment of the item: one, or several in braces.
+fn read_whole_targets<'a>(
+    alloc: Global,
+    bytes: &[u8],
+    tokens: &'a [Token],
+) -> Result<(Vec<Target>, &'a [Token]), Stop>
+    ensures is { IfOk result (λ x.
+        AreTargets IsWholeTarget (map target_tree x.0.items) (placed_tokens bytes.now tokens.now)
+        (placed_tokens bytes.now x.1.now)) }
+    ensures shorter { IfOk result (λ x. length x.1.now < length tokens.now) }
+    ensures some { IfOk result (λ x. 0 < length x.0.items) }
+    ensures reads { IfOk result (λ x.
+        Reads (outer later_assigned ∷ []) behind_targets (placed_tokens bytes.now tokens.now)
+        (placed_tokens bytes.now x.1.now)) }
+    ensures halts { IfErr result (λ e.
+        HaltsAs (outer later_assigned ∷ []) (placed_tokens bytes.now tokens.now) e) }
+{
+    if let Some(rest) = behind(SignKind::OpenBrace, tokens) {
+        let (targets, rest) = read_list::<WholeTargets>(alloc, bytes, 0, rest)?;
+        let rest = expect_sign(SignKind::CloseBrace, rest)?;
+        return Ok((targets, rest));
+    }
+    let (only, rest) = read_whole_target(alloc, bytes, tokens)?;
+    Ok((one(alloc, only)?, rest))
+}
+
+// The value of an assignment to the targets, behind its `=`.
+fn read_valued<'a>(
+    alloc: Global,
+    bytes: &[u8],
+    targets: Vec<Target>,
+    tokens: &'a [Token],
+) -> Result<(Item, &'a [Token]), Stop>
+    requires { 0 < length targets.items }
+    ensures is { IfOk result (λ x.
+        AssignsTo (map target_tree targets.items) (item_tree x.0)
+        (placed_tokens bytes.now tokens.now) (placed_tokens bytes.now x.1.now)) }
+    ensures shorter { IfOk result (λ x. length x.1.now < length tokens.now) }
+    ensures reads { IfOk result (λ x.
+        Reads (outer (expression 0) ∷ []) [] (placed_tokens bytes.now tokens.now)
+        (placed_tokens bytes.now x.1.now)) }
+    ensures halts { IfErr result (λ e.
+        HaltsAs (outer (expression 0) ∷ []) (placed_tokens bytes.now tokens.now) e) }
+{
+    let place = first_place(&targets);
+    let (value, rest) = read_expression(alloc, bytes, 0, tokens)?;
+    let item = Item::Assign {
+        targets,
+        place,
+        value,
+    };
+    Ok((item, rest))
+}
+
+// An assignment of the item.
+fn read_assignment<'a>(
+    alloc: Global,
+    bytes: &[u8],
+    tokens: &'a [Token],
+) -> Result<(Item, &'a [Token]), Stop>
+    ensures is { IfOk result (λ x.
+        IsContinuous all_limits (item_tree x.0) (placed_tokens bytes.now tokens.now)
+        (placed_tokens bytes.now x.1.now)) }
+    ensures shorter { IfOk result (λ x. length x.1.now < length tokens.now) }
+    ensures reads { IfOk result (λ x.
+        Reads (outer later_assigned ∷ []) [] (placed_tokens bytes.now tokens.now)
+        (placed_tokens bytes.now x.1.now)) }
+    ensures halts { IfErr result (λ e.
+        HaltsAs (outer later_assigned ∷ []) (placed_tokens bytes.now tokens.now) e) }
+{
+    let (targets, rest) = read_whole_targets(alloc, bytes, tokens)?;
+    let rest = expect_sign(SignKind::Equals, rest)?;
+    let (item, rest) = read_valued(alloc, bytes, targets, rest)?;
+    Ok((item, rest))
+}
+
+// The assignments of an item.
+struct Assignments;
+
+impl Listed for Assignments {
+    type Item = Item;
+
+    ghost Tree = { ItemTree };
+
+    ghost tree = { item_tree };
+
+    ghost First = { λ n. IsContinuous all_limits };
+
+    ghost Later = { λ n before. IsContinuous all_limits };
+
+    ghost Begins = { λ ts. Unit {0} };
+
+    ghost start = { λ n. outer later_assigned ∷ [] };
+
+    ghost behind = { λ n. [] };
+
+    ghost next = { λ n. outer later_assigned ∷ [] };
+
+    fn first<'a>(
+        alloc: Global,
+        bytes: &[u8],
+        _open: usize,
+        tokens: &'a [Token],
+    ) -> Result<(Item, &'a [Token]), Stop> {
+        read_assignment(alloc, bytes, tokens)
+    }
+
+    fn later<'a>(
+        alloc: Global,
+        bytes: &[u8],
+        _open: usize,
+        _before: &Item,
+        tokens: &'a [Token],
+    ) -> Result<(Item, &'a [Token]), Stop> {
+        read_assignment(alloc, bytes, tokens)
+    }
+}
+
+// What is released to a point, behind the word.
+fn read_released<'a>(
+    alloc: Global,
+    bytes: &[u8],
+    target: Name,
+    place: Place,
+    tokens: &'a [Token],
+) -> Result<(Item, &'a [Token]), Stop>
+    ensures is { IfOk result (λ x.
+        ReleasesAs (record { name = target; place = place }) (item_tree x.0)
+        (placed_tokens bytes.now tokens.now) (placed_tokens bytes.now x.1.now)) }
+    ensures shorter { IfOk result (λ x. length x.1.now < length tokens.now) }
+    ensures reads { IfOk result (λ x.
+        Reads behind_release [] (placed_tokens bytes.now tokens.now)
+        (placed_tokens bytes.now x.1.now)) }
+    ensures halts { IfErr result (λ e.
+        HaltsAs behind_release (placed_tokens bytes.now tokens.now) e) }
+{
+    let rest = expect_sign(SignKind::OpenParenthesis, tokens)?;
+    let (value, rest) = read_closed(alloc, bytes, 0, SignKind::Comma, rest)?;
+    let (point, point_place, rest) = read_closed_name(alloc, bytes, rest)?;
+    let item = Item::Release {
+        target,
+        place,
+        value,
+        point,
+        point_place,
+    };
+    Ok((item, rest))
+}
+
+// The items behind `assign` where the first target is in no braces.
+fn read_named_first<'a>(
+    alloc: Global,
+    bytes: &[u8],
+    tokens: &'a [Token],
+) -> Result<(Vec<Item>, &'a [Token]), Stop>
+    ensures is { IfOk result (λ x.
+        IsAssignEnd (map item_tree x.0.items) (placed_tokens bytes.now tokens.now)
+        (placed_tokens bytes.now x.1.now)) }
+    ensures shorter { IfOk result (λ x. length x.1.now < length tokens.now) }
+    ensures reads { NextIsNotSign signs.OpenBrace (placed_tokens bytes.now tokens.now) →
+        IfOk result (λ x. Reads (outer assigned ∷ []) (outer (punctuation signs.Semicolon) ∷ [])
+        (placed_tokens bytes.now tokens.now) (placed_tokens bytes.now x.1.now)) }
+    ensures halts { NextIsNotSign signs.OpenBrace (placed_tokens bytes.now tokens.now) →
+        IfErr result (λ e. HaltsAs (outer assigned ∷ []) (placed_tokens bytes.now tokens.now) e) }
+{
+    let (name, place, rest) = read_name(alloc, bytes, tokens)?;
+    let rest = expect_sign(SignKind::Equals, rest)?;
+    if let Some(rest) = behind_word(WordKind::Release, rest) {
+        let (item, rest) = read_released(alloc, bytes, name, place, rest)?;
+        return Ok((one(alloc, item)?, rest));
+    }
+    let target = Target {
+        name,
+        place,
+        select: Select::Whole,
+    };
+    let (first, rest) = read_valued(alloc, bytes, one(alloc, target)?, rest)?;
+    let (items, rest) = read_list_from::<Assignments>(alloc, bytes, 0, first, rest)?;
+    Ok((items, rest))
+}
+
+/// The assignments of an item that begins with `assign`, or its release.
+pub fn read_assigned<'a>(
+    alloc: Global,
+    bytes: &[u8],
+    tokens: &'a [Token],
+) -> Result<(Vec<Item>, &'a [Token]), Stop>
+    ensures is { IfOk result (λ x.
+        (AreContinuous all_limits (map item_tree x.0.items)
+        or only (IsReleased all_limits) (map item_tree x.0.items))
+        (placed_tokens bytes.now tokens.now) (placed_tokens bytes.now x.1.now)) }
+    ensures shorter { IfOk result (λ x. length x.1.now < length tokens.now) }
+    ensures reads { IsNext words.Assign (placed_tokens bytes.now tokens.now) →
+        IfOk result (λ x. Reads (outer items ∷ [])
+        (outer (punctuation signs.Semicolon) ∷ outer items ∷ [])
+        (placed_tokens bytes.now tokens.now) (placed_tokens bytes.now x.1.now)) }
+    ensures halts { IsNext words.Assign (placed_tokens bytes.now tokens.now) →
+        IfErr result (λ e. HaltsAs (outer items ∷ []) (placed_tokens bytes.now tokens.now) e) }
+{
+    let (_place, rest) = expect_word(WordKind::Assign, tokens)?;
+    match behind(SignKind::OpenBrace, rest) {
+        Some(_) => {
+            let (items, rest) = read_list::<Assignments>(alloc, bytes, 0, rest)?;
+            Ok((items, rest))
+        }
+        None => {
+            let (items, rest) = read_named_first(alloc, bytes, rest)?;
+            Ok((items, rest))
+        }
+    }
+}

@@ -1,0 +1,184 @@
+// Targets of assignments (IEEE 1364-2005, clause 9.2).
+ghost use Rattle.std.specs.Prelude.{◌<◌, ◌≤◌, length, map, IfOk, IfErr, [], ◌∷◌};
+ghost use Rattle.sv_token.specs.Lexemes.{placed_tokens};
+ghost use Rattle.sv_ast.specs.Tree.{TargetTree};
+ghost use Rattle.sv_token.specs.declared.signs.SignKind.TheVariants as signs;
+ghost use Rattle.sv_ast.specs.Views.{expression_tree, selection_of, target_tree};
+ghost use Rattle.sv_ast.specs.GrammarForms.{◌⨾◌, a_sign};
+ghost use Rattle.sv_ast.specs.GrammarExpressions.{IsExpression};
+ghost use Rattle.sv_ast.specs.GrammarStatements.{IsSelection, IsTarget, AreTargets, BeginAt};
+ghost use Rattle.sv_ast.specs.GrammarRules.{all_limits};
+ghost use Rattle.sv_parse_machine.specs.Reads.{Reads, NextIsNotSign, NextIsTarget};
+ghost use Rattle.sv_parse_expr.specs.Expectations.{HaltsAs};
+ghost use Rattle.sv_parse_machine.specs.StatementTable.{assignment_behind};
+ghost use Rattle.sv_parse_machine.specs.Machine.{outside_on};
+ghost use Rattle.sv_parse_machine.specs.Symbols.{outer, plain_name, perhaps_bits, bits_end, statement};
+
+use crate::closed::read_closed;
+use std::alloc::Global;
+use sv_ast::{Expr, Select, Target};
+use sv_num::Place;
+use sv_parse_expr::cursor::{behind, expect_sign, read_name};
+use sv_parse_expr::expressions::read_expression;
+use sv_parse_expr::lists::{Listed, one, read_list};
+use sv_parse_expr::stop::Stop;
+use sv_token::{SignKind, Token};
+
+// The low bound of a part, from the `:` to the `]`.
+fn read_low<'a>(
+    alloc: Global,
+    bytes: &[u8],
+    levels: usize,
+    tokens: &'a [Token],
+) -> Result<(Expr, &'a [Token]), Stop>
+    ensures is { IfOk result (λ x.
+        (a_sign signs.Colon ⨾ IsExpression all_limits levels (expression_tree x.0)
+        ⨾ a_sign signs.CloseBracket) (placed_tokens bytes.now tokens.now)
+        (placed_tokens bytes.now x.1.now)) }
+    ensures shorter { IfOk result (λ x. length x.1.now < length tokens.now) }
+    ensures reads { IfOk result (λ x.
+        Reads (outer (bits_end levels) ∷ []) [] (placed_tokens bytes.now tokens.now)
+        (placed_tokens bytes.now x.1.now)) }
+    ensures halts { NextIsNotSign signs.CloseBracket (placed_tokens bytes.now tokens.now) →
+        IfErr result (λ e. HaltsAs (outer (bits_end levels) ∷ [])
+        (placed_tokens bytes.now tokens.now) e) }
+{
+    let rest = expect_sign(SignKind::Colon, tokens)?;
+    let (low, rest) = read_closed(alloc, bytes, levels, SignKind::CloseBracket, rest)?;
+    Ok((low, rest))
+}
+
+// The bits of a target.
+fn read_select<'a>(
+    alloc: Global,
+    bytes: &[u8],
+    levels: usize,
+    tokens: &'a [Token],
+) -> Result<(Select, &'a [Token]), Stop>
+    ensures is { IfOk result (λ x.
+        IsSelection all_limits levels (selection_of x.0) (placed_tokens bytes.now tokens.now)
+        (placed_tokens bytes.now x.1.now)) }
+    ensures shorter { IfOk result (λ x. length x.1.now ≤ length tokens.now) }
+    ensures reads { IfOk result (λ x.
+        Reads (outer (perhaps_bits levels) ∷ []) [] (placed_tokens bytes.now tokens.now)
+        (placed_tokens bytes.now x.1.now)) }
+    ensures halts { IfErr result (λ e.
+        HaltsAs (outer (perhaps_bits levels) ∷ []) (placed_tokens bytes.now tokens.now) e) }
+{
+    let Some(rest) = behind(SignKind::OpenBracket, tokens) else {
+        return Ok((Select::Whole, tokens));
+    };
+    let (first, rest) = read_expression(alloc, bytes, levels, rest)?;
+    if let Some(after) = behind(SignKind::CloseBracket, rest) {
+        return Ok((Select::Bit(first), after));
+    }
+    let (low, rest) = read_low(alloc, bytes, levels, rest)?;
+    Ok((Select::Part(first, low), rest))
+}
+
+// A target of an assignment in a statement.
+fn read_target<'a>(
+    alloc: Global,
+    bytes: &[u8],
+    levels: usize,
+    tokens: &'a [Token],
+) -> Result<(Target, &'a [Token]), Stop>
+    ensures is { IfOk result (λ x.
+        IsTarget all_limits levels (target_tree x.0) (placed_tokens bytes.now tokens.now)
+        (placed_tokens bytes.now x.1.now)) }
+    ensures shorter { IfOk result (λ x. length x.1.now < length tokens.now) }
+    ensures reads { IfOk result (λ x.
+        Reads (outer plain_name ∷ outer (perhaps_bits levels) ∷ []) []
+        (placed_tokens bytes.now tokens.now) (placed_tokens bytes.now x.1.now)) }
+    ensures halts { IfErr result (λ e.
+        HaltsAs (outer plain_name ∷ outer (perhaps_bits levels) ∷ [])
+        (placed_tokens bytes.now tokens.now) e) }
+{
+    let (name, place, rest) = read_name(alloc, bytes, tokens)?;
+    let (select, rest) = read_select(alloc, bytes, levels, rest)?;
+    let target = Target {
+        name,
+        place,
+        select,
+    };
+    Ok((target, rest))
+}
+
+// Targets of an assignment in a statement.
+struct Targets;
+
+impl Listed for Targets {
+    type Item = Target;
+
+    ghost Tree = { TargetTree };
+
+    ghost tree = { target_tree };
+
+    ghost First = { IsTarget all_limits };
+
+    ghost Later = { λ n before. IsTarget all_limits n };
+
+    ghost Begins = { λ ts. Unit {0} };
+
+    ghost start = { λ n. outer plain_name ∷ outer (perhaps_bits n) ∷ [] };
+
+    ghost behind = { λ n. [] };
+
+    ghost next = { λ n. outer plain_name ∷ outer (perhaps_bits n) ∷ [] };
+
+    fn first<'a>(
+        alloc: Global,
+        bytes: &[u8],
+        levels: usize,
+        tokens: &'a [Token],
+    ) -> Result<(Target, &'a [Token]), Stop> {
+        read_target(alloc, bytes, levels, tokens)
+    }
+
+    fn later<'a>(
+        alloc: Global,
+        bytes: &[u8],
+        levels: usize,
+        _before: &Target,
+        tokens: &'a [Token],
+    ) -> Result<(Target, &'a [Token]), Stop> {
+        read_target(alloc, bytes, levels, tokens)
+    }
+}
+
+/// The targets of an assignment in a statement: one, or several in braces.
+pub fn read_targets<'a>(
+    alloc: Global,
+    bytes: &[u8],
+    levels: usize,
+    tokens: &'a [Token],
+) -> Result<(Vec<Target>, &'a [Token]), Stop>
+    ensures is { IfOk result (λ x.
+        AreTargets (IsTarget all_limits levels) (map target_tree x.0.items)
+        (placed_tokens bytes.now tokens.now) (placed_tokens bytes.now x.1.now)) }
+    ensures shorter { IfOk result (λ x. length x.1.now < length tokens.now) }
+    ensures some { IfOk result (λ x. 0 < length x.0.items) }
+    ensures reads { NextIsTarget (placed_tokens bytes.now tokens.now) →
+        IfOk result (λ x. Reads (outer (statement levels) ∷ [])
+        (outside_on (assignment_behind levels)) (placed_tokens bytes.now tokens.now)
+        (placed_tokens bytes.now x.1.now)) }
+    ensures halts { NextIsTarget (placed_tokens bytes.now tokens.now) →
+        IfErr result (λ e. HaltsAs (outer (statement levels) ∷ [])
+        (placed_tokens bytes.now tokens.now) e) }
+{
+    if let Some(rest) = behind(SignKind::OpenBrace, tokens) {
+        let (targets, rest) = read_list::<Targets>(alloc, bytes, levels, rest)?;
+        let rest = expect_sign(SignKind::CloseBrace, rest)?;
+        return Ok((targets, rest));
+    }
+    let (only, rest) = read_target(alloc, bytes, levels, tokens)?;
+    Ok((one(alloc, only)?, rest))
+}
+
+/// The place of the first of some targets.
+pub fn first_place(targets: &[Target]) -> Place
+    requires { 0 < length targets.now }
+    ensures { BeginAt result (map target_tree targets.now) }
+{
+    targets[0].place
+}

@@ -1,9 +1,0 @@
-use Rattle.std.proofs.Common.{◌≡◌, ℕ, List, take}
-use Rattle.sv_token.specs.Lexemes.{placed_tokens}
-use Rattle.sv_ast.specs.GrammarRules as grammar
-use Rattle.sv_read.proofs.forms.last_word.Given as goal
-
-abbrev pub invariant-loop-token : goal.invariant-loop-token
-invariant-loop-token l =
-    (bytes : List ℕ) → l.word ≡
-    grammar.last_word (placed_tokens bytes (take l.token-index l.tokens))

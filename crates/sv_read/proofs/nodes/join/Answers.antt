@@ -1,7 +1,0 @@
-use Rattle.std.proofs.Common.{ap}
-use Rattle.sv_ast.specs.Tree as tree
-use Rattle.sv_ast.proofs.Rows.{row_parts-hidden}
-use Rattle.sv_read.proofs.nodes.join.Goals as goal
-
-pub returns : goal.returns
-returns c = ap (tree.join c.args.place) (row_parts-hidden c.args.parts)

@@ -1,9 +1,0 @@
-use Rattle.std.proofs.Common.{◌≡◌, Some, sym}
-use Rattle.sv_read.proofs.ReadingOperators.{row_operator}
-use Rattle.sv_read.proofs.operators.binary_operator.Goals as goal
-
-pub returns : goal.returns
-returns c =
-    let known : c.args.operator.binary ≡ Some c.in_ok-operator.field-0 = cc in
-    row_operator c.args.operator c.in_ok-operator.field-0 c.in_ok-row.row.now known
-    (sym c.in_ok-row.ensures)

@@ -1,5 +1,0 @@
-use Rattle.sv_grammar.proofs.OneText.{one_meaning}
-use Rattle.sv_text_laws.proofs.meanings.bytes_mean_at_most_one_text.Goals as goal
-
-pub returns : goal.returns
-returns c bytes one other means means_too = one_meaning bytes one other means means_too

@@ -1,5 +1,0 @@
-use Rattle.sv_text_laws.proofs.TypedSizes.{typed_no_larger}
-use Rattle.sv_text_laws.proofs.sizes.typed_expressions_are_no_larger.Goals as goal
-
-pub returns : goal.returns
-returns c names e length signed = typed_no_larger names e length signed

@@ -1,4 +1,5 @@
--- Names in an expression exchanged for other names, or for values that stand for them.
+-- Names in an expression exchanged for other names, or for values that stand for them: what a name
+-- reads behind an assignment is the assigned value (IEEE 1364-2005, clause 9.2.1).
 use Rattle.std.specs.Prelude.{ℕ, List}
 use Rattle.sv_num.specs.declared.faults.Place.{Place}
 use Rattle.sv_flat.specs.Design.{SignalForm, TypedTree, typed, NodeTree, constant, read, read_bit}

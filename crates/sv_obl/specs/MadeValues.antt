@@ -1,6 +1,6 @@
 -- What a process makes of a signal's value from the values of what it reads: every name that is
--- settled has its value of one environment, and of the run itself only copies of what is followed
--- are asked for.
+-- settled has its value of one environment, and of the run itself only the copies of followed
+-- signals are asked for.
 use Rattle.std.specs.Prelude.{ℕ, Bool, ◌==◌, not, if◌then◌else◌, List, fold}
 use Rattle.sv_num.specs.Vectors.{is_true}
 use Rattle.sv_system.specs.System.{Environment, put}

@@ -1,4 +1,5 @@
--- Bodies in which earlier reads are wanted, and the bodies of a design as the calls hold them.
+-- Bodies in which earlier reads are wanted, and the bodies of a design as the calls hold them (this
+-- project's profile; which reads are earlier ones by IEEE 1364-2005, clauses 9.2.1 and 9.8.1).
 use Rattle.std.specs.Prelude.{◌≡◌, ◌≤◌, ℕ, ◌&&◌, List, map, length, Option, Some, None}
 use Rattle.std.specs.Prelude.{option_copied}
 use Rattle.std.specs.Prelude.{Contains, IsTrue, IsFalse}

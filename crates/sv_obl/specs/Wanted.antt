@@ -1,6 +1,7 @@
 -- Wanted names: a name that is wanted stands for the value that its signal has where the statements
--- taken so far begin; a name that is not is settled. A wanted name is that of a second copy of the
--- signal: copy s has the number of all signals plus s.
+-- taken so far begin, which is what a blocking assignment reads (IEEE 1364-2005, clauses 9.2.1 and
+-- 9.8.1); a name that is not is settled. A wanted name is that of a second copy of the signal: copy
+-- s has the number of all signals plus s (this project's profile).
 use Rattle.std.specs.Prelude.{ℕ, ◌+◌, ◌-◌, Bool, false, ◌==◌, ◌&&◌, not, nat_le, if◌then◌else◌}
 use Rattle.std.specs.Prelude.{List, ◌++◌, length, fold}
 use Rattle.std.specs.List.{list_any}

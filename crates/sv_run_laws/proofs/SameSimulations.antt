@@ -14,7 +14,7 @@ use Rattle.sv_trace.specs.Forms.{StimForm}
 use Rattle.sv_trace.specs.Stimulus.{start_of, cycles_of}
 use Rattle.sv_trace.specs.Traces.{hexadecimal}
 use Rattle.sv_sim_run.specs.declared.endings.Ending.{Ending}
-use Rattle.sv_sim_run.specs.Simulated.{read_of, last_line, IsSimulation}
+use Rattle.sv_sim_run.specs.Simulated.{read_of, last_line, IsTraceText}
 use Rattle.sv_sim_run.specs.Traces.{inputs_in, registers_in, register_in, form_in, IsTraceFrom}
 use Rattle.sv_sim_run.specs.Traces.{pair_in, line_in, lines_from}
 
@@ -264,8 +264,8 @@ module _ {Signal Point Other OtherPoint : Type 0} (first : System Signal Point)
     -- ---- simulations
 
     module _ (rounds : Option ℕ) (bytes : List ℕ) (ends : Ending) (printed : List ℕ) where
-      pub simulation_over : IsSimulation name first level rounds bytes ends printed
-          → IsSimulation other_name second other rounds bytes ends printed
+      pub simulation_over : IsTraceText name first level rounds bytes ends printed
+          → IsTraceText other_name second other rounds bytes ends printed
       simulation_over is =
           let right = is.read.right in
           let traces = is.traces in
@@ -285,13 +285,13 @@ module _ {Signal Point Other OtherPoint : Type 0} (first : System Signal Point)
                 (sym (lines_over traces.inputs is.trace traces.state traces.follows 0));
           }
 
-      pub reads_over : (is : IsSimulation name first level rounds bytes ends printed)
+      pub reads_over : (is : IsTraceText name first level rounds bytes ends printed)
           → (simulation_over is).read ≡ is.read
       unfolding simulation_over
       reads_over is = refl
 
-      pub simulation_back : IsSimulation other_name second other rounds bytes ends printed
-          → IsSimulation name first level rounds bytes ends printed
+      pub simulation_back : IsTraceText other_name second other rounds bytes ends printed
+          → IsTraceText name first level rounds bytes ends printed
       simulation_back is =
           let right = is.read.right in
           let traces = is.traces in
@@ -311,7 +311,7 @@ module _ {Signal Point Other OtherPoint : Type 0} (first : System Signal Point)
                 (sym (lines_back traces.inputs is.trace traces.state traces.follows 0));
           }
 
-      pub reads_back : (is : IsSimulation other_name second other rounds bytes ends printed)
+      pub reads_back : (is : IsTraceText other_name second other rounds bytes ends printed)
           → (simulation_back is).read ≡ is.read
       unfolding simulation_back
       reads_back is = refl

@@ -14,7 +14,7 @@ use Rattle.sv_flat.specs.Design.{FlatDesign}
 use Rattle.sv_trace.specs.Forms.{StimForm}
 use Rattle.sv_trace.specs.Stimulus.{LinesRead, read_front, start_of, cycles_of}
 use Rattle.sv_sim_run.specs.declared.endings.Ending.{Ending}
-use Rattle.sv_sim_run.specs.Simulated.{AreRounds, IsSimulation, IsLevelRefused, IsSimulated}
+use Rattle.sv_sim_run.specs.Simulated.{AreRounds, IsTraceText, IsLevelRefused, IsSimulated}
 use Rattle.sv_sim_run.specs.Simulated.{WritesFrontFor, WritesAllCycles, largest_stimulus}
 use Rattle.sv_sim_run.specs.Traces.{form_in, IsTraceFrom, lines_from}
 use Rattle.sv_run_laws.specs.Signals.{dotted}
@@ -35,7 +35,7 @@ abbrev pub IsTextSimulatedAt : TextTree → (asked : Option (List ℕ)) → Flat
 IsTextSimulatedAt text asked design None order bytes ends printed = IsLevelRefused ends printed
 IsTextSimulatedAt text asked design (Some level) order bytes ends printed =
     (rounds : Option ℕ)
-    × (is : IsSimulation dotted (text_system text asked) level rounds bytes ends printed)
+    × (is : IsTraceText dotted (text_system text asked) level rounds bytes ends printed)
     × AreRounds design order is.read rounds
 
 -- What is written of a text for these bytes, with this level and order, and how that ends.

@@ -23,7 +23,7 @@ use Rattle.sv_sim_run.specs.declared.endings.Ending.{Ending}
 use Rattle.sv_sim_run.specs.declared.endings.Ending.TheVariants as ending
 use Rattle.sv_sim_run.specs.Runs.{lines_of}
 use Rattle.sv_sim_run.specs.Simulated.{largest_stimulus, is_within, read_of, ending_of, last_line}
-use Rattle.sv_sim_run.specs.Simulated.{IsSimulation, AreRounds, IsSimulatedAt}
+use Rattle.sv_sim_run.specs.Simulated.{IsTraceText, AreRounds, IsSimulatedAt}
 use Rattle.sv_sim_run.specs.Simulated.{level_asked, HasOneText}
 use Rattle.sv_sim_run.specs.Traces.{form_in, IsTraceFrom, line_in, pair_in, shown_in}
 use Rattle.sv_sim_run.proofs.DesignForms.{form_is_plain, form_is, inputs_listed, registers_listed}
@@ -112,7 +112,7 @@ module _ (design : FlatDesign) (is_sound : IsTrue (sound design))
       (trace : List (Environment ℕ))
       → IsTrace system (starts_at (read_of form bytes).right)
       (takes (cycles_of (read_of form bytes).right)) trace
-      → IsSimulation name system level rounds bytes
+      → IsTraceText name system level rounds bytes
       (ending_of (is_within bytes) (read_of form bytes))
       (lines_of design level trace
       ++ last_line (ending_of (is_within bytes) (read_of form bytes)) rounds)
@@ -135,8 +135,8 @@ module _ (design : FlatDesign) (is_sound : IsTrue (sound design))
 
   one_simulation : (level : Option Point) (rounds : Option ℕ) (bytes : List ℕ)
       (ends other : Ending) (printed others : List ℕ)
-      → IsSimulation name system level rounds bytes ends printed
-      → IsSimulation name system level rounds bytes other others
+      → IsTraceText name system level rounds bytes ends printed
+      → IsTraceText name system level rounds bytes other others
       → (other ≡ ends) × (others ≡ printed)
   one_simulation level rounds bytes ends other printed others a b =
       let f : StimForm = form_in name system in
@@ -207,7 +207,7 @@ module _ (design : FlatDesign) (is_sound : IsTrue (sound design))
       let reads : b.1.read ≡ a.1.read = b.1.is_read ∙ sym a.1.is_read in
       let counted = subst (λ (read : LinesRead). AreRounds design order read b.0) reads b.2 in
       one_simulation level a.0 bytes ends other printed others a.1
-      (subst (λ rounds. IsSimulation name system level rounds bytes other others)
+      (subst (λ rounds. IsTraceText name system level rounds bytes other others)
       (one_rounds order a.1.read a.0 b.0 a.2 counted) b.1)
 
   -- a stimulus has a text

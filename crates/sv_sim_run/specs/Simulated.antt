@@ -56,7 +56,7 @@ last_line (ending.WrongLine line kind) rounds = stimulus_text Input line kind
 -- ---- the whole text
 
 -- For these bytes the trace of a system is written, and then the last line.
-pub record IsSimulation {Signal Point : Type 0} (name : Signal → List ℕ)
+pub record IsTraceText {Signal Point : Type 0} (name : Signal → List ℕ)
     (system : System Signal Point) (level : Option Point) (rounds : Option ℕ) (bytes : List ℕ)
     (ends : Ending) (printed : List ℕ) : Type 0 where
   pub read : LinesRead
@@ -104,7 +104,7 @@ abbrev pub IsSimulatedAt : FlatDesign → Option (Option Point) → (order : Opt
 IsSimulatedAt design None order bytes ends printed = IsLevelRefused ends printed
 IsSimulatedAt design (Some level) order bytes ends printed =
     (rounds : Option ℕ)
-    × (is : IsSimulation (name_in design.signals) (flat_system design) level rounds bytes ends
+    × (is : IsTraceText (name_in design.signals) (flat_system design) level rounds bytes ends
     printed)
     × AreRounds design order is.read rounds
 

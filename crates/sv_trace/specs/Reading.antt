@@ -6,7 +6,7 @@ use Rattle.std.specs.List.{list_any, prefix_len}
 use Rattle.sv_trace.specs.declared.faults.StimFault.{StimFault}
 use Rattle.sv_trace.specs.declared.faults.StimFault.TheVariants.{Line, OutOfMemory}
 use Rattle.sv_trace.specs.declared.forms.Register.{Register}
-use Rattle.sv_trace.specs.declared.state.State.{State}
+use Rattle.sv_trace.specs.declared.state.ReaderState.{ReaderState}
 use Rattle.sv_trace.specs.Forms.{StimForm}
 use Rattle.sv_trace.specs.Stimulus.{LinesRead, read_front, fault_of, has_header, starts_at}
 use Rattle.sv_trace.specs.Stimulus.{is_start, start_of, cycles_of}
@@ -29,7 +29,7 @@ pub record Reading : Type 0 where
   pub fault : Option StimFault
   pub finished : Bool
 
-abbrev pub said_of : State → Said
+abbrev pub said_of : ReaderState → Said
 said_of s = record {
   begun = s.begun;
   given = s.given.items;

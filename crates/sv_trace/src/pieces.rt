@@ -7,7 +7,7 @@ ghost use Rattle.sv_trace.specs.Steps.{IsTooLong, Stands, LineEnded, PieceRead, 
 use crate::faults::StimFault;
 use crate::fields::split_first;
 use crate::forms::Form;
-use crate::state::{State, read_line};
+use crate::state::{ReaderState, read_line};
 use std::alloc::Global;
 use sv_texts::StimKind;
 
@@ -19,7 +19,7 @@ const MAX_LINE: usize = 1_048_576;
 pub fn read_piece(
     alloc: Global,
     form: &Form,
-    state: &mut State,
+    state: &mut ReaderState,
     kept: &mut Vec<u8>,
     piece: &[u8],
 ) -> Result<(), StimFault>
@@ -48,7 +48,7 @@ pub fn read_piece(
 fn end_line(
     alloc: Global,
     form: &Form,
-    state: &mut State,
+    state: &mut ReaderState,
     kept: &mut Vec<u8>,
     line: &[u8],
 ) -> Result<(), StimFault>
@@ -90,7 +90,12 @@ fn keep(kept: &mut Vec<u8>, bytes: &[u8], line: u64) -> Result<(), StimFault>
 }
 
 /// Reads what is kept as the last line, if it has a byte, and asks for the header.
-pub fn read_end(alloc: Global, form: &Form, state: &mut State, kept: &[u8]) -> Result<(), StimFault>
+pub fn read_end(
+    alloc: Global,
+    form: &Form,
+    state: &mut ReaderState,
+    kept: &[u8],
+) -> Result<(), StimFault>
     requires said { IsSaid form.now (said_of state.old) }
     requires room { state.old.line + length kept.now < 2 ^ 64 }
     requires short { length kept.now ≤ 1048576 }
@@ -111,7 +116,7 @@ pub fn read_end(alloc: Global, form: &Form, state: &mut State, kept: &[u8]) -> R
 }
 
 // Whether the header was read; a text that ends before it lacks it in the next line.
-fn ask_header(state: &State) -> Result<(), StimFault>
+fn ask_header(state: &ReaderState) -> Result<(), StimFault>
     ensures { result ≡
         (if state.now.begun then Ok tt else Err (StimFault.Line state.now.line StimKind.Header)) }
 {

@@ -15,7 +15,7 @@ ghost use Rattle.sv_trace.specs.Stimulus.{is_start, read_front, read_whole, Line
 use crate::faults::StimFault;
 use crate::forms::Form;
 use crate::pieces::{read_end, read_piece};
-use crate::state::State;
+use crate::state::ReaderState;
 use std::alloc::{AllocError, Global};
 use std::collections::VecDeque;
 use std::marker::Model;
@@ -27,7 +27,7 @@ use sv_design::Design;
 pub struct StimReader {
     alloc: Global,
     form: Form,
-    state: State,
+    state: ReaderState,
     kept: Vec<u8>,
     fault: Option<StimFault>,
     is_finished: bool,
@@ -82,7 +82,7 @@ impl StimReader {
         Ok(StimReader {
             alloc,
             form,
-            state: State {
+            state: ReaderState {
                 begun: false,
                 given: vec![in alloc; false; count]?,
                 start: vec![in alloc; 0; count]?,

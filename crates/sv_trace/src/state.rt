@@ -17,7 +17,7 @@ use sv_texts::StimKind;
 /// What the lines so far say: whether the header was there, which registers were started and their
 /// values, the cycles, and the number of the next line.
 #[derive(Drop)]
-pub struct State {
+pub struct ReaderState {
     pub begun: bool,
     pub given: Vec<bool>,
     pub start: Vec<u64>,
@@ -29,7 +29,7 @@ pub struct State {
 pub fn read_line(
     alloc: Global,
     form: &Form,
-    state: &mut State,
+    state: &mut ReaderState,
     line: &[u8],
 ) -> Result<(), StimFault>
     requires said { IsSaid form.now (said_of state.old) }
@@ -57,7 +57,12 @@ pub fn read_line(
 }
 
 // Reads the line of a cycle.
-fn push_cycle(alloc: Global, form: &Form, state: &mut State, line: &[u8]) -> Result<(), StimFault>
+fn push_cycle(
+    alloc: Global,
+    form: &Form,
+    state: &mut ReaderState,
+    line: &[u8],
+) -> Result<(), StimFault>
     requires said { IsSaid form.now (said_of state.old) }
     requires room { state.old.line + 1 < 2 ^ 64 }
     ensures said { IsSaid form.now (said_of state.new) }
@@ -80,7 +85,7 @@ fn push_cycle(alloc: Global, form: &Form, state: &mut State, line: &[u8]) -> Res
 }
 
 // Reads a line before the header.
-fn put_start(form: &Form, state: &mut State, line: &[u8]) -> Result<(), StimFault>
+fn put_start(form: &Form, state: &mut ReaderState, line: &[u8]) -> Result<(), StimFault>
     requires said { IsSaid form.now (said_of state.old) }
     requires room { state.old.line + 1 < 2 ^ 64 }
     ensures said { IsSaid form.now (said_of state.new) }

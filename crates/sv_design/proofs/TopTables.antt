@@ -16,20 +16,20 @@ use Rattle.sv_flat.proofs.AdmittedFacts.{and_true}
 use Rattle.sv_flat.proofs.Depths.{first_of, second_of}
 use Rattle.sv_flat.proofs.LeastSets.{some_from, from_some, holds-from_Contains}
 use Rattle.sv_flat.proofs.LeastSets.{Contains-from_holds}
-use Rattle.sv_design.specs.declared.graphs.Graph.{Graph}
-use Rattle.sv_design.specs.declared.searches.Search.{Search}
+use Rattle.sv_graph.specs.declared.graphs.Graph.{Graph}
+use Rattle.sv_graph.specs.declared.searches.Search.{Search}
 use Rattle.sv_design.specs.DriverTables.{AreClocks}
-use Rattle.sv_design.specs.Graphs.{size, has_edge, IsWhole, IsTurned}
-use Rattle.sv_design.specs.Marks.{is_marked, IsTable}
-use Rattle.sv_design.specs.Searches.{Brings, IsSearch}
+use Rattle.sv_graph.specs.Graphs.{size, has_edge, IsWhole, IsTurned}
+use Rattle.sv_graph.specs.Marks.{is_marked, IsTable}
+use Rattle.sv_graph.specs.Searches.{Brings, IsSearch}
 use Rattle.sv_design.specs.Tops.{AreOrigins, AreSinks, leads_to, is_led, is_one, is_other_top}
 use Rattle.sv_design.specs.Tops.{IsFirstLed, IsLeadingTop, both_have, IsFirstOfBoth}
 use Rattle.sv_design.specs.Tops.{FindsFirstOfBoth, some_before, agrees_by}
-use Rattle.sv_design.proofs.BitFacts.{same_answer}
+use Rattle.sv_graph.proofs.BitFacts.{same_answer}
 use Rattle.sv_design.proofs.ClockLinks.{at_table}
-use Rattle.sv_design.proofs.DriverFacts.{range_more}
-use Rattle.sv_design.proofs.GraphFacts.{turned_below, turned_has}
-use Rattle.sv_design.proofs.MarkFacts.{any_append, or_no}
+use Rattle.sv_graph.proofs.ListFacts.{range_more}
+use Rattle.sv_graph.proofs.GraphFacts.{turned_below, turned_has}
+use Rattle.sv_graph.proofs.MarkFacts.{any_append, or_no}
 use Rattle.sv_design.proofs.TableFacts.{listed_are}
 use Rattle.sv_design.proofs.TopFacts.{origin_below, led_is, clock_below, agrees_is, in_range}
 

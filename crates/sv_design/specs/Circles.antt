@@ -11,7 +11,7 @@ use Rattle.sv_design.specs.declared.found.Found.{Found}
 use Rattle.sv_design.specs.declared.loops.Circle.{Circle}
 use Rattle.sv_design.specs.First.{found_before}
 use Rattle.sv_flat.specs.Processes.{declared_at}
-use Rattle.sv_design.specs.Marks.{is_marked}
+use Rattle.sv_graph.specs.Marks.{is_marked}
 use Rattle.sv_design.specs.Numbers.{numbers}
 use Rattle.sv_design.specs.declared.orders.Reads.{Reads}
 
@@ -70,3 +70,9 @@ IsBegin design reads None = Unit {0}
 IsBegin design reads (Some here) =
     IsTrue (is_marked reads.combs.items here.signal.0)
     × (here.place ≡ declared_at design here.signal.0)
+
+-- the table has every signal that a circle begins at
+abbrev pub HasBegins : FlatDesign → List Bool → Type 0
+HasBegins design table =
+    (first : ℕ) (signals : List ℕ) → IsTrue (is_circle design (first ∷ signals))
+    → IsTrue (is_marked table first)

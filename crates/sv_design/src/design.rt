@@ -11,7 +11,7 @@ ghost use Rattle.sv_flat.specs.SignalLists.{system_signals, inputs, registers, t
 ghost use Rattle.sv_flat.specs.SignalLists.{driver_of};
 ghost use Rattle.sv_flat.specs.Reads.{reads_for, order, followed};
 ghost use Rattle.sv_design.specs.Designs.{IsDesign};
-ghost use Rattle.sv_design.specs.Marks.{followed_in};
+ghost use Rattle.sv_graph.specs.Marks.{followed_in};
 ghost use Rattle.sv_design.specs.Numbers.{numbers, number_if_any};
 
 use crate::tables::Tables;

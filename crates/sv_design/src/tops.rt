@@ -8,20 +8,18 @@ ghost use Rattle.sv_flat.specs.Sets.{holds, least_set};
 ghost use Rattle.sv_flat.specs.Soundness.{sound};
 ghost use Rattle.sv_flat.specs.Views.{design_of};
 ghost use Rattle.sv_design.specs.DriverTables.{AreClocks};
-ghost use Rattle.sv_design.specs.Graphs.{size, IsWhole};
-ghost use Rattle.sv_design.specs.Marks.{is_marked, IsTable};
+ghost use Rattle.sv_graph.specs.Graphs.{size, IsWhole};
+ghost use Rattle.sv_graph.specs.Marks.{is_marked, IsTable};
 ghost use Rattle.sv_design.specs.Numbers.{numbers, number_if_any};
-ghost use Rattle.sv_design.specs.Searches.{Brings};
+ghost use Rattle.sv_graph.specs.Searches.{Brings};
 ghost use Rattle.sv_design.specs.Tops.{AreOrigins, AreSinks, leads_to, is_led, is_one};
 ghost use Rattle.sv_design.specs.Tops.{IsLeadingTop, FindsFirstOfBoth, agrees_by};
 
 use crate::clocks::is_top;
-use crate::graphs::Graph;
 use crate::links::origins_of;
-use crate::lists::listed;
-use crate::searches::search_from;
 use std::alloc::{AllocError, Global};
 use sv_flat::{Flat, SigId};
+use sv_graph::{Graph, listed, search_from};
 
 // For each signal, whether it is an input of the top module.
 fn top_table(alloc: Global, flat: &Flat) -> Result<Vec<bool>, AllocError>

@@ -9,7 +9,8 @@ use Rattle.sv_flat.specs.Soundness.{statement_sound}
 use Rattle.sv_flat.specs.Views.{design_of, typed_tree, flat_statement, flat_statements, chain_of}
 use Rattle.sv_flat.specs.declared.statements.FStmt.{the_lemmas}
 use Rattle.sv_flat.proofs.NumberedRuns.{no_branch}
-use Rattle.sv_design.specs.BitSets.{in_bits, piece_forms}
+use Rattle.sv_graph.specs.BitSets.{in_bits}
+use Rattle.sv_design.specs.Pieces.{piece_forms}
 use Rattle.sv_design.specs.Phases.{AddsAssigned}
 use Rattle.sv_design.proofs.Passes.{sound_at, assigned_more, assigned_rest, assigned_end}
 use Rattle.sv_design.proofs.Sound.{branch_is, sound_as, block_is, next_statement}

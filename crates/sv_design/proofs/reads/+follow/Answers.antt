@@ -11,10 +11,11 @@ use Rattle.sv_flat.specs.Soundness.{statement_sound}
 use Rattle.sv_flat.specs.Views.{design_of, signal_form, typed_tree, flat_statement, flat_statements}
 use Rattle.sv_flat.specs.Views.{chain_of}
 use Rattle.sv_flat.specs.declared.statements.FStmt.{the_lemmas}
-use Rattle.sv_design.specs.declared.bits.Bits.{Bits}
-use Rattle.sv_design.specs.BitSets.{in_bits, piece_forms}
+use Rattle.sv_graph.specs.declared.bit_sets.BitSet.{BitSet}
+use Rattle.sv_graph.specs.BitSets.{in_bits}
+use Rattle.sv_design.specs.Pieces.{piece_forms}
 use Rattle.sv_design.specs.Feeds.{names_sought, feeds}
-use Rattle.sv_design.specs.BitGraphs.{GainsEdges}
+use Rattle.sv_graph.specs.BitGraphs.{GainsEdges}
 use Rattle.sv_design.specs.Phases.{SameBits}
 use Rattle.sv_design.specs.Scopes.{in_scope}
 use Rattle.sv_design.proofs.BlockPasses.{targets_are}
@@ -102,7 +103,7 @@ follow-follow_all-requires t c =
 
 pub follow-returns-in-Block-clause-bits : goal.follow-returns-in-Block-clause-bits
 follow-returns-in-Block-clause-bits t c =
-    subst (λ b. IfOk c.follow_all.result (λ (bits : Bits). SameBits (in_bits bits) (can_assign b)))
+    subst (λ b. IfOk c.follow_all.result (λ (bits : BitSet). SameBits (in_bits bits) (can_assign b)))
     (sym (block_is _ c.in-Block.stmts _ c.in-Block.is c.deref-in-Block.ensures.value))
     c.follow_all.ensures.bits
 

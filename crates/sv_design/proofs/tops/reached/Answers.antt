@@ -1,10 +1,10 @@
 use Rattle.std.proofs.Common.{◌≡◌, ℕ, Bool, Vec, Global, map}
 use Rattle.std.specs.Prelude.{is_some}
 use Rattle.sv_flat.specs.Sets.{holds, least_set}
-use Rattle.sv_design.specs.Graphs.{size}
-use Rattle.sv_design.specs.Marks.{IsTable}
+use Rattle.sv_graph.specs.Graphs.{size}
+use Rattle.sv_graph.specs.Marks.{IsTable}
 use Rattle.sv_design.specs.Numbers.{numbers}
-use Rattle.sv_design.specs.Searches.{Brings}
+use Rattle.sv_graph.specs.Searches.{Brings}
 use Rattle.sv_design.proofs.TableFacts.{if_ok}
 use Rattle.sv_design.proofs.TopTables.{search_table}
 use Rattle.sv_design.proofs.tops.reached.Goals as goal

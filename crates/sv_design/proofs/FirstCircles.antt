@@ -14,7 +14,7 @@ use Rattle.sv_flat.proofs.Depths.{is_below}
 use Rattle.sv_design.specs.Circles.{circle_breach, FindsCircle, IsCircleFrom, FindsCircleBelow}
 use Rattle.sv_design.specs.Circles.{precedes}
 use Rattle.sv_graph.specs.Marks.{is_marked}
-use Rattle.sv_design.specs.Circles.{HasBegins}
+use Rattle.sv_design.specs.Orders.{HasBegins}
 use Rattle.sv_design.specs.Orders.{AreReads}
 use Rattle.sv_design.specs.declared.orders.Reads.{Reads}
 use Rattle.sv_flat.proofs.AdmittedFacts.{and_true}

@@ -70,9 +70,3 @@ IsBegin design reads None = Unit {0}
 IsBegin design reads (Some here) =
     IsTrue (is_marked reads.combs.items here.signal.0)
     × (here.place ≡ declared_at design here.signal.0)
-
--- the table has every signal that a circle begins at
-abbrev pub HasBegins : FlatDesign → List Bool → Type 0
-HasBegins design table =
-    (first : ℕ) (signals : List ℕ) → IsTrue (is_circle design (first ∷ signals))
-    → IsTrue (is_marked table first)

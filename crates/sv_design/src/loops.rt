@@ -7,9 +7,8 @@ ghost use Rattle.sv_flat.specs.Views.{design_of};
 ghost use Rattle.sv_design.specs.Circles.{FindsCircle, FindsCircleFrom, FindsCircleBelow, precedes};
 ghost use Rattle.sv_design.specs.Circles.{IsBegin};
 ghost use Rattle.sv_graph.specs.Marks.{is_marked};
-ghost use Rattle.sv_design.specs.Circles.{HasBegins};
 ghost use Rattle.sv_design.specs.Numbers.{numbers};
-ghost use Rattle.sv_design.specs.Orders.{AreReads, HasDesign};
+ghost use Rattle.sv_design.specs.Orders.{AreReads, HasDesign, HasBegins};
 ghost use Rattle.sv_graph.specs.Searches.{found_by, LeadsDown, IsWayBack};
 
 use crate::found::{Found, first_of, is_before};

@@ -16,9 +16,7 @@ use Rattle.sv_flat.proofs.Depths.{first_of, second_of}
 use Rattle.sv_flat.proofs.AdmittedFacts.{and_true, negated_true}
 use Rattle.sv_graph.specs.BitSets.{is_set, LacksBit, in_entries}
 use Rattle.sv_graph.proofs.BitFacts.{and_test, same_answer}
-use mathlib.Core.Path.{fun_ext}
 use Rattle.sv_graph.specs.declared.bit_sets.BitSet.{BitSet}
-use Rattle.sv_flat.specs.Readings.{BitSet}
 use Rattle.sv_graph.specs.BitSets.{has_some}
 use Rattle.sv_graph.proofs.EntryFacts.{nothing_in}
 use Rattle.sv_graph.proofs.MarkFacts.{or_no}

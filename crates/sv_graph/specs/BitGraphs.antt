@@ -1,7 +1,7 @@
 -- Private: how the code goes. Graphs over signals, by bits.
 use Rattle.std.specs.Prelude.{◌≡◌, ◌<◌, ◌+◌, ◌/◌, ◌%◌, ℕ, Bool, ◌||◌, List, [], ◌∷◌, length, map}
 use Rattle.std.specs.Prelude.{filter, slice_index_or, Contains, IsTrue}
-use Rattle.std.specs.List.{range_with_len}
+use Rattle.std.specs.List.{list_any, range_with_len}
 use Rattle.std.specs.declared.alloc.Global.{Global}
 use Rattle.std.specs.declared.vec.Vec.{Vec}
 use Rattle.sv_flat.specs.Sets.{least_set}
@@ -66,11 +66,10 @@ IsTurned graph turned =
 abbrev pub before : (n : ℕ) → (edges : ℕ → ℕ → Bool) → ℕ → List ℕ
 before n edges b = least_set n (λ m k. edges k m) (b ∷ [])
 
--- the signal is read for the target, or for one that an earlier read for the target names, or for
--- one that such a read for that one names, and so on
-abbrev pub leads_through : (n : ℕ) → (settled earlier : ℕ → ℕ → Bool) → (read target : ℕ) → Bool
-leads_through n settled earlier s t =
-    list_any (settled s) (least_set n (λ m k. earlier k m) (t ∷ []))
+-- an edge leads from the first signal to the second, or to one from which other edges, one after the
+-- other, lead to it
+abbrev pub leads_through : (n : ℕ) → (edges others : ℕ → ℕ → Bool) → (from to : ℕ) → Bool
+leads_through n edges others a b = list_any (edges a) (before n others b)
 
 -- Edges over n signals: the first ones, and others in place of ways of them. Two that meet at a
 -- signal below `middles` have one in place of both.

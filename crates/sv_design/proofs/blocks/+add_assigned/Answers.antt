@@ -67,10 +67,10 @@ add_assigned_plain-returns-in-Assign t c =
     let whole = assign (piece_forms c.in-Assign.pieces.items) c.in-Assign.place
     c.in-Assign.blocking (typed_tree c.in-Assign.value) in
     let is : flat_statement c.args.stmt.now ≡ whole = ap flat_statement c.in-Assign.is in
-    subst (λ z. OnOk c.add_pieces.result (AddsAssigned c.args.bits.now c.add_pieces.new.self z))
+    subst (λ z. OnOk c.add_pieces.result (AddsAssigned c.args.bits.now c.add_pieces.new.set z))
     (sym is)
     (subst (λ ps. OnOk c.add_pieces.result ((s b : ℕ) →
-    in_bits c.add_pieces.new.self s b ≡
+    in_bits c.add_pieces.new.set s b ≡
     (in_bits c.args.bits.now s b || list_any (has_bit s b) (piece_forms ps))))
     c.deref.ensures.value c.add_pieces.ensures)
 

@@ -165,10 +165,10 @@ forward_plain-returns-in_ok-add_pieces-in-Assign t c =
     let is : flat_statement c.args.stmt.now ≡ whole = ap flat_statement c.in-Assign.is in
     subst (λ b. FindsReads signals c.args.targets.now (in_scope c.args.assigned.now)
     (readings signals b) c.in_ok-found-in-Assign.found
-    × SameBits (in_bits c.add_pieces.new.self) (always_assigns b)) (sym is) (
+    × SameBits (in_bits c.add_pieces.new.set) (always_assigns b)) (sym is) (
       λ body a f asks same.
           c.in_ok-found-in-Assign.ensures (assigns whole) body a (either (can_assign whole) f)
           asks same,
-      only_pieces c.new-bits.result c.add_pieces.new.self _ _ c.deref.ensures.value
+      only_pieces c.new-bits.result c.add_pieces.new.set _ _ c.deref.ensures.value
           c.new-bits.ensures c.in_ok-add_pieces-in-Assign.ensures,
     )

@@ -25,10 +25,10 @@ loop-piece-preserved c =
     let here = piece_form (get_or pieces i no_piece) in (
       ordered_rest pieces i no_piece c.loop-piece-test.true c.loop-piece.invariant.0,
       λ s b. piece_added here (piece_forms (drop (i + 1) pieces)) s b _
-          (in_bits c.loop-piece.self s b) (in_bits c.add.new.self s b)
-          (in_bits c.args.self.now s b || list_any (has_bit s b) (piece_forms pieces))
+          (in_bits c.loop-piece.set s b) (in_bits c.add.new.self s b)
+          (in_bits c.args.set.now s b || list_any (has_bit s b) (piece_forms pieces))
           (c.in_ok-add.ensures s b) (c.mask.ensures b)
-          (ap (λ ps. in_bits c.loop-piece.self s b || list_any (has_bit s b) ps)
+          (ap (λ ps. in_bits c.loop-piece.set s b || list_any (has_bit s b) ps)
           (sym (piece_at pieces i no_piece c.loop-piece-test.true))
           ∙ c.loop-piece.invariant.1 s b),
     )

@@ -9,6 +9,6 @@ use Rattle.sv_design.proofs.pieces.add_pieces.Given as goal
 abbrev pub invariant-loop-piece : goal.invariant-loop-piece
 invariant-loop-piece l =
     AreOrdered (piece_forms (drop l.piece-index l.pieces))
-    × ((s b : ℕ) → (in_bits l.self s b
+    × ((s b : ℕ) → (in_bits l.set s b
     || list_any (has_bit s b) (piece_forms (drop l.piece-index l.pieces)))
-    ≡ (in_bits l.initial.self s b || list_any (has_bit s b) (piece_forms l.pieces)))
+    ≡ (in_bits l.initial.set s b || list_any (has_bit s b) (piece_forms l.pieces)))

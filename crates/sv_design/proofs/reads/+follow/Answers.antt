@@ -31,10 +31,10 @@ follow-add_reads-requires-clause-targets t c =
     let pieces = piece_forms c.in-Assign.pieces.items in
     let whole = assign pieces c.in-Assign.place c.in-Assign.blocking
     (typed_tree c.in-Assign.value) in
-    targets_below signals whole c.add_pieces.new.self _
+    targets_below signals whole c.add_pieces.new.set _
     (length-map c.args.flat.now.signals.items signal_form)
     (sound_as signals c.in-Assign.is c.requires.body)
-    (only_pieces c.new-bits.result c.add_pieces.new.self _ _ c.deref.ensures.value
+    (only_pieces c.new-bits.result c.add_pieces.new.set _ _ c.deref.ensures.value
     c.new-bits.ensures c.in_ok-add_pieces-in-Assign.ensures)
 
 pub follow-add_reads-requires-clause-formed : goal.follow-add_reads-requires-clause-formed
@@ -73,13 +73,13 @@ follow-returns-in_ok-add_reads-in-Assign-clause-gains t c =
     let whole = assign pieces c.in-Assign.place c.in-Assign.blocking
     (typed_tree c.in-Assign.value) in
     let is : flat_statement c.args.stmt.now ≡ whole = ap flat_statement c.in-Assign.is in
-    let bits = only_pieces c.new-bits.result c.add_pieces.new.self _ _ c.deref.ensures.value
+    let bits = only_pieces c.new-bits.result c.add_pieces.new.set _ _ c.deref.ensures.value
     c.new-bits.ensures c.in_ok-add_pieces-in-Assign.ensures in
     subst (λ b. GainsEdges c.args.graph.now c.add_reads.new.graph
     (feeds signals c.args.sought b (in_scope c.args.later.now))) (sym is)
-    (gains_inside signals c.args.sought (typed_tree c.in-Assign.value) whole c.add_pieces.new.self
+    (gains_inside signals c.args.sought (typed_tree c.in-Assign.value) whole c.add_pieces.new.set
     c.args.graph.now c.add_reads.new.graph _ _ bits
-    (targets_are signals whole c.add_pieces.new.self
+    (targets_are signals whole c.add_pieces.new.set
     (sound_as signals c.in-Assign.is c.requires.body) bits)
     c.in_ok-add_reads-in-Assign.ensures.gains)
 

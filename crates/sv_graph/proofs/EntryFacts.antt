@@ -18,11 +18,8 @@ use Rattle.sv_graph.specs.BitSets.{is_set, LacksBit, in_entries}
 use Rattle.sv_graph.proofs.BitFacts.{and_test, same_answer}
 use Rattle.sv_graph.specs.declared.bit_sets.BitSet.{BitSet}
 use Rattle.sv_graph.specs.BitSets.{has_some}
-use Rattle.sv_graph.proofs.EntryFacts.{nothing_in}
-use Rattle.sv_graph.proofs.MarkFacts.{or_no}
 use Rattle.std.proofs.Common.{◌⊎◌}
 use Rattle.std.proofs.lemmas.Bool.{or_left, or_right}
-use Rattle.sv_graph.proofs.EntryFacts.{key_test}
 
 -- ---- a bit that is lacking
 

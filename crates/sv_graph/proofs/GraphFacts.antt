@@ -23,7 +23,6 @@ use Rattle.sv_graph.proofs.BitFacts.{same_answer}
 use Rattle.std.proofs.Common.{◌+◌}
 use Rattle.std.specs.List.{enumerate_from, AllWithin}
 use Rattle.std.proofs.lemmas.List.FromFn.{length-enumerate_from, get_or-enumerate_from}
-use Rattle.sv_graph.specs.Numbers.{numbers}
 
 -- ---- rows
 

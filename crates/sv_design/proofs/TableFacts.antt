@@ -1,9 +1,9 @@
 -- Tables of what processes say of signals.
 use Rattle.std.proofs.Common.{◌≡◌, ℕ, zero, suc, ◌+◌, ◌<◌, ◌≤◌, Bool, true, false, cond, ◌&&◌, ◌||◌}
 use Rattle.std.proofs.Common.{◌==◌, nat_le, nat_lt, List, [], ◌∷◌, ◌++◌, length, map, get_or, drop}
-use Rattle.std.proofs.Common.{take, replicate, None, Result, Ok, Err, ⊎_elim, refl, sym, ap, ap₂}
+use Rattle.std.proofs.Common.{take, replicate, None, ⊎_elim, refl, sym, ap, ap₂}
 use Rattle.std.proofs.Common.{subst, ◌∙◌, arith}
-use Rattle.std.specs.Prelude.{IsTrue, IfOk, filter, is_some}
+use Rattle.std.specs.Prelude.{IsTrue, filter, is_some}
 use Rattle.std.specs.List.{list_all, range_with_len}
 use Rattle.std.proofs.lemmas.Bool.{false≢true, le-leb}
 use Rattle.std.proofs.lemmas.List.{get_or-replicate, length-replicate, get_or-map, drop_all}
@@ -110,11 +110,6 @@ pub listed_are : (n : ℕ) (table : List Bool) (test : ℕ → Bool) (m : ℕ)
 listed_are n table test m (size, has) same =
     ap (λ k. filter (λ s. get_or table s false) (range_with_len 0 k)) (size ∙ sym same)
     ∙ filter_within (λ s. get_or table s false) test 0 m (λ k below. has k (omega arith))
-
-pub if_ok : {X E : Type 0} (P Q : X → Type 0) (r : Result X E) → ((x : X) → P x → Q x) → IfOk r P →
-    IfOk r Q
-if_ok P Q (Ok x) f h = f x h
-if_ok P Q (Err e) f h = tt
 
 -- one signal more
 pub table_more : (n : ℕ) (table new : List Bool) (test : ℕ → Bool) (b : Bool) → IsTable n table test

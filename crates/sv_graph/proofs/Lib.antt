@@ -9,3 +9,4 @@ pub mod FollowFacts
 pub mod BitRows
 pub mod Ways
 pub mod QueueFacts
+pub mod FoundTables

@@ -1,7 +1,9 @@
 // Searches through graphs.
 ghost use Rattle.std.specs.Prelude.{◌≡◌, ◌<◌, ◌+◌, ◌^◌, ◌≤◌, ◌&&◌, nat_le, ℕ, Bool, List, length};
 ghost use Rattle.std.specs.Prelude.{map, slice_index, is_some, Contains, OnOk, IfOk};
+ghost use Rattle.sv_flat.specs.Sets.{holds, least_set};
 ghost use Rattle.sv_graph.specs.Graphs.{size, has_edge, IsWhole};
+ghost use Rattle.sv_graph.specs.Marks.{IsTable};
 ghost use Rattle.sv_graph.specs.Searches.{found_by, is_found, Visits, SearchesBy, Brings, LeadsOn};
 ghost use Rattle.sv_graph.specs.Searches.{IsSearch, LeadsDown, AddsWayBack};
 ghost use Rattle.sv_graph.specs.Numbers.{numbers};
@@ -128,4 +130,16 @@ pub fn search_from(
         place += 1;
     }
     Ok(search)
+}
+
+/// For each signal, whether edges lead to it from some signals on. It fails where memory runs out.
+pub fn reached(alloc: Global, graph: &Graph, starts: &[SigId]) -> Result<Vec<bool>, AllocError>
+    requires whole { IsWhole graph.now }
+    requires starts { (k : ℕ) → Contains (numbers starts.now) k → k < size graph.now }
+    ensures { IfOk result (λ table. (brings : ℕ → ℕ → Bool) → Brings graph.now 0 brings
+        → IsTable (size graph.now) table.items
+        (holds (least_set (size graph.now) brings (numbers starts.now)))) }
+{
+    let found = search_from(alloc, graph, 0, starts)?;
+    found.table(alloc)
 }

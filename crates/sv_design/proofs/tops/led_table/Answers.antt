@@ -9,7 +9,7 @@ use Rattle.sv_graph.specs.Marks.{IsTable}
 use Rattle.sv_design.specs.Numbers.{numbers}
 use Rattle.sv_graph.specs.Searches.{Brings}
 use Rattle.sv_design.specs.Tops.{AreSinks, leads_to}
-use Rattle.sv_design.proofs.TableFacts.{if_ok}
+use Rattle.sv_graph.proofs.FoundTables.{if_ok}
 use Rattle.sv_design.proofs.TopTables.{led_are, all_brought}
 use Rattle.sv_design.proofs.tops.led_table.Goals as goal
 

@@ -3,11 +3,10 @@ use Rattle.std.specs.Prelude.{is_some}
 use Rattle.sv_flat.specs.Sets.{holds, least_set}
 use Rattle.sv_graph.specs.Graphs.{size}
 use Rattle.sv_graph.specs.Marks.{IsTable}
-use Rattle.sv_design.specs.Numbers.{numbers}
+use Rattle.sv_graph.specs.Numbers.{numbers}
 use Rattle.sv_graph.specs.Searches.{Brings}
-use Rattle.sv_design.proofs.TableFacts.{if_ok}
-use Rattle.sv_design.proofs.TopTables.{search_table}
-use Rattle.sv_design.proofs.tops.reached.Goals as goal
+use Rattle.sv_graph.proofs.FoundTables.{search_table, if_ok}
+use Rattle.sv_graph.proofs.searches.reached.Goals as goal
 
 pub returns : goal.returns
 returns c =

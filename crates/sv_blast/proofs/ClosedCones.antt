@@ -23,9 +23,9 @@ use Rattle.sv_flat.proofs.LeastSets.{least_set_least, least_set_closed, least_se
 use Rattle.sv_flat.proofs.LeastSets.{Contains-from_holds, holds-from_Contains}
 use Rattle.sv_flat.proofs.Orders.{order_only}
 use Rattle.sv_design.specs.Designs.{IsDesign}
-use Rattle.sv_design.specs.Marks.{is_marked, Marks, IsTable}
+use Rattle.sv_graph.specs.Marks.{is_marked, Marks, IsTable}
 use Rattle.sv_design.specs.Numbers.{numbers}
-use Rattle.sv_design.proofs.QueueFacts.{number_at}
+use Rattle.sv_graph.proofs.QueueFacts.{number_at}
 use Rattle.sv_sim.specs.Settling.{IsPlan}
 use Rattle.sv_sim.proofs.ByDepth.{order_is_plan}
 use Rattle.sv_sim.proofs.Fronts.{front_or_last}

@@ -26,8 +26,8 @@ use Rattle.sv_flat.proofs.LeastSets.{from_some, or_cases, holds-from_Contains}
 use Rattle.sv_flat.proofs.LeastSets.{Contains-from_filter}
 use Rattle.sv_flat.proofs.Orders.{order_only}
 use Rattle.sv_design.specs.Designs.{IsDesign}
-use Rattle.sv_design.specs.Marks.{is_marked, Marks}
-use Rattle.sv_design.proofs.MarkFacts.{any_append, or_no, both_marked}
+use Rattle.sv_graph.specs.Marks.{is_marked, Marks}
+use Rattle.sv_graph.proofs.MarkFacts.{any_append, or_no, both_marked}
 use Rattle.sv_obl.specs.Paths.{StepForm}
 use Rattle.sv_obl.specs.Obligations.{GoalForm, flow, holds as must_hold, selector, Obligation}
 use Rattle.sv_obl.specs.DesignQueries.{IsGoalOf, IsQueryOf}

@@ -20,9 +20,9 @@ use Rattle.sv_flat.specs.Sets.{holds}
 use Rattle.sv_flat.proofs.LeastSets.{either_way, some_from, from_some, holds-from_Contains}
 use Rattle.sv_flat.proofs.LeastSets.{Contains-from_holds, in_those, those_pass}
 use Rattle.sv_flat.proofs.SameRuns.{none_found}
-use Rattle.sv_design.specs.Marks.{is_marked, followed_in}
-use Rattle.sv_design.proofs.BitFacts.{same_answer}
-use Rattle.sv_design.proofs.Differing.{filter_same}
+use Rattle.sv_graph.specs.Marks.{is_marked, followed_in}
+use Rattle.sv_graph.proofs.BitFacts.{same_answer}
+use Rattle.sv_graph.proofs.Differing.{filter_same}
 use Rattle.sv_design.proofs.ReaderFacts.{marked_within}
 use Rattle.sv_obl.proofs.PathLists.{cond_false}
 use Rattle.sv_encoding.specs.Bodies.{assigns_some}

@@ -16,7 +16,7 @@ use Rattle.sv_flat.specs.SignalLists.{driver_of}
 use Rattle.sv_flat.proofs.BlockFacts.{follows_itself}
 use Rattle.sv_flat.proofs.LeastSets.{those_below, those_pass}
 use Rattle.sv_design.specs.Designs.{IsDesign}
-use Rattle.sv_design.specs.Marks.{is_marked}
+use Rattle.sv_graph.specs.Marks.{is_marked}
 use Rattle.sv_design.specs.Numbers.{numbers}
 use Rattle.sv_obl.specs.declared.marked.Marked.{Marked}
 use Rattle.sv_obl.specs.MarkedBodies.{IsMarkedFor, IsMarkedOf, marked_statement}

@@ -16,9 +16,9 @@ use Rattle.sv_flat.specs.Design.{SignalForm, TypedTree}
 use Rattle.sv_flat.specs.Readings.{reads, names_signal}
 use Rattle.sv_flat.specs.Sets.{holds, those}
 use Rattle.sv_flat.proofs.LeastSets.{in_those, those_pass, holds-from_Contains, Contains-from_holds}
-use Rattle.sv_design.specs.Marks.{is_marked, Marks, IsTable}
+use Rattle.sv_graph.specs.Marks.{is_marked, Marks, IsTable}
 use Rattle.sv_design.specs.Numbers.{numbers}
-use Rattle.sv_design.proofs.MarkFacts.{any_append}
+use Rattle.sv_graph.proofs.MarkFacts.{any_append}
 use Rattle.sv_obl.proofs.RouteNames.{names_alike, held_name}
 use Rattle.sv_blast.specs.NamedMarks.{is_named_in, AreBelow}
 

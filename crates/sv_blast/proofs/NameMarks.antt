@@ -4,7 +4,7 @@ use Rattle.std.specs.List.{list_any}
 use Rattle.sv_flat.specs.Design.{TypedTree}
 use Rattle.sv_flat.specs.Readings.{ReadForm, reads, parts_reads, names_signal}
 use Rattle.sv_flat.specs.Views.{parts_of}
-use Rattle.sv_design.proofs.MarkFacts.{any_append}
+use Rattle.sv_graph.proofs.MarkFacts.{any_append}
 use Rattle.sv_blast.specs.NamedMarks.{is_named_in}
 
 pub all_named : (es : List TypedTree) (s : ℕ) →

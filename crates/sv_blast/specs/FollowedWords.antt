@@ -8,7 +8,7 @@ use Rattle.sv_flat.specs.Design.{branch}
 use Rattle.sv_flat.specs.Readings.{names_signal}
 use Rattle.sv_flat.specs.Soundness.{piece_fits, well_formed}
 use Rattle.sv_flat.specs.Values.{signal_width}
-use Rattle.sv_design.specs.Marks.{followed_in}
+use Rattle.sv_graph.specs.Marks.{followed_in}
 use Rattle.sv_design.specs.Numbers.{numbers}
 use Rattle.sv_obl.specs.Wanted.{with_copies, copy_of}
 use Rattle.sv_gates.specs.Formulas.{Formula, IsLiteral}

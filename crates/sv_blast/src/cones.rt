@@ -5,7 +5,7 @@ ghost use Rattle.sv_flat.specs.Selectors.{selectors_of};
 ghost use Rattle.sv_flat.specs.Sets.{holds};
 ghost use Rattle.sv_flat.specs.Views.{design_of};
 ghost use Rattle.sv_design.specs.Designs.{IsDesign};
-ghost use Rattle.sv_design.specs.Marks.{is_marked, Marks, IsTable};
+ghost use Rattle.sv_graph.specs.Marks.{is_marked, Marks, IsTable};
 ghost use Rattle.sv_design.specs.Numbers.{numbers};
 ghost use Rattle.sv_obl.specs.DesignQueries.{IsQueryOf};
 ghost use Rattle.sv_obl.specs.Paths.{StepForm};

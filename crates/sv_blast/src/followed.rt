@@ -15,7 +15,7 @@ ghost use Rattle.sv_flat.specs.Reads.{is_combinational, reads_for};
 ghost use Rattle.sv_flat.specs.Soundness.{piece_fits};
 ghost use Rattle.sv_flat.specs.Values.{signal_width};
 ghost use Rattle.sv_flat.specs.Views.{design_of, piece_form, typed_tree};
-ghost use Rattle.sv_design.specs.Marks.{is_marked};
+ghost use Rattle.sv_graph.specs.Marks.{is_marked};
 ghost use Rattle.sv_design.specs.Numbers.{numbers};
 ghost use Rattle.sv_obl.specs.MarkedBodies.{marked_statement, TellsTargets, IsMarkedFor};
 ghost use Rattle.sv_obl.specs.MarkedBodies.{HasCopies};

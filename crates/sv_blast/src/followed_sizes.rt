@@ -9,7 +9,7 @@ ghost use Rattle.std.specs.Ordering.{nat_cmp};
 ghost use Rattle.sv_flat.specs.Design.{PieceForm};
 ghost use Rattle.sv_flat.specs.SignalLists.{driver_of};
 ghost use Rattle.sv_flat.specs.Views.{design_of, piece_form, typed_tree};
-ghost use Rattle.sv_design.specs.Marks.{is_marked};
+ghost use Rattle.sv_graph.specs.Marks.{is_marked};
 ghost use Rattle.sv_obl.specs.MarkedBodies.{marked_statement, TellsTargets, IsMarkedFor};
 ghost use Rattle.sv_obl.specs.MarkedBodies.{HasCopies};
 ghost use Rattle.sv_obl.specs.Wanted.{with_copies};

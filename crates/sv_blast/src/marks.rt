@@ -6,7 +6,7 @@ ghost use Rattle.sv_flat.specs.Readings.{names_signal};
 ghost use Rattle.sv_flat.specs.Sets.{holds, those};
 ghost use Rattle.sv_flat.specs.Views.{design_of, typed_tree, typed_trees};
 ghost use Rattle.sv_design.specs.Designs.{IsDesign};
-ghost use Rattle.sv_design.specs.Marks.{is_marked, Marks};
+ghost use Rattle.sv_graph.specs.Marks.{is_marked, Marks};
 ghost use Rattle.sv_design.specs.Numbers.{numbers};
 ghost use Rattle.sv_blast.specs.NamedMarks.{is_named_in};
 

@@ -8,10 +8,10 @@ use Rattle.sv_flat.specs.Assigned.{assigns, can_assign, always_assigns}
 use Rattle.sv_flat.specs.Design.{SignalForm, TypedTree, FlatStatement, branch}
 use Rattle.sv_flat.specs.Readings.{BitSet, either, Reading, readings, readings_of}
 use Rattle.sv_flat.specs.Soundness.{statement_sound}
-use Rattle.sv_design.specs.declared.bits.Bits.{Bits}
+use Rattle.sv_graph.specs.declared.bit_sets.BitSet.{BitSet as Bits}
 use Rattle.sv_design.specs.declared.found.Found.{Found}
 use Rattle.sv_design.specs.Arms.{both_of, common_bits}
-use Rattle.sv_design.specs.BitSets.{in_bits}
+use Rattle.sv_graph.specs.BitSets.{in_bits}
 use Rattle.sv_design.specs.First.{FindsFirst, first_found}
 use Rattle.sv_design.specs.Phases.{SameBits, HasTargets, FindsReads, wrong_reads}
 use Rattle.sv_design.proofs.PhaseFacts.{both_reads}

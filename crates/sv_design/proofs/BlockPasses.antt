@@ -3,11 +3,9 @@ use Rattle.std.proofs.Common.{◌≡◌, ℕ, zero, suc, ◌+◌, ◌*◌, ◌^�
 use Rattle.std.proofs.Common.{◌&&◌, ◌==◌, nat_le, ltb-true, le-leb, leb-true, List, [], ◌∷◌}
 use Rattle.std.proofs.Common.{◌++◌, length, Option, None, Some, ◌⊎◌, inl, inr, ⊎_elim, refl}
 use Rattle.std.proofs.Common.{sym, ap, subst, ◌∙◌, append_assoc, arith, rules}
-use Rattle.std.specs.Prelude.{Contains, IsTrue, IsFalse, filter, flat_map, unwrap_or, ◌↔◌}
+use Rattle.std.specs.Prelude.{Contains, IsTrue, IsFalse, filter, flat_map, ◌↔◌}
 use Rattle.std.specs.List.{list_any, list_all, range_with_len}
 use Rattle.std.specs.Int.{bit_at}
-use Rattle.std.specs.Map.{keys_of, lookup}
-use Rattle.std.specs.Ordering.{nat_cmp, is_eq}
 use Rattle.std.proofs.Math.Nat.{pow-suc}
 use Rattle.std.proofs.lemmas.List.{append-nil}
 use Rattle.std.proofs.lemmas.Bool.{false≢true, or_left, or_right, eqb-true, eq-eqb}
@@ -29,15 +27,15 @@ use Rattle.sv_flat.proofs.Depths.{first_of, second_of, from_all}
 use Rattle.sv_flat.proofs.LeastSets.{either_way, or_cases, range_has, some_from, from_some}
 use Rattle.sv_flat.proofs.LeastSets.{in_those, those_pass}
 use Rattle.sv_flat.proofs.Members.{Contains-left, Contains-right, Contains-either}
-use Rattle.sv_design.specs.declared.bits.Bits.{Bits}
+use Rattle.sv_graph.specs.declared.bit_sets.BitSet.{BitSet}
 use Rattle.sv_design.specs.declared.found.Found.{Found}
 use Rattle.sv_design.specs.declared.scopes.Scope.{Nothing, the_lemmas}
 use Rattle.sv_design.specs.Scopes.{in_scope}
-use Rattle.sv_design.specs.BitSets.{is_set, mask_in, in_bits, has_some, LacksBit}
+use Rattle.sv_graph.specs.BitSets.{is_set, mask_in, in_bits, has_some, LacksBit}
 use Rattle.sv_design.specs.First.{breach_of, FindsFirst, first_found}
 use Rattle.sv_design.specs.Phases.{SameBits, latches_of}
-use Rattle.sv_design.proofs.BitFacts.{same_answer}
-use Rattle.sv_design.proofs.EntryFacts.{key_test, nothing_in}
+use Rattle.sv_graph.proofs.BitFacts.{same_answer}
+use Rattle.sv_graph.proofs.EntryFacts.{nothing_in}
 use Rattle.sv_design.proofs.Firsts.{finds_both}
 use Rattle.sv_design.proofs.PhaseFacts.{in_range}
 use Rattle.sv_design.proofs.Sound.{piece_has_bits}
@@ -116,7 +114,7 @@ module _ (signals : List SignalForm) where
       (or_cases (assigns first s) (assigns second s) h)
 
   -- the set of the bits that a statement can assign has bits of the signals that it assigns
-  pub targets_are : (body : FlatStatement) (set : Bits) → IsTrue (statement_sound signals body)
+  pub targets_are : (body : FlatStatement) (set : BitSet) → IsTrue (statement_sound signals body)
       → SameBits (in_bits set) (can_assign body)
       → (s : ℕ) → has_some set s ≡ assigns body s
   targets_are body set sound same s = same_answer (has_some set s) (assigns body s)
@@ -170,17 +168,6 @@ latch_is width mask around test answer is_mask is_around is =
     not_true false h = refl
 
 -- ---- rule 605 of one block
-
-pub key_found : (es : List (ℕ × ℕ)) (s : ℕ) →
-    IsTrue (not (unwrap_or (lookup (λ k. is_eq (nat_cmp s k)) es) 0 == 0)) →
-    IsTrue (list_any (λ k. k == s) (keys_of es))
-key_found [] s h = absurd (false≢true h)
-key_found (e ∷ es) s h = ⊎_elim
-    (λ same. or_left (e.0 == s) (list_any (λ k. k == s) (keys_of es)) same)
-    (λ other. or_right (e.0 == s) (list_any (λ k. k == s) (keys_of es)) (key_found es s
-    (sym (ap (λ t. not (unwrap_or (cond t (Some e.1) (lookup (λ k. is_eq (nat_cmp s k)) es)) 0
-    == 0)) (key_test s e.0 ∙ other)) ∙ h)))
-    (either_way (e.0 == s))
 
 -- some signals were looked at, and the keys of some are left
 pub record LatchesSoFar (design : FlatDesign) (place : Place) (body : FlatStatement) (left : List ℕ)

@@ -20,14 +20,14 @@ use Rattle.sv_flat.proofs.LeastSets.{either_way, holds-from_Contains, Contains-f
 use Rattle.sv_flat.proofs.LeastSets.{least_set_has, least_set_closed, least_set_below, those_below}
 use Rattle.sv_flat.proofs.LeastSets.{those_pass}
 use Rattle.sv_flat.specs.declared.signals.SigId.{SigId}
-use Rattle.sv_design.specs.Graphs.{size, row, has_edge, IsWhole}
-use Rattle.sv_design.specs.Marks.{is_marked}
+use Rattle.sv_graph.specs.Graphs.{size, row, has_edge, IsWhole}
+use Rattle.sv_graph.specs.Marks.{is_marked}
 use Rattle.sv_design.specs.Numbers.{numbers}
 use Rattle.sv_design.specs.Orders.{AreReads}
-use Rattle.sv_design.specs.Searches.{IsSearch, IsWayBack, LeadsDown, found_by, led_by, is_found}
-use Rattle.sv_design.specs.Searches.{place_of}
+use Rattle.sv_graph.specs.Searches.{IsSearch, IsWayBack, LeadsDown, found_by, led_by, is_found}
+use Rattle.sv_graph.specs.Searches.{place_of}
 use Rattle.sv_design.specs.declared.orders.Reads.{Reads}
-use Rattle.sv_design.specs.declared.searches.Search.{Search}
+use Rattle.sv_graph.specs.declared.searches.Search.{Search}
 
 -- ---- small steps
 

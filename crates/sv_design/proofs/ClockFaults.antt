@@ -23,7 +23,7 @@ use Rattle.sv_flat.proofs.Depths.{from_all}
 use Rattle.sv_flat.proofs.LeastSets.{either_way, in_those, those_pass, range_has}
 use Rattle.sv_flat.proofs.LeastSets.{holds-from_Contains, Contains-from_holds}
 use Rattle.sv_design.specs.ClockTables.{is_whole_port, is_used}
-use Rattle.sv_design.proofs.BitFacts.{same_answer}
+use Rattle.sv_graph.proofs.BitFacts.{same_answer}
 use Rattle.sv_design.proofs.TableFacts.{filter_within}
 use Rattle.sv_design.proofs.TopFacts.{all_from, in_range}
 

@@ -17,7 +17,7 @@ use Rattle.sv_flat.specs.Views.{flat_statements, chain_of}
 use Rattle.sv_flat.proofs.LeastSets.{some_from, from_some}
 use Rattle.sv_flat.proofs.Depths.{first_of, second_of, from_all}
 use Rattle.sv_design.specs.DriverTables.{AreClocks}
-use Rattle.sv_design.proofs.BitFacts.{same_answer}
+use Rattle.sv_graph.proofs.BitFacts.{same_answer}
 use Rattle.sv_design.proofs.Sound.{piece_is_signal}
 
 module _ (design : FlatDesign) (table : List Bool) (are : AreClocks design table) where

@@ -3,9 +3,7 @@ use Rattle.std.proofs.Common.{◌≡◌, ℕ, ◌+◌, ◌<◌, Bool, true, fals
 use Rattle.std.proofs.Common.{length, map, Option, None, get_or, Some, refl, sym, ap, ap₂, subst}
 use Rattle.std.proofs.Common.{◌∙◌, arith, append_assoc, zero-add}
 use Rattle.std.specs.Prelude.{filter, slice_get, option_map, is_none}
-use Rattle.std.specs.List.{filter_map, cons_option, range_with_len}
-use Rattle.std.proofs.lemmas.List.{map-append, map-id, get_or-map}
-use Rattle.std.proofs.lemmas.List.FromFn.{map-range_with_len_more}
+use Rattle.std.proofs.lemmas.List.{get_or-map}
 use Rattle.std.proofs.Math.ListN.{length-map}
 use Rattle.sv_flat.specs.declared.designs.Flat.{Flat}
 use Rattle.sv_flat.specs.declared.signals.Signal.{Signal}
@@ -14,7 +12,7 @@ use Rattle.sv_flat.specs.Drivers.{driver_fault}
 use Rattle.sv_flat.specs.Values.{signal_of}
 use Rattle.sv_flat.specs.Views.{design_of, signal_form}
 use Rattle.std.proofs.lemmas.List.{append-nil}
-use Rattle.std.proofs.lemmas.List.Elements.{filter-append, filter_map-append}
+use Rattle.std.proofs.lemmas.List.Elements.{filter-append}
 use Rattle.std.proofs.lemmas.Option.{slice_get-map}
 use Rattle.sv_num.specs.declared.faults.Place.{Place}
 use Rattle.sv_flat.specs.Design.{ProcessForm, FlatDesign}
@@ -152,30 +150,6 @@ module _ (design : FlatDesign) (tables : Drivers) (are : AreDriversOf design tab
 
 -- ---- signals one after the other
 
-pub range_more : (n : ℕ) → range_with_len 0 (n + 1) ≡ range_with_len 0 n ++ n ∷ []
-range_more n =
-    sym (map-id (range_with_len 0 (n + 1))) ∙ map-range_with_len_more (λ x. x) 0 n n (zero-add n)
-    ∙ ap (λ xs. xs ++ n ∷ []) (map-id (range_with_len 0 n))
-
-pub made_more : {Y : Type 0} (f : ℕ → Option Y) (n : ℕ) →
-    filter_map f (range_with_len 0 (n + 1)) ≡ filter_map f (range_with_len 0 n)
-    ++ cons_option (f n) []
-made_more f n = ap (filter_map f) (range_more n) ∙ filter_map-append f (range_with_len 0 n) (n ∷ [])
-
-map_cond : {X Y : Type 0} (f : X → Y) (b : Bool) (x : X) →
-    map f (cond b (x ∷ []) []) ≡ cond b (f x ∷ []) []
-map_cond f true x = refl
-map_cond f false x = refl
-
-pub passed_more : {Y : Type 0} (f : ℕ → Y) (test : ℕ → Bool) (n : ℕ)
-    → map f (filter test (range_with_len 0 (n + 1))) ≡
-    map f (filter test (range_with_len 0 n)) ++ cond (test n) (f n ∷ []) []
-passed_more f test n =
-    ap (λ xs. map f (filter test xs)) (range_more n)
-    ∙ ap (map f) (filter-append test (range_with_len 0 n) (n ∷ []))
-    ∙ map-append f (filter test (range_with_len 0 n)) (filter test (n ∷ []))
-    ∙ ap (λ ys. map f (filter test (range_with_len 0 n)) ++ ys) (map_cond f (test n) n)
-
 -- the signal at a place of a design's vector
 pub signal_at : (flat : Flat) (items : List Signal) (i : ℕ) (signal : Signal)
     → items ≡ flat.signals.items → i < length items
@@ -189,9 +163,3 @@ pub inside_design : (flat : Flat) (items : List Signal) (i : ℕ) → items ≡ 
     i < length items → i < length (design_of flat).signals
 inside_design flat items i same inside =
     rw length-map (subst (λ (xs : List Signal). i < length xs) same inside)
-
-pub filter_more : (test : ℕ → Bool) (n : ℕ) →
-    filter test (range_with_len 0 (n + 1)) ≡ filter test (range_with_len 0 n)
-    ++ cond (test n) (n ∷ []) []
-filter_more test n =
-    ap (filter test) (range_more n) ∙ filter-append test (range_with_len 0 n) (n ∷ [])

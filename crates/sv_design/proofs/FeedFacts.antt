@@ -35,20 +35,20 @@ use Rattle.sv_flat.proofs.LeastSets.{either_way, or_cases, some_from, from_some,
 use Rattle.sv_flat.proofs.LeastSets.{Contains-from_filter, least_set_has, least_set_closed}
 use Rattle.sv_flat.proofs.LeastSets.{least_set_below, least_set_least, holds-from_Contains}
 use Rattle.sv_flat.proofs.LeastSets.{Contains-from_holds}
-use Rattle.sv_design.specs.declared.bit_graphs.BitGraph.{BitGraph}
-use Rattle.sv_design.specs.declared.graphs.Graph.{Graph}
+use Rattle.sv_graph.specs.declared.bit_graphs.BitGraph.{BitGraph}
+use Rattle.sv_graph.specs.declared.graphs.Graph.{Graph}
 use Rattle.sv_design.specs.declared.reads.Sought.{Sought}
-use Rattle.sv_design.specs.BitGraphs.{size, has_edge, IsTurned, GainsEdges}
+use Rattle.sv_graph.specs.BitGraphs.{size, has_edge, IsTurned, GainsEdges}
 use Rattle.sv_design.specs.Feeds.{is_sought, names_sought, feeds, sought_in, feeds_in}
-use Rattle.sv_design.specs.Feeds.{feeds_through}
-use Rattle.sv_design.specs.Graphs.{rows_of}
-use Rattle.sv_design.specs.Graphs as graphs
-use Rattle.sv_design.specs.Marks.{is_marked, IsTable}
+use Rattle.sv_graph.specs.BitGraphs.{leads_through}
+use Rattle.sv_graph.specs.Graphs.{rows_of}
+use Rattle.sv_graph.specs.Graphs as graphs
+use Rattle.sv_graph.specs.Marks.{is_marked, IsTable}
 use Rattle.sv_design.specs.Numbers.{numbers}
 use Rattle.sv_design.proofs.Passes.{or_turned}
 use Rattle.sv_design.proofs.TableFacts.{filter_within}
-use Rattle.sv_design.proofs.BitFacts.{same_answer}
-use Rattle.sv_design.proofs.MarkFacts.{any_append, any_map}
+use Rattle.sv_graph.proofs.BitFacts.{same_answer}
+use Rattle.sv_graph.proofs.MarkFacts.{any_append, any_map}
 
 -- ---- one statement
 
@@ -369,7 +369,7 @@ module _ (design : FlatDesign)
       w w_at
 
   pub reads_are : (s : ℕ)
-      → feeds_through n (feeds_in design.signals false ps) (feeds_in design.signals true ps) s t ≡
+      → leads_through n (feeds_in design.signals false ps) (feeds_in design.signals true ps) s t ≡
       list_any (λ p. reads_settled design p (followed design p t) s) (drivers ps t)
   reads_are s =
       let through = list_any (feeds_in design.signals false ps s) all in
@@ -453,7 +453,7 @@ module _ (design : FlatDesign) (drivers_are : driver_faults design ≡ []) where
   pub read_for_is : (t s : ℕ) → t < length design.signals
       → is_read_for design t s ≡
       ((is_register design t && (t == s))
-      || feeds_through (length design.signals)
+      || leads_through (length design.signals)
       (feeds_in design.signals false (processes_of design))
       (feeds_in design.signals true (processes_of design)) s t)
   read_for_is t s below =
@@ -540,7 +540,7 @@ pub edge_is : (design : FlatDesign) → driver_faults design ≡ []
     → ((a b : ℕ) →
     has_edge earlier a b ≡ feeds_in design.signals true (processes_of design) a b)
     → ((a b : ℕ) → b < n →
-    has_edge readers a b ≡ feeds_through n (has_edge settled) (has_edge earlier) a b)
+    has_edge readers a b ≡ leads_through n (has_edge settled) (has_edge earlier) a b)
     → GainsEdges readers graph (λ a b.
     nat_lt b (length registers) && (is_marked registers b && (b == a)))
     → (a b : ℕ) → b < length design.signals → has_edge graph a b ≡ is_read_for design b a
@@ -549,14 +549,14 @@ edge_is design drivers settled earlier readers graph registers n same (size_is, 
     let inside : b < n = omega arith in
     let in_table : b < length registers = omega arith in
     let ps = processes_of design in
-    let through = feeds_through (length design.signals) (feeds_in design.signals false ps)
+    let through = leads_through (length design.signals) (feeds_in design.signals false ps)
     (feeds_in design.signals true ps) a b in
     let read_is : has_edge readers a b ≡ through =
     read a b inside
-    ∙ ap (λ m. feeds_through m (has_edge settled) (has_edge earlier) a b) same
-    ∙ ap (λ f. feeds_through (length design.signals) f (has_edge earlier) a b)
+    ∙ ap (λ m. leads_through m (has_edge settled) (has_edge earlier) a b) same
+    ∙ ap (λ f. leads_through (length design.signals) f (has_edge earlier) a b)
     (fun_ext (λ x. fun_ext (λ y. late x y)))
-    ∙ ap (λ f. feeds_through (length design.signals) (feeds_in design.signals false ps) f a b)
+    ∙ ap (λ f. leads_through (length design.signals) (feeds_in design.signals false ps) f a b)
     (fun_ext (λ x. fun_ext (λ y. soon x y))) in
     gains a b
     ∙ ap₂ (λ r t. r || (t && (is_marked registers b && (b == a)))) read_is

@@ -13,8 +13,8 @@ use Rattle.sv_flat.specs.Processes.{declared_at}
 use Rattle.sv_flat.proofs.Depths.{is_below}
 use Rattle.sv_design.specs.Circles.{circle_breach, FindsCircle, IsCircleFrom, FindsCircleBelow}
 use Rattle.sv_design.specs.Circles.{precedes}
-use Rattle.sv_design.specs.Marks.{is_marked}
-use Rattle.sv_design.specs.Nests.{HasBegins}
+use Rattle.sv_graph.specs.Marks.{is_marked}
+use Rattle.sv_design.specs.Orders.{HasBegins}
 use Rattle.sv_design.specs.Orders.{AreReads}
 use Rattle.sv_design.specs.declared.orders.Reads.{Reads}
 use Rattle.sv_flat.proofs.AdmittedFacts.{and_true}
@@ -25,7 +25,7 @@ use Rattle.sv_design.specs.declared.found.Found.{Found}
 use Rattle.sv_design.specs.declared.loops.Circle.{Circle}
 use Rattle.sv_design.proofs.CircleFacts.{circle_is_combinational, no_candidate}
 use Rattle.sv_design.proofs.Firsts.{one_rule, itself, not_before}
-use Rattle.sv_design.proofs.SearchFacts.{below_or_at}
+use Rattle.sv_graph.proofs.SearchFacts.{below_or_at}
 
 -- a circle comes where its first signal does
 module _ (circle : Circle)

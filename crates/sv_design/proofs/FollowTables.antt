@@ -9,18 +9,18 @@ use Rattle.sv_flat.specs.Design.{ProcessForm, FlatDesign}
 use Rattle.sv_flat.specs.Reads.{followed, wants}
 use Rattle.sv_flat.specs.Sets.{holds, those, least_set, with_all_brought}
 use Rattle.sv_flat.proofs.LeastSets.{those_pass, in_those, Contains-from_holds, holds-from_Contains}
-use Rattle.sv_design.specs.declared.graphs.Graph.{Graph}
+use Rattle.sv_graph.specs.declared.graphs.Graph.{Graph}
 use Rattle.sv_design.specs.Designs.{IsDesign}
 use Rattle.sv_design.specs.Feeds.{AreWants, feeds_in}
-use Rattle.sv_design.specs.Graphs.{size}
-use Rattle.sv_design.specs.Marks.{IsTable, is_marked, followed_in}
-use Rattle.sv_design.specs.Searches.{Brings}
-use Rattle.sv_design.proofs.BitFacts.{same_answer}
-use Rattle.sv_design.proofs.Differing.{filter_same}
+use Rattle.sv_graph.specs.Graphs.{size}
+use Rattle.sv_graph.specs.Marks.{IsTable, is_marked, followed_in}
+use Rattle.sv_graph.specs.Searches.{Brings}
+use Rattle.sv_graph.proofs.BitFacts.{same_answer}
+use Rattle.sv_graph.proofs.Differing.{filter_same}
 use Rattle.sv_design.proofs.FeedFacts.{followed_is, one_driver, drivers_unbroken}
-use Rattle.sv_design.proofs.FollowFacts.{only_one}
+use Rattle.sv_graph.proofs.FollowFacts.{only_one}
 use Rattle.sv_design.proofs.PhaseFacts.{in_range}
-use Rattle.sv_design.proofs.TableFacts.{if_ok}
+use Rattle.sv_graph.proofs.FoundTables.{if_ok}
 use Rattle.sv_design.proofs.TopTables.{all_brought}
 
 -- a least set over some signals lists what it holds

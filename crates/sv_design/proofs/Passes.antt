@@ -13,14 +13,15 @@ use Rattle.sv_flat.specs.Soundness.{statement_sound}
 use Rattle.sv_flat.specs.Views.{flat_statement, flat_statements, chain_of}
 use Rattle.sv_flat.specs.declared.statements.FStmt.{FStmt}
 use Rattle.sv_flat.specs.declared.statements.Piece.{Piece}
-use Rattle.sv_design.specs.declared.bits.Bits.{Bits}
+use Rattle.sv_graph.specs.declared.bit_sets.BitSet.{BitSet as Bits}
 use Rattle.sv_design.specs.declared.found.Found.{Found}
 use Rattle.sv_design.specs.declared.scopes.Scope.{Scope, Inside}
-use Rattle.sv_design.specs.BitSets.{in_bits, mask_in, piece_forms}
+use Rattle.sv_graph.specs.BitSets.{in_bits, mask_in}
+use Rattle.sv_design.specs.Pieces.{piece_forms}
 use Rattle.sv_design.specs.First.{FindsFirst, first_found}
 use Rattle.sv_design.specs.Phases.{wrong_reads, SameBits, HasTargets, AddsAssigned, FindsReads}
 use Rattle.sv_design.specs.Scopes.{in_scope}
-use Rattle.sv_design.proofs.EntryFacts.{nothing_in}
+use Rattle.sv_graph.proofs.EntryFacts.{nothing_in}
 use Rattle.sv_design.proofs.Firsts.{finds_both}
 use Rattle.sv_design.proofs.PhaseFacts.{wrong_reads-append}
 use Rattle.sv_design.proofs.PieceFacts.{in_scope-inside}

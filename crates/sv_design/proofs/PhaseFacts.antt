@@ -20,14 +20,14 @@ use Rattle.sv_flat.specs.Values.{signal_width}
 use Rattle.sv_flat.proofs.LeastSets.{some_from, from_some, range_has, those_below}
 use Rattle.sv_flat.proofs.Depths.{first_of, second_of}
 use Rattle.sv_flat.proofs.AdmittedFacts.{and_true, negated_true}
-use Rattle.sv_design.specs.declared.bits.Bits.{Bits}
+use Rattle.sv_graph.specs.declared.bit_sets.BitSet.{BitSet as Bits}
 use Rattle.sv_design.specs.declared.found.Found.{Found}
 use Rattle.sv_design.specs.declared.names.Read.{Read}
-use Rattle.sv_design.specs.BitSets.{is_set, has_some, SharesBit, LacksBit}
+use Rattle.sv_graph.specs.BitSets.{is_set, has_some, SharesBit, LacksBit}
 use Rattle.sv_design.specs.First.{FindsFirst, first_found}
 use Rattle.sv_design.specs.Phases.{wrong_reads, SameBits, HasTargets, FindsReads}
 use Rattle.sv_design.specs.ReadForms.{read_form, read_forms}
-use Rattle.sv_design.proofs.BitFacts.{same_answer}
+use Rattle.sv_graph.proofs.BitFacts.{same_answer}
 use Rattle.sv_design.proofs.Firsts.{finds_both}
 
 -- ---- one read

@@ -7,13 +7,14 @@ use Rattle.sv_flat.specs.declared.statements.Piece.{Piece}
 use Rattle.sv_flat.specs.Assigned.{has_bit}
 use Rattle.sv_flat.specs.Design.{PieceForm}
 use Rattle.sv_flat.specs.Views.{piece_form}
-use Rattle.sv_design.specs.declared.bits.Bits.{Bits}
+use Rattle.sv_graph.specs.declared.bit_sets.BitSet.{BitSet}
 use Rattle.sv_design.specs.declared.scopes.Scope.{Scope, Inside, the_lemmas}
-use Rattle.sv_design.specs.BitSets.{in_bits, piece_forms, AreOrdered}
+use Rattle.sv_graph.specs.BitSets.{in_bits}
+use Rattle.sv_design.specs.Pieces.{piece_forms, AreOrdered}
 use Rattle.sv_design.specs.Scopes.{in_scope}
 use Rattle.sv_design.proofs.Sound.{piece_at}
 
-pub in_scope-inside : (bits : Bor Bits) (around : Bor Scope) →
+pub in_scope-inside : (bits : Bor BitSet) (around : Bor Scope) →
     in_scope (Inside bits around) ≡ (λ s b. in_bits bits.now s b || in_scope around.now s b)
 in_scope-inside bits around = search (rules, the_lemmas)
 

@@ -1,11 +1,10 @@
 -- What is read for what.
 use mathlib.Core.Path.{fun_ext}
-use Rattle.std.proofs.Common.{◌≡◌, ℕ, ◌<◌, Bool, true, false, not, ◌&&◌, ◌||◌, ◌==◌, List, length}
-use Rattle.std.proofs.Common.{ltb-true, refl, sym, ap, ap₂, subst, ◌∙◌, ⊎_elim, Bor}
+use Rattle.std.proofs.Common.{◌≡◌, ℕ, ◌<◌, Bool, true, false, not, ◌&&◌, ◌||◌, List, length}
+use Rattle.std.proofs.Common.{ltb-true, refl, sym, ap, ap₂, subst, ◌∙◌, Bor}
 use Rattle.std.specs.Prelude.{IsTrue, Contains}
-use Rattle.std.proofs.lemmas.Bool.{eqb-true}
-use Rattle.sv_flat.proofs.LeastSets.{either_way, Contains-from_filter}
-use Rattle.sv_design.specs.declared.bits.Bits.{Bits}
+use Rattle.sv_flat.proofs.LeastSets.{Contains-from_filter}
+use Rattle.sv_graph.specs.declared.bit_sets.BitSet.{BitSet as Bits}
 use Rattle.sv_flat.specs.Assigned.{assigns, can_assign}
 use Rattle.sv_flat.specs.Design.{SignalForm, TypedTree, FlatStatement, nothing, after, ProcessForm}
 use Rattle.sv_flat.specs.Design.{FlatDesign}
@@ -14,53 +13,20 @@ use Rattle.sv_flat.specs.Soundness.{sound, kind_sound, statement_sound}
 use Rattle.sv_flat.specs.Clocks.{is_clock_link, processes_of}
 use Rattle.sv_flat.proofs.Depths.{second_of}
 use Rattle.sv_flat.proofs.AdmittedFacts.{assigned_is_signal}
-use Rattle.sv_design.specs.declared.bit_graphs.BitGraph.{BitGraph}
-use Rattle.sv_design.specs.BitSets.{mask_in, has_some, in_bits, HasTargetsBelow}
+use Rattle.sv_graph.specs.declared.bit_graphs.BitGraph.{BitGraph}
+use Rattle.sv_graph.specs.BitSets.{mask_in, has_some, in_bits, HasTargetsBelow}
 use Rattle.sv_design.specs.Feeds.{names_sought, feeds}
-use Rattle.sv_design.specs.BitGraphs.{has_edge, GainsEdges}
+use Rattle.sv_graph.specs.BitGraphs.{has_edge, GainsEdges}
 use Rattle.sv_design.specs.Phases.{SameBits}
 use Rattle.sv_design.proofs.BlockPasses.{targets_are}
 use Rattle.sv_design.specs.Scopes.{in_scope}
 use Rattle.sv_design.specs.declared.reads.Sought.{Sought}
 use Rattle.sv_design.specs.declared.scopes.Scope.{Scope, Inside}
-use Rattle.sv_design.proofs.EntryFacts.{nothing_in}
-use Rattle.sv_design.proofs.MarkFacts.{or_no, or_three}
+use Rattle.sv_graph.proofs.EntryFacts.{nothing_in}
+use Rattle.sv_graph.proofs.MarkFacts.{or_no, or_three}
 use Rattle.sv_design.proofs.Passes.{or_turned}
 use Rattle.sv_design.proofs.PieceFacts.{in_scope-inside}
 use Rattle.sv_design.proofs.Sound.{process_is_sound}
-
--- ---- the signals of a set
-
-pub keys_begin : (h k : Bool) → (IsTrue h → IsTrue k) → (h && k) ≡ h
-keys_begin true k f = f refl
-keys_begin false k f = refl
-
-split_same : (h r : Bool) → (h && true) ≡ ((h && true) || (h && r))
-split_same true r = refl
-split_same false r = refl
-
-split_other : (h g r : Bool) → (h && r) ≡ ((g && false) || (h && r))
-split_other h true r = refl
-split_other h false r = refl
-
-pub keys_more : (set : Bits) (k b : ℕ) (rest : Bool)
-    → (has_some set b && ((k == b) || rest)) ≡
-    ((has_some set k && (k == b)) || (has_some set b && rest))
-keys_more set k b rest = ⊎_elim
-    (λ same.
-    ap (λ t. has_some set b && (t || rest)) same
-    ∙ split_same (has_some set b) rest
-    ∙ ap₂ (λ h t. (h && t) || (has_some set b && rest))
-    (sym (ap (has_some set) (eqb-true k b same))) (sym same))
-    (λ other.
-    ap (λ t. has_some set b && (t || rest)) other
-    ∙ split_other (has_some set b) (has_some set k) rest
-    ∙ ap (λ t. (has_some set k && t) || (has_some set b && rest)) (sym other))
-    (either_way (k == b))
-
-pub keys_end : (h : Bool) → (h && false) ≡ false
-keys_end true = refl
-keys_end false = refl
 
 -- ---- names
 

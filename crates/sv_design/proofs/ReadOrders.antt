@@ -17,10 +17,10 @@ use Rattle.sv_flat.proofs.Depths.{first_of, second_of, from_all, is_below}
 use Rattle.sv_flat.proofs.LeastSets.{either_way, or_cases, holds-from_Contains, Contains-from_holds}
 use Rattle.sv_flat.proofs.LeastSets.{range_has, those_pass}
 use Rattle.sv_design.specs.Orders.{IsLongestOrder}
-use Rattle.sv_design.proofs.BitFacts.{same_answer}
-use Rattle.sv_design.proofs.Differing.{holds-append, holds-filter, range_differs, filter_differs}
-use Rattle.sv_design.proofs.Differing.{append_differs, none_kept, none_counted, one_fewer}
-use Rattle.sv_design.proofs.Differing.{turned}
+use Rattle.sv_graph.proofs.BitFacts.{same_answer}
+use Rattle.sv_graph.proofs.Differing.{holds-append, holds-filter, range_differs, filter_differs}
+use Rattle.sv_graph.proofs.Differing.{append_differs, none_kept, none_counted, one_fewer}
+use Rattle.sv_graph.proofs.Differing.{turned}
 
 -- ---- tests
 

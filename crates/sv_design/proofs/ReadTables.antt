@@ -10,8 +10,8 @@ use Rattle.sv_flat.specs.Processes.{signal_numbers}
 use Rattle.sv_flat.specs.Reads.{is_read_for, reads_for}
 use Rattle.sv_flat.specs.Sets.{holds}
 use Rattle.sv_flat.proofs.LeastSets.{Contains-from_holds, those_below}
-use Rattle.sv_design.specs.declared.graphs.Graph.{Graph}
-use Rattle.sv_design.specs.Graphs.{size, rows_of, IsWhole}
+use Rattle.sv_graph.specs.declared.graphs.Graph.{Graph}
+use Rattle.sv_graph.specs.Graphs.{size, rows_of, IsWhole}
 use Rattle.sv_design.specs.Numbers.{numbers}
 
 -- what a row of a table has is below a bound where what every row has is

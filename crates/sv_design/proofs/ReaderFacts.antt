@@ -18,16 +18,16 @@ use Rattle.sv_flat.proofs.AdmittedFacts.{and_true}
 use Rattle.sv_flat.proofs.Depths.{first_of, second_of, is_below}
 use Rattle.sv_flat.proofs.LeastSets.{either_way, holds-from_Contains, Contains-from_holds}
 use Rattle.sv_flat.proofs.LeastSets.{those_below, those_pass, in_those}
-use Rattle.sv_design.specs.declared.graphs.Graph.{Graph}
+use Rattle.sv_graph.specs.declared.graphs.Graph.{Graph}
 use Rattle.sv_design.specs.declared.orders.Reads.{Reads}
-use Rattle.sv_design.specs.Graphs.{size, row, rows_of, has_edge}
-use Rattle.sv_design.specs.Graphs.{AddsSources}
-use Rattle.sv_design.specs.Marks.{is_marked, IsTable}
+use Rattle.sv_graph.specs.Graphs.{size, row, rows_of, has_edge}
+use Rattle.sv_graph.specs.Graphs.{AddsSources}
+use Rattle.sv_graph.specs.Marks.{is_marked, IsTable}
 use Rattle.sv_design.specs.Numbers.{numbers}
 use Rattle.sv_design.specs.Orders.{AreReads}
-use Rattle.sv_design.proofs.BitFacts.{same_answer}
-use Rattle.sv_design.proofs.Differing.{holds-filter, range_differs, filter_differs}
-use Rattle.sv_design.proofs.DriverFacts.{filter_more}
+use Rattle.sv_graph.proofs.BitFacts.{same_answer}
+use Rattle.sv_graph.proofs.Differing.{holds-filter, range_differs, filter_differs}
+use Rattle.sv_graph.proofs.ListFacts.{filter_more}
 
 pub marked_within : (table : List Bool) (s : ℕ) → IsTrue (is_marked table s) → s < length table
 marked_within table s h = ⊎_elim

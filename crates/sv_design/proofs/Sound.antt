@@ -22,7 +22,7 @@ use Rattle.sv_system.proofs.Lists.{Contains-head, Contains-later, Contains-map}
 use Rattle.sv_flat.specs.declared.designs.Flat.{Flat}
 use Rattle.sv_flat.specs.declared.designs.Process.{Process}
 use Rattle.sv_flat.proofs.Depths.{first_of, second_of, from_all}
-use Rattle.sv_design.specs.BitSets.{piece_forms}
+use Rattle.sv_design.specs.Pieces.{piece_forms}
 use Rattle.sv_design.specs.DriverTables.{AreTargets}
 
 -- what a read past the end of pieces gives

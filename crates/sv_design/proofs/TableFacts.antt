@@ -1,13 +1,13 @@
 -- Tables of what processes say of signals.
 use Rattle.std.proofs.Common.{◌≡◌, ℕ, zero, suc, ◌+◌, ◌<◌, ◌≤◌, Bool, true, false, cond, ◌&&◌, ◌||◌}
 use Rattle.std.proofs.Common.{◌==◌, nat_le, nat_lt, List, [], ◌∷◌, ◌++◌, length, map, get_or, drop}
-use Rattle.std.proofs.Common.{take, replicate, None, Result, Ok, Err, ⊎_elim, refl, sym, ap, ap₂}
+use Rattle.std.proofs.Common.{take, replicate, None, ⊎_elim, refl, sym, ap, ap₂}
 use Rattle.std.proofs.Common.{subst, ◌∙◌, arith}
-use Rattle.std.specs.Prelude.{IsTrue, IfOk, filter, is_some}
-use Rattle.std.specs.List.{list_all, list_any, range_with_len}
+use Rattle.std.specs.Prelude.{IsTrue, filter, is_some}
+use Rattle.std.specs.List.{list_all, range_with_len}
 use Rattle.std.proofs.lemmas.Bool.{false≢true, le-leb}
 use Rattle.std.proofs.lemmas.List.{get_or-replicate, length-replicate, get_or-map, drop_all}
-use Rattle.std.proofs.lemmas.List.{take_all, append-nil, at_drop_more, length_push, get_or_push}
+use Rattle.std.proofs.lemmas.List.{take_all, append-nil, length_push, get_or_push}
 use Rattle.std.proofs.lemmas.List.{get_or_append_left}
 use Rattle.std.proofs.lemmas.List.FromFn.{fill_by_all}
 use Rattle.std.proofs.Math.ListN.{length-map}
@@ -20,13 +20,14 @@ use Rattle.sv_flat.specs.Soundness.{kind_sound, map_sound, signal_sound, process
 use Rattle.sv_flat.specs.Soundness.{statement_sound, invariant_sound, sound}
 use Rattle.sv_flat.proofs.Depths.{first_of}
 use Rattle.std.proofs.Common.{ltb-true}
-use Rattle.sv_design.specs.declared.graphs.Graph.{Graph}
-use Rattle.sv_design.specs.declared.searches.Search.{Search}
+use Rattle.sv_graph.specs.declared.graphs.Graph.{Graph}
+use Rattle.sv_graph.specs.declared.searches.Search.{Search}
 use Rattle.sv_design.specs.DriverTables.{AreClocks}
-use Rattle.sv_design.specs.Graphs.{size, has_edge}
-use Rattle.sv_design.specs.Marks.{Marks, IsTable, HasClockBelow}
-use Rattle.sv_design.specs.Searches.{Brings, IsSearch}
-use Rattle.sv_design.proofs.SearchFacts.{below_or_at}
+use Rattle.sv_graph.specs.Graphs.{size, has_edge}
+use Rattle.sv_graph.specs.Marks.{Marks, IsTable}
+use Rattle.sv_design.specs.ReadMarks.{HasClockBelow}
+use Rattle.sv_graph.specs.Searches.{Brings, IsSearch}
+use Rattle.sv_graph.proofs.SearchFacts.{below_or_at}
 
 -- ---- lists of numbers
 
@@ -101,14 +102,6 @@ written_back new items n size count =
     ∙ ap (take n) (append-nil new)
     ∙ take_all n new (omega arith)
 
--- an answer of some part more
-pub any_more : {X Y : Type 0} (f : X → Y) (test : Y → Bool) (xs : List X) (i : ℕ) (x : X)
-    → i < length xs → x ≡ get_or xs i x
-    → list_any test (map f (drop i xs)) ≡ (test (f x) || list_any test (map f (drop (i + 1) xs)))
-any_more f test xs i x inside is =
-    at_drop_more (λ ys. list_any test (map f ys)) xs i x inside
-    ∙ ap (λ y. test (f y) || list_any test (map f (drop (i + 1) xs))) (sym is)
-
 -- the signals that a table has
 pub listed_are : (n : ℕ) (table : List Bool) (test : ℕ → Bool) (m : ℕ)
     → IsTable n table test → m ≡ n
@@ -117,11 +110,6 @@ pub listed_are : (n : ℕ) (table : List Bool) (test : ℕ → Bool) (m : ℕ)
 listed_are n table test m (size, has) same =
     ap (λ k. filter (λ s. get_or table s false) (range_with_len 0 k)) (size ∙ sym same)
     ∙ filter_within (λ s. get_or table s false) test 0 m (λ k below. has k (omega arith))
-
-pub if_ok : {X E : Type 0} (P Q : X → Type 0) (r : Result X E) → ((x : X) → P x → Q x) → IfOk r P →
-    IfOk r Q
-if_ok P Q (Ok x) f h = f x h
-if_ok P Q (Err e) f h = tt
 
 -- one signal more
 pub table_more : (n : ℕ) (table new : List Bool) (test : ℕ → Bool) (b : Bool) → IsTable n table test

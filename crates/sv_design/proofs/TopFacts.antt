@@ -21,7 +21,7 @@ use Rattle.sv_flat.proofs.LeastSets.{least_set_least}
 use Rattle.sv_system.proofs.Lists.{Contains-filter}
 use Rattle.sv_design.specs.Tops.{leads_to, is_led, is_other_top, IsFirstLed, IsLeadingTop}
 use Rattle.sv_design.specs.Tops.{some_before}
-use Rattle.sv_design.proofs.BitFacts.{same_answer}
+use Rattle.sv_graph.proofs.BitFacts.{same_answer}
 
 -- ---- lists
 

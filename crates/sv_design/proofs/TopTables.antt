@@ -1,11 +1,10 @@
 -- Tables of the inputs of the top module that signals lead up to.
 use Rattle.std.proofs.Common.{◌≡◌, ℕ, ◌+◌, ◌<◌, Bool, true, false, not, ◌&&◌, ◌||◌, nat_le}
-use Rattle.std.proofs.Common.{List, [], ◌∷◌, length, map, get_or, Option, Some, None, refl}
+use Rattle.std.proofs.Common.{List, [], ◌∷◌, length, get_or, Option, Some, None, refl}
 use Rattle.std.proofs.Common.{sym, ap, ap₂, subst, ◌∙◌, arith}
-use Rattle.std.specs.Prelude.{IsTrue, IsFalse, filter, is_some}
+use Rattle.std.specs.Prelude.{IsTrue, IsFalse, filter}
 use Rattle.std.specs.List.{list_any, range_with_len}
 use Rattle.std.proofs.lemmas.Bool.{false≢true, le-leb}
-use Rattle.std.proofs.lemmas.List.{get_or-map}
 use Rattle.std.proofs.lemmas.List.FromFn.{length-map-range_with_len}
 use Rattle.std.proofs.Math.ListN.{length-map}
 use Rattle.sv_flat.specs.Clocks.{is_clock, origins, agrees_with_earlier}
@@ -16,37 +15,23 @@ use Rattle.sv_flat.proofs.AdmittedFacts.{and_true}
 use Rattle.sv_flat.proofs.Depths.{first_of, second_of}
 use Rattle.sv_flat.proofs.LeastSets.{some_from, from_some, holds-from_Contains}
 use Rattle.sv_flat.proofs.LeastSets.{Contains-from_holds}
-use Rattle.sv_design.specs.declared.graphs.Graph.{Graph}
-use Rattle.sv_design.specs.declared.searches.Search.{Search}
+use Rattle.sv_graph.specs.declared.graphs.Graph.{Graph}
 use Rattle.sv_design.specs.DriverTables.{AreClocks}
-use Rattle.sv_design.specs.Graphs.{size, has_edge, IsWhole, IsTurned}
-use Rattle.sv_design.specs.Marks.{is_marked, IsTable}
-use Rattle.sv_design.specs.Searches.{Brings, IsSearch}
+use Rattle.sv_graph.specs.Graphs.{size, has_edge, IsWhole, IsTurned}
+use Rattle.sv_graph.specs.Marks.{is_marked, IsTable}
+use Rattle.sv_graph.specs.Searches.{Brings}
 use Rattle.sv_design.specs.Tops.{AreOrigins, AreSinks, leads_to, is_led, is_one, is_other_top}
 use Rattle.sv_design.specs.Tops.{IsFirstLed, IsLeadingTop, both_have, IsFirstOfBoth}
 use Rattle.sv_design.specs.Tops.{FindsFirstOfBoth, some_before, agrees_by}
-use Rattle.sv_design.proofs.BitFacts.{same_answer}
+use Rattle.sv_graph.proofs.BitFacts.{same_answer}
 use Rattle.sv_design.proofs.ClockLinks.{at_table}
-use Rattle.sv_design.proofs.DriverFacts.{range_more}
-use Rattle.sv_design.proofs.GraphFacts.{turned_below, turned_has}
-use Rattle.sv_design.proofs.MarkFacts.{any_append, or_no}
+use Rattle.sv_graph.proofs.ListFacts.{range_more}
+use Rattle.sv_graph.proofs.GraphFacts.{turned_below, turned_has}
+use Rattle.sv_graph.proofs.MarkFacts.{any_append, or_no}
 use Rattle.sv_design.proofs.TableFacts.{listed_are}
 use Rattle.sv_design.proofs.TopFacts.{origin_below, led_is, clock_below, agrees_is, in_range}
 
--- ---- searches
-
--- what a search found, as a table
-pub search_table : (n : ℕ) (brings : ℕ → ℕ → Bool) (starts : List ℕ) (search : Search)
-    (table : List Bool) → IsSearch n brings starts search
-    → table ≡ map is_some search.places.items → IsTable n table (holds (least_set n brings starts))
-search_table n brings starts search table found is =
-    let places = search.places.items in (
-      ap length is ∙ length-map places is_some ∙ found.ended.size,
-      λ k below. ap (λ t. get_or t k false) is
-          ∙ get_or-map is_some places k None false
-          (subst (λ m. k < m) (sym found.ended.size) below)
-          ∙ found.has k below,
-    )
+-- ---- edges
 
 and_yes : (a b : Bool) → IsTrue b → a ≡ (a && b)
 and_yes true true h = refl

@@ -15,9 +15,11 @@ use Rattle.sv_flat.specs.Soundness.{label_sound, map_sound, signal_sound, proces
 use Rattle.sv_flat.specs.Soundness.{invariant_sound, sound}
 use Rattle.sv_flat.specs.Values.{signal_width}
 use Rattle.sv_flat.proofs.Depths.{first_of, second_of, from_all}
-use Rattle.sv_design.specs.Marks.{Marks, reads_in}
+use Rattle.sv_graph.specs.Marks.{Marks}
+use Rattle.sv_design.specs.ReadMarks.{reads_in}
 use Rattle.sv_design.specs.Selectors.{SelectsBelow, is_port}
-use Rattle.sv_design.proofs.MarkFacts.{same_marked, reads_signal-is}
+use Rattle.sv_graph.proofs.MarkFacts.{same_marked}
+use Rattle.sv_design.proofs.ReadMarks.{reads_signal-is}
 
 module _ (design : FlatDesign) (p : ProcessForm) where
   -- another process uses what it drives and reads

@@ -21,7 +21,7 @@ use Rattle.sv_flat.proofs.Depths.{first_of, second_of, is_below}
 use Rattle.sv_flat.proofs.LeastSets.{either_way, in_those, some_from, from_some}
 use Rattle.sv_flat.proofs.SameRuns.{none_found}
 use Rattle.sv_flat.proofs.AdmittedFacts.{and_true, negated_true}
-use Rattle.sv_design.specs.Marks.{IsTable}
+use Rattle.sv_graph.specs.Marks.{IsTable}
 use Rattle.sv_design.specs.Orders.{IsLongestOrder, IsWholeOrder}
 
 -- ---- lists without repetitions

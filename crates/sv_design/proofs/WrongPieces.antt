@@ -10,19 +10,20 @@ use Rattle.sv_flat.specs.Soundness.{piece_fits}
 use Rattle.sv_flat.specs.Assignments.{TargetForm, targets_after, target_breach, is_wrong_target}
 use Rattle.sv_flat.specs.Views.{piece_form}
 use Rattle.sv_flat.proofs.Depths.{first_of, second_of}
-use Rattle.sv_design.specs.declared.bits.Bits.{Bits}
+use Rattle.sv_graph.specs.declared.bit_sets.BitSet.{BitSet}
 use Rattle.sv_design.specs.declared.found.Found.{Found}
-use Rattle.sv_design.specs.BitSets.{piece_forms, is_set, in_bits, HoldsPieces}
+use Rattle.sv_design.specs.Pieces.{piece_forms, HoldsPieces}
+use Rattle.sv_graph.specs.BitSets.{is_set, in_bits}
 use Rattle.sv_design.specs.First.{FindsFirst, first_found}
 use Rattle.sv_design.specs.WrongAssigns.{wrong_of}
-use Rattle.sv_design.proofs.BitFacts.{holds_more}
+use Rattle.sv_design.proofs.HeldPieces.{holds_more}
 use Rattle.sv_design.proofs.Firsts.{finds_both}
 use Rattle.sv_design.proofs.Sound.{piece_at, piece_has_bits}
 use Rattle.sv_design.proofs.WrongFacts.{one_target_more}
 
 -- what was found in the pieces so far, with their bits, and what is left
 abbrev pub PiecesSoFar : FlatDesign → ProcessKind → Bool → (all left : List PieceForm) →
-    Option Found → Bits → Type 0
+    Option Found → BitSet → Type 0
 PiecesSoFar design kind blocking all left found before =
     (done : List Breach) × (passed : List PieceForm) × FindsFirst 601 done found
     × (wrong_of design kind (targets_after [] all blocking) ≡
@@ -37,7 +38,7 @@ module _ (design : FlatDesign) (kind : ProcessKind) (blocking : Bool) (pieces : 
   here = piece_form (get_or pieces i d)
 
   pub one_piece_more :
-      (found other next : Option Found) (before after : Bits) (wrong : Bool) (mask : ℕ)
+      (found other next : Option Found) (before after : BitSet) (wrong : Bool) (mask : ℕ)
       → PiecesSoFar design kind blocking (piece_forms pieces) (piece_forms (drop i pieces))
       found before
       → ((passed : List PieceForm) → HoldsPieces before passed

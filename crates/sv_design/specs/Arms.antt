@@ -1,8 +1,8 @@
 -- Private: how the code goes. Chains of branches, arm by arm.
 use Rattle.std.specs.Prelude.{true, ◌&&◌, Option, None, Some}
 use Rattle.sv_flat.specs.Readings.{BitSet}
-use Rattle.sv_design.specs.declared.bits.Bits.{Bits}
-use Rattle.sv_design.specs.BitSets.{in_bits}
+use Rattle.sv_graph.specs.declared.bit_sets.BitSet.{BitSet as Bits}
+use Rattle.sv_graph.specs.BitSets.{in_bits}
 
 abbrev pub both_of : BitSet → BitSet → BitSet
 both_of first second s b = first s b && second s b

@@ -11,7 +11,7 @@ use Rattle.sv_design.specs.declared.found.Found.{Found}
 use Rattle.sv_design.specs.declared.loops.Circle.{Circle}
 use Rattle.sv_design.specs.First.{found_before}
 use Rattle.sv_flat.specs.Processes.{declared_at}
-use Rattle.sv_design.specs.Marks.{is_marked}
+use Rattle.sv_graph.specs.Marks.{is_marked}
 use Rattle.sv_design.specs.Numbers.{numbers}
 use Rattle.sv_design.specs.declared.orders.Reads.{Reads}
 

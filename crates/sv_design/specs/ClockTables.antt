@@ -4,7 +4,7 @@ use Rattle.std.specs.List.{list_any}
 use Rattle.sv_flat.specs.Clocks.{links_in, agrees_with_earlier, is_clock_alone}
 use Rattle.sv_flat.specs.Design.{FlatDesign}
 use Rattle.sv_design.specs.declared.clock_rule.ClockTables.{ClockTables}
-use Rattle.sv_design.specs.Marks.{IsTable}
+use Rattle.sv_graph.specs.Marks.{IsTable}
 
 -- an input port is linked by a whole name
 abbrev pub is_whole_port : FlatDesign → ℕ → Bool

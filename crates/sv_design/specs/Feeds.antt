@@ -1,5 +1,5 @@
 -- Private: how the code goes. What is read for what in a statement.
-use Rattle.std.specs.Prelude.{◌≡◌, List, [], ◌∷◌, length, ℕ, Bool, false, true, ◌==◌, ◌&&◌, ◌||◌, not}
+use Rattle.std.specs.Prelude.{◌≡◌, List, length, ℕ, Bool, false, true, ◌==◌, ◌&&◌, ◌||◌, not}
 use Rattle.std.specs.Prelude.{if◌then◌else◌}
 use Rattle.std.specs.List.{list_any}
 use Rattle.sv_flat.specs.Assigned.{assigns, can_assign}
@@ -8,10 +8,9 @@ use Rattle.sv_flat.specs.Design.{branch, ProcessForm, FlatDesign}
 use Rattle.sv_flat.specs.Clocks.{processes_of}
 use Rattle.sv_flat.specs.Processes.{is_block}
 use Rattle.sv_flat.specs.Readings.{ReadForm, reads, BitSet, no_bits, either, some_bit_read}
-use Rattle.sv_flat.specs.Sets.{least_set}
-use Rattle.sv_design.specs.declared.graphs.Graph.{Graph}
+use Rattle.sv_graph.specs.declared.graphs.Graph.{Graph}
 use Rattle.sv_design.specs.declared.reads.Sought.{Sought}
-use Rattle.sv_design.specs.Graphs.{size, has_edge, IsWhole}
+use Rattle.sv_graph.specs.Graphs.{size, has_edge, IsWhole}
 
 -- A name is sought: among the earlier reads of an `always @*` it is one that an assignment to a bit
 -- that it reads can follow, and else any other.
@@ -51,12 +50,6 @@ abbrev pub feeds_in : List SignalForm → (earlier : Bool) → List ProcessForm 
     (read target : ℕ) → Bool
 feeds_in signals earlier ps s t =
     list_any (λ (p : ProcessForm). feeds signals (sought_in earlier p) p.body no_bits s t) ps
-
--- the signal is read for the target, or for one that an earlier read for the target names, or for
--- one that such a read for that one names, and so on
-abbrev pub feeds_through : (n : ℕ) → (settled earlier : ℕ → ℕ → Bool) → (read target : ℕ) → Bool
-feeds_through n settled earlier s t =
-    list_any (settled s) (least_set n (λ m k. earlier k m) (t ∷ []))
 
 -- an edge leads from each signal to those of which an earlier read in some process serves it
 abbrev pub AreWants : FlatDesign → Graph → Type 0

@@ -1,13 +1,18 @@
 -- Private: how the code goes. Orders of combinational signals, and the tables that they are found
 -- with.
-use Rattle.std.specs.Prelude.{◌≡◌, ◌<◌, ◌^◌, ◌&&◌, ℕ, List, [], Contains, IsTrue, length, map}
+use Rattle.std.specs.Prelude.{◌≡◌, ◌<◌, ◌^◌, ◌&&◌, ◌==◌, ℕ, Bool, List, [], ◌∷◌, Contains, IsTrue}
+use Rattle.std.specs.Prelude.{length, map, filter}
+use Rattle.std.specs.List.{range_with_len}
 use Rattle.sv_flat.specs.Design.{FlatDesign}
 use Rattle.sv_flat.specs.Processes.{signal_numbers}
 use Rattle.sv_flat.specs.Reads.{is_combinational, is_read_for, reads_for}
 use Rattle.sv_flat.specs.Loops.{reads_only_before, is_read_order, HasReadOrder, all_differ}
+use Rattle.sv_flat.specs.Loops.{is_circle}
+use Rattle.sv_graph.specs.declared.queues.Queue.{Queue}
+use Rattle.sv_graph.specs.Graphs.{size, row, rows_of, has_edge}
+use Rattle.sv_graph.specs.Marks.{is_marked, IsTable}
+use Rattle.sv_graph.specs.Queues.{ordered, open_at}
 use Rattle.sv_design.specs.declared.orders.Reads.{Reads}
-use Rattle.sv_design.specs.Graphs.{size, row, rows_of, has_edge}
-use Rattle.sv_design.specs.Marks.{IsTable}
 
 -- the tables say which signals of the design are combinational, what is read for each signal, and
 -- which combinational signals a combinational one is read for, each of them once
@@ -42,3 +47,25 @@ pub record IsWholeOrder (design : FlatDesign) (order : List ℕ) : Type 0 where
 abbrev pub HasWholeOrder : Reads → List ℕ → Type 0
 HasWholeOrder reads order =
     (design : FlatDesign) × AreReads design reads × IsWholeOrder design order
+
+-- ---- signals that go into an order
+
+-- how many combinational signals are read for one
+abbrev pub comb_count : Reads → ℕ → ℕ
+comb_count reads s = length (filter (is_marked reads.combs.items) (row reads.reads s))
+
+-- all reads are open, and combinational signals with none are in the order
+pub record Begins (reads : Reads) (queue : Queue) : Type 0 where
+  pub count : length queue.counts.items ≡ size reads.reads
+  pub open_is : (s : ℕ) → s < size reads.reads → open_at queue s ≡ comb_count reads s
+  pub order_is : ordered queue ≡ filter (λ s.
+      is_marked reads.combs.items s && (comb_count reads s == 0))
+      (range_with_len 0 (size reads.reads))
+
+-- ---- circles
+
+-- the table has every signal that a circle begins at
+abbrev pub HasBegins : FlatDesign → List Bool → Type 0
+HasBegins design table =
+    (first : ℕ) (signals : List ℕ) → IsTrue (is_circle design (first ∷ signals))
+    → IsTrue (is_marked table first)

@@ -7,9 +7,9 @@ use Rattle.sv_flat.specs.Design.{SignalForm, FlatStatement, ProcessForm, FlatDes
 use Rattle.sv_flat.specs.Processes.{is_block, signals_that}
 use Rattle.sv_flat.specs.Readings.{BitSet, Reading, readings, no_bits}
 use Rattle.sv_num.specs.declared.faults.Place.{Place}
-use Rattle.sv_design.specs.declared.bits.Bits.{Bits}
+use Rattle.sv_graph.specs.declared.bit_sets.BitSet.{BitSet as Bits}
 use Rattle.sv_design.specs.declared.found.Found.{Found}
-use Rattle.sv_design.specs.BitSets.{in_bits, has_some}
+use Rattle.sv_graph.specs.BitSets.{in_bits, has_some}
 use Rattle.sv_design.specs.First.{FindsFirst}
 
 -- the breaches among some reads

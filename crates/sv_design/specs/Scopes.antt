@@ -3,7 +3,7 @@ use Rattle.std.specs.Prelude.{false, ◌||◌}
 use Rattle.sv_flat.specs.Readings.{BitSet}
 use Rattle.sv_design.specs.declared.scopes.Scope.{Scope, fold-Scope}
 use Rattle.sv_design.specs.declared.scopes.Scope.TheOpen.{Scope-F}
-use Rattle.sv_design.specs.BitSets.{in_bits}
+use Rattle.sv_graph.specs.BitSets.{in_bits}
 
 -- the bits of one block, and those around it
 abbrev pub scope_step : Scope-F BitSet → BitSet

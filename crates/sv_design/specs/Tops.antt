@@ -5,9 +5,9 @@ use Rattle.std.specs.List.{list_any, range_with_len}
 use Rattle.sv_flat.specs.Clocks.{links_in, lists_pair, is_clock, origins}
 use Rattle.sv_flat.specs.Design.{FlatDesign}
 use Rattle.sv_flat.specs.Processes.{is_top_input}
-use Rattle.sv_design.specs.declared.graphs.Graph.{Graph}
-use Rattle.sv_design.specs.Graphs.{size, has_edge, IsWhole}
-use Rattle.sv_design.specs.Marks.{is_marked}
+use Rattle.sv_graph.specs.declared.graphs.Graph.{Graph}
+use Rattle.sv_graph.specs.Graphs.{size, has_edge, IsWhole}
+use Rattle.sv_graph.specs.Marks.{is_marked}
 
 -- the graph leads from each input port to the whole names that are linked to it
 pub record AreOrigins (design : FlatDesign) (origins : Graph) : Type 0 where

@@ -11,7 +11,7 @@ ghost use Rattle.sv_flat.specs.Views.{design_of, process_form};
 ghost use Rattle.sv_design.specs.DriverTables.{AreClocks, AreDriversOf};
 ghost use Rattle.sv_design.specs.Faults.{IsFaultOf};
 ghost use Rattle.sv_design.specs.Feeds.{AreWants};
-ghost use Rattle.sv_design.specs.Marks.{IsTable};
+ghost use Rattle.sv_graph.specs.Marks.{IsTable};
 ghost use Rattle.sv_design.specs.Numbers.{numbers};
 ghost use Rattle.sv_design.specs.Orders.{AreReads, IsLongestOrder, IsWholeOrder};
 ghost use Rattle.sv_design.specs.ReadForms.{AreZeros};
@@ -25,7 +25,6 @@ use crate::clocks::clock_table;
 use crate::depths::by_depth;
 use crate::design::Design;
 use crate::drivers::{Drivers, driver_numbers, drivers_of, first_extra_driver, first_undriven};
-use crate::graphs::Graph;
 use crate::loops::first_circle;
 use crate::names::zeros_of;
 use crate::orders::{Reads, read_order, reads_table};
@@ -37,6 +36,7 @@ use crate::signal_lists::{inputs_of, registers_of, seen_of, top_clock};
 use crate::tables::Tables;
 use std::alloc::{AllocError, Global};
 use sv_flat::{Flat, Process, SigId};
+use sv_graph::Graph;
 use sv_num::{Fault, Rule};
 
 // The clocks and drivers of a design with one driver for each signal.

@@ -8,15 +8,15 @@ ghost use Rattle.sv_flat.specs.Soundness.{sound, piece_fits, statement_sound};
 ghost use Rattle.sv_flat.specs.Assignments.{is_wrong_sign, is_wrong_kind, is_wrong_target, overlap};
 ghost use Rattle.sv_flat.specs.Assignments.{targets_after, wrong_assigns};
 ghost use Rattle.sv_flat.specs.Processes.{is_reg_kind};
-ghost use Rattle.sv_design.specs.BitSets.{HoldsPieces, piece_forms};
+ghost use Rattle.sv_design.specs.Pieces.{HoldsPieces, piece_forms};
 ghost use Rattle.sv_design.specs.First.{FindsFirst};
 ghost use Rattle.sv_design.specs.WrongAssigns.{wrong_of, wrong_in};
 
-use crate::bits::{Bits, mask, share};
 use crate::clocks::is_top;
 use crate::found::{Found, first_of, found_if};
 use std::alloc::{AllocError, Global};
 use sv_flat::{FStmt, Flat, Piece, ProcKind, SigKind};
+use sv_graph::{BitSet, mask, share};
 
 // Whether `=` or `<=` is the wrong sign.
 fn wrong_sign(kind: ProcKind, blocking: bool) -> bool
@@ -49,7 +49,7 @@ fn wrong_kind(kind: ProcKind, target: SigKind) -> bool
 }
 
 // Whether a bit of the piece is among those that were assigned before.
-fn is_again(before: &Bits, piece: &Piece) -> bool
+fn is_again(before: &BitSet, piece: &Piece) -> bool
     requires ordered { piece.now.low ≤ piece.now.high }
     requires few { piece.now.high < 64 }
     ensures { (passed : List PieceForm) → HoldsPieces before.now passed →
@@ -59,7 +59,7 @@ fn is_again(before: &Bits, piece: &Piece) -> bool
 }
 
 // Whether an assignment may not have the piece as a target.
-fn is_wrong(flat: &Flat, kind: ProcKind, piece: &Piece, blocking: bool, before: &Bits) -> bool
+fn is_wrong(flat: &Flat, kind: ProcKind, piece: &Piece, blocking: bool, before: &BitSet) -> bool
     requires sound { IsTrue (sound (design_of flat.now)) }
     requires fits { (e : TypedTree)
         × IsTrue (piece_fits (design_of flat.now).signals e (piece_form piece.now)) }
@@ -90,7 +90,7 @@ fn wrong_piece(
         (targets_after [] (piece_forms pieces.now) blocking))) }
 {
     let mut found = None;
-    let mut before = Bits::new(alloc);
+    let mut before = BitSet::new(alloc);
     for piece in pieces {
         let wrong = is_wrong(flat, kind, piece, blocking, &before);
         found = first_of(found, found_if(wrong, piece.place, piece.signal));

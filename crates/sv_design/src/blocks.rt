@@ -10,19 +10,20 @@ ghost use Rattle.sv_flat.specs.Soundness.{sound, statement_sound, well_formed};
 ghost use Rattle.sv_flat.specs.Views.{design_of, typed_tree, process_form, flat_statement};
 ghost use Rattle.sv_flat.specs.Views.{flat_statements, chain_of};
 ghost use Rattle.sv_design.specs.Arms.{both_of, common_bits};
-ghost use Rattle.sv_design.specs.BitSets.{is_set, in_bits, has_some};
+ghost use Rattle.sv_graph.specs.BitSets.{is_set, in_bits, has_some};
 ghost use Rattle.sv_design.specs.First.{FindsFirst};
 ghost use Rattle.sv_design.specs.Phases.{SameBits, HasTargets, FindsReads, AddsAssigned};
 ghost use Rattle.sv_design.specs.Phases.{latches_of, latches_in, phase_faults_of, phase_faults_in};
 ghost use Rattle.sv_design.specs.ReadForms.{read_form, AreZeros};
 ghost use Rattle.sv_design.specs.Scopes.{in_scope};
 
-use crate::bits::{Bits, lacks, mask};
 use crate::found::{Found, first_of, found_if};
 use crate::names::{Read, names_in, zeros_of};
+use crate::pieces::add_pieces;
 use crate::scopes::Scope;
 use std::alloc::{AllocError, Global};
 use sv_flat::{FExpr, FStmt, Flat, ProcKind, Process, SigId};
+use sv_graph::{BitSet, lacks, mask};
 use sv_num::Place;
 
 /// The bits of a signal of some width that are read, as a number.
@@ -42,7 +43,7 @@ pub fn bits_read(width: u8, read: &Read) -> u64
 }
 
 // Whether a read of a signal with a bit in `targets` has a bit that is not assigned yet.
-fn is_wrong(flat: &Flat, targets: &Bits, read: &Read, assigned: &Scope) -> bool
+fn is_wrong(flat: &Flat, targets: &BitSet, read: &Read, assigned: &Scope) -> bool
     requires sound { IsTrue (sound (design_of flat.now)) }
     requires known { read.now.signal.0 < length flat.now.signals.items }
     ensures { (body : FlatStatement) (reading : Reading) → HasTargets body targets.now
@@ -59,7 +60,7 @@ fn wrong_in(
     alloc: Global,
     flat: &Flat,
     zeros: &[u64],
-    targets: &Bits,
+    targets: &BitSet,
     expr: &FExpr,
     assigned: &Scope,
 ) -> Result<Option<Found>, AllocError>
@@ -80,7 +81,7 @@ fn wrong_in(
 }
 
 // The bits of an arm that all arms before it have too, if there are any.
-fn common_with(alloc: Global, before: Option<Bits>, arm: Bits) -> Result<Bits, AllocError>
+fn common_with(alloc: Global, before: Option<BitSet>, arm: BitSet) -> Result<BitSet, AllocError>
     ensures { IfOk result (λ both.
         SameBits (in_bits both) (both_of (common_bits before) (in_bits arm))) }
 {
@@ -98,10 +99,10 @@ fn forward(
     alloc: Global,
     flat: &Flat,
     zeros: &[u64],
-    targets: &Bits,
+    targets: &BitSet,
     stmt: &FStmt,
     assigned: &Scope,
-) -> Result<(Option<Found>, Bits), AllocError>
+) -> Result<(Option<Found>, BitSet), AllocError>
     requires sound { IsTrue (sound (design_of flat.now)) }
     requires zeros { AreZeros (length flat.now.signals.items) zeros.now }
     requires stmt { IsTrue
@@ -134,10 +135,10 @@ fn forward_plain(
     alloc: Global,
     flat: &Flat,
     zeros: &[u64],
-    targets: &Bits,
+    targets: &BitSet,
     stmt: &FStmt,
     assigned: &Scope,
-) -> Result<(Option<Found>, Bits), AllocError>
+) -> Result<(Option<Found>, BitSet), AllocError>
     requires plain { IsFalse (is_branch (flat_statement stmt.now)) }
     requires sound { IsTrue (sound (design_of flat.now)) }
     requires zeros { AreZeros (length flat.now.signals.items) zeros.now }
@@ -151,8 +152,8 @@ fn forward_plain(
     match stmt {
         FStmt::Assign { pieces, value, .. } => {
             let found = wrong_in(alloc, flat, zeros, targets, value, assigned)?;
-            let mut bits = Bits::new(alloc);
-            bits.add_pieces(pieces)?;
+            let mut bits = BitSet::new(alloc);
+            add_pieces(&mut bits, pieces)?;
             Ok((found, bits))
         }
         FStmt::Block(stmts) => forward_all(alloc, flat, zeros, targets, stmts, assigned),
@@ -166,10 +167,10 @@ fn forward_all(
     alloc: Global,
     flat: &Flat,
     zeros: &[u64],
-    targets: &Bits,
+    targets: &BitSet,
     stmts: &[FStmt],
     assigned: &Scope,
-) -> Result<(Option<Found>, Bits), AllocError>
+) -> Result<(Option<Found>, BitSet), AllocError>
     requires sound { IsTrue (sound (design_of flat.now)) }
     requires zeros { AreZeros (length flat.now.signals.items) zeros.now }
     requires stmts { IsTrue
@@ -180,7 +181,7 @@ fn forward_all(
         × SameBits (in_bits both.1) (always_assigns (chain_of (flat_statements stmts.now)))) }
 {
     let mut found = None;
-    let mut here = Bits::new(alloc);
+    let mut here = BitSet::new(alloc);
     for stmt in stmts {
         let before = Scope::Inside(&here, &*assigned);
         let (other, bits) = forward(alloc, flat, zeros, targets, stmt, &before)?;
@@ -192,7 +193,7 @@ fn forward_all(
 
 // Puts the bits that a statement can assign into a set. No call goes down a chain of branches.
 #[cycle(add_assigned)]
-fn add_assigned(flat: &Flat, bits: &mut Bits, stmt: &FStmt) -> Result<(), AllocError>
+fn add_assigned(flat: &Flat, bits: &mut BitSet, stmt: &FStmt) -> Result<(), AllocError>
     requires sound { IsTrue (sound (design_of flat.now)) }
     requires stmt { IsTrue
         (statement_sound (design_of flat.now).signals (flat_statement stmt.now)) }
@@ -209,7 +210,7 @@ fn add_assigned(flat: &Flat, bits: &mut Bits, stmt: &FStmt) -> Result<(), AllocE
 
 // The same of a statement that is no branch.
 #[cycle(add_assigned)]
-fn add_assigned_plain(flat: &Flat, bits: &mut Bits, stmt: &FStmt) -> Result<(), AllocError>
+fn add_assigned_plain(flat: &Flat, bits: &mut BitSet, stmt: &FStmt) -> Result<(), AllocError>
     requires plain { IsFalse (is_branch (flat_statement stmt.now)) }
     requires sound { IsTrue (sound (design_of flat.now)) }
     requires stmt { IsTrue
@@ -217,7 +218,7 @@ fn add_assigned_plain(flat: &Flat, bits: &mut Bits, stmt: &FStmt) -> Result<(), 
     ensures { OnOk result (AddsAssigned bits.old bits.new (flat_statement stmt.now)) }
 {
     match stmt {
-        FStmt::Assign { pieces, .. } => bits.add_pieces(pieces),
+        FStmt::Assign { pieces, .. } => add_pieces(bits, pieces),
         FStmt::Block(stmts) => add_assigned_all(flat, bits, stmts),
         FStmt::If { .. } => unreachable!(),
     }
@@ -225,7 +226,7 @@ fn add_assigned_plain(flat: &Flat, bits: &mut Bits, stmt: &FStmt) -> Result<(), 
 
 // The same of some statements.
 #[cycle(add_assigned)]
-fn add_assigned_all(flat: &Flat, bits: &mut Bits, stmts: &[FStmt]) -> Result<(), AllocError>
+fn add_assigned_all(flat: &Flat, bits: &mut BitSet, stmts: &[FStmt]) -> Result<(), AllocError>
     requires sound { IsTrue (sound (design_of flat.now)) }
     requires stmts { IsTrue
         (statement_sound (design_of flat.now).signals (chain_of (flat_statements stmts.now))) }
@@ -239,19 +240,19 @@ fn add_assigned_all(flat: &Flat, bits: &mut Bits, stmts: &[FStmt]) -> Result<(),
 }
 
 // The bits that a block can assign.
-fn assigned_bits(alloc: Global, flat: &Flat, body: &FStmt) -> Result<Bits, AllocError>
+fn assigned_bits(alloc: Global, flat: &Flat, body: &FStmt) -> Result<BitSet, AllocError>
     requires sound { IsTrue (sound (design_of flat.now)) }
     requires body { IsTrue
         (statement_sound (design_of flat.now).signals (flat_statement body.now)) }
     ensures { IfOk result (λ bits. SameBits (in_bits bits) (can_assign (flat_statement body.now))) }
 {
-    let mut bits = Bits::new(alloc);
+    let mut bits = BitSet::new(alloc);
     add_assigned(flat, &mut bits, body)?;
     Ok(bits)
 }
 
 // Whether a block assigns a bit of the signal, and some bit of it not on every path.
-fn is_latched(flat: &Flat, signal: SigId, assigned: &Bits, always: &Bits) -> bool
+fn is_latched(flat: &Flat, signal: SigId, assigned: &BitSet, always: &BitSet) -> bool
     requires sound { IsTrue (sound (design_of flat.now)) }
     ensures { (body : FlatStatement) → ((s : ℕ) → has_some assigned.now s ≡ assigns body s)
         → SameBits (in_bits always.now) (always_assigns body)
@@ -267,7 +268,7 @@ fn is_latched(flat: &Flat, signal: SigId, assigned: &Bits, always: &Bits) -> boo
 }
 
 // The first signal that a block keeps from one run to the next.
-fn first_latch(flat: &Flat, place: Place, assigned: &Bits, always: &Bits) -> Option<Found>
+fn first_latch(flat: &Flat, place: Place, assigned: &BitSet, always: &BitSet) -> Option<Found>
     requires sound { IsTrue (sound (design_of flat.now)) }
     ensures { (body : FlatStatement) → IsTrue (statement_sound (design_of flat.now).signals body)
         → ((s : ℕ) → has_some assigned.now s ≡ assigns body s)

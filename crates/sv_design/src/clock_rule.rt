@@ -8,7 +8,7 @@ ghost use Rattle.sv_flat.specs.Views.{design_of};
 ghost use Rattle.sv_design.specs.ClockTables.{AreClockTables, is_whole_port, is_used};
 ghost use Rattle.sv_design.specs.DriverTables.{AreClocks};
 ghost use Rattle.sv_design.specs.First.{FindsFirst};
-ghost use Rattle.sv_design.specs.Marks.{Marks, IsTable};
+ghost use Rattle.sv_graph.specs.Marks.{Marks, IsTable};
 ghost use Rattle.sv_design.specs.ReadForms.{AreZeros};
 
 use crate::clocks::is_top;

@@ -6,17 +6,17 @@ ghost use Rattle.sv_flat.specs.Design.{PieceForm};
 ghost use Rattle.sv_flat.specs.Processes.{is_top_kind, signals_that};
 ghost use Rattle.sv_flat.specs.Soundness.{sound, process_sound};
 ghost use Rattle.sv_flat.specs.Views.{design_of, process_form, process_kind};
-ghost use Rattle.sv_design.specs.BitSets.{piece_forms};
+ghost use Rattle.sv_design.specs.Pieces.{piece_forms};
 ghost use Rattle.sv_design.specs.DriverTables.{AreClocks};
-ghost use Rattle.sv_design.specs.Marks.{Marks, is_marked, HasClockBelow};
+ghost use Rattle.sv_graph.specs.Marks.{Marks, is_marked};
+ghost use Rattle.sv_design.specs.ReadMarks.{HasClockBelow};
 ghost use Rattle.sv_design.specs.Numbers.{numbers};
 
 use crate::links::clock_graph;
-use crate::lists::listed;
-use crate::marks::{has_mark, mark, unmarked};
-use crate::searches::search_from;
+use crate::marks::unmarked;
 use std::alloc::{AllocError, Global};
 use sv_flat::{FStmt, Flat, Piece, ProcKind, Process, SigId, SigKind};
+use sv_graph::{has_mark, listed, mark, search_from};
 
 /// Whether a signal of the kind is an input of the top module.
 pub fn is_top(kind: SigKind) -> bool

@@ -11,14 +11,14 @@ ghost use Rattle.sv_flat.specs.SignalLists.{system_signals, inputs, registers, t
 ghost use Rattle.sv_flat.specs.SignalLists.{driver_of};
 ghost use Rattle.sv_flat.specs.Reads.{reads_for, order, followed};
 ghost use Rattle.sv_design.specs.Designs.{IsDesign};
-ghost use Rattle.sv_design.specs.Marks.{followed_in};
+ghost use Rattle.sv_graph.specs.Marks.{followed_in};
 ghost use Rattle.sv_design.specs.Numbers.{numbers, number_if_any};
 
 use crate::tables::Tables;
-use crate::tops::reached;
 use std::alloc::{AllocError, Global};
 use std::marker::Model;
 use sv_flat::{Flat, Process, SigId, Signal};
+use sv_graph::reached;
 use sv_lattice::{LabelMap, Lattice, Point};
 use sv_num::Name;
 

@@ -2,7 +2,6 @@
 ghost use Rattle.std.specs.Prelude.{map, not, ◌&&◌, is_none, if◌then◌else◌, [], ◌∷◌, ◌++◌, List};
 ghost use Rattle.std.specs.Prelude.{option_map, ◌≤◌, ◌+◌, ◌-◌, ◌^◌, ◌≡◌, ◌<◌, ◌==◌, length, IfOk};
 ghost use Rattle.std.specs.Prelude.{IsTrue};
-ghost use Rattle.std.specs.List.{list_any, list_all};
 ghost use Rattle.sv_flat.specs.Design.{ProcessForm, FlatDesign};
 ghost use Rattle.sv_flat.specs.Processes.{signal_numbers};
 ghost use Rattle.sv_flat.specs.SignalLists.{driver_of};
@@ -14,7 +13,8 @@ ghost use Rattle.sv_flat.specs.Clocks.{is_clock_link};
 ghost use Rattle.sv_flat.specs.Drivers.{driver_faults, undriven};
 ghost use Rattle.std.specs.List.{cons_option};
 ghost use Rattle.sv_flat.specs.Breaches.{breach};
-ghost use Rattle.sv_design.specs.BitSets.{piece_forms};
+ghost use Rattle.std.specs.List.{list_any, list_all};
+ghost use Rattle.sv_design.specs.Pieces.{piece_forms};
 ghost use Rattle.sv_design.specs.First.{FindsFirst};
 ghost use Rattle.sv_design.specs.DriverTables.{AreDrivers, AreBelow, AreClocks, AreDriversOf};
 ghost use Rattle.sv_design.specs.DriverTables.{entries, kept_of, AreTargets, IsSoundOver};

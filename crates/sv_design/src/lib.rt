@@ -13,42 +13,35 @@
 //! holds of it, `Tables.antt` what its lists are, and `Numbers.antt` has the words for signals by
 //! their numbers.
 //!
-//! `BitGraphs.antt`, `BitSets.antt`, `ClockTables.antt`, `Depths.antt`, `DriverTables.antt`, `Feeds.antt`,
-//! `Graphs.antt`, `Links.antt`, `Marks.antt`, `Nests.antt`, `Orders.antt`, `Phases.antt`,
-//! `Queues.antt`, `ReadForms.antt`, `Refusals.antt`, `Scopes.antt`, `Searches.antt`,
-//! `Selectors.antt`, `Tops.antt` and `WrongAssigns.antt` are private: they say how the code goes;
-//! the meaning stands in the files before. `components` and `nests` promise no more than to end
-//! safely: what circles there are is the same by any order that they find, and only the time to
-//! find the first one is not.
+//! `Arms.antt`, `ClockTables.antt`, `Depths.antt`, `DriverTables.antt`, `Feeds.antt`, `Links.antt`,
+//! `Orders.antt`, `Phases.antt`, `Pieces.antt`, `ReadForms.antt`, `ReadMarks.antt`,
+//! `Refusals.antt`, `Scopes.antt`, `Selectors.antt`, `Tops.antt` and `WrongAssigns.antt` are
+//! private: they say how the code goes; the meaning stands in the files before. Graphs, searches
+//! and sets of bits are those of `sv_graph`: its `components` and `nests` promise no more than to
+//! end safely, for what circles there are is the same by any order that they find, and only the
+//! time to find the first one is not.
 #![tactic(auto)]
 
 mod admit;
 mod assignments;
-mod begins;
-mod bit_graphs;
-mod bits;
 mod blocks;
 mod clock_rule;
 mod clocks;
-mod components;
 mod depths;
 mod design;
 mod drivers;
 mod found;
-mod graphs;
 mod links;
-mod lists;
 mod loops;
 mod marks;
 mod names;
-mod nests;
 mod orders;
+mod pieces;
 mod processes;
 mod reads;
 mod refusals;
 mod registers;
 mod scopes;
-mod searches;
 mod signal_lists;
 mod tables;
 mod tops;

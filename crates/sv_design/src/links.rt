@@ -4,12 +4,12 @@ ghost use Rattle.sv_flat.specs.Clocks.{whole_name, whole_link, link_in, link_out
 ghost use Rattle.sv_flat.specs.Clocks.{lists_pair, makes_clock};
 ghost use Rattle.sv_flat.specs.Soundness.{sound};
 ghost use Rattle.sv_flat.specs.Views.{design_of, process_form, typed_tree, flat_statement};
-ghost use Rattle.sv_design.specs.Graphs.{size, has_edge, GainsEdges, IsWhole};
+ghost use Rattle.sv_graph.specs.Graphs.{size, has_edge, GainsEdges, IsWhole};
 ghost use Rattle.sv_design.specs.Links.{link_of, turned, is_pair, IsBelow, edge_of, edges_of};
 
-use crate::graphs::Graph;
 use std::alloc::{AllocError, Global};
 use sv_flat::{FExpr, FNode, FStmt, Flat, ProcKind, Process, SigId};
+use sv_graph::Graph;
 
 /// A link by a whole name: the signal that is assigned, and the signal that is read.
 #[derive(Clone, Copy)]

@@ -6,19 +6,16 @@ ghost use Rattle.sv_flat.specs.Soundness.{sound};
 ghost use Rattle.sv_flat.specs.Views.{design_of};
 ghost use Rattle.sv_design.specs.Circles.{FindsCircle, FindsCircleFrom, FindsCircleBelow, precedes};
 ghost use Rattle.sv_design.specs.Circles.{IsBegin};
-ghost use Rattle.sv_design.specs.Marks.{is_marked};
-ghost use Rattle.sv_design.specs.Nests.{HasBegins};
+ghost use Rattle.sv_graph.specs.Marks.{is_marked};
 ghost use Rattle.sv_design.specs.Numbers.{numbers};
-ghost use Rattle.sv_design.specs.Orders.{AreReads, HasDesign};
-ghost use Rattle.sv_design.specs.Searches.{found_by, LeadsDown, IsWayBack};
+ghost use Rattle.sv_design.specs.Orders.{AreReads, HasDesign, HasBegins};
+ghost use Rattle.sv_graph.specs.Searches.{found_by, LeadsDown, IsWayBack};
 
-use crate::begins::begin_table;
 use crate::found::{Found, first_of, is_before};
-use crate::marks::has_mark;
 use crate::orders::Reads;
-use crate::searches::{Search, search_from};
 use std::alloc::{AllocError, Global};
 use sv_flat::{Flat, SigId};
+use sv_graph::{Search, begins_of, has_mark, search_from};
 
 /// A circle of reads: its least signal with the place of its declaration, and its signals from that
 /// one on.
@@ -61,6 +58,15 @@ fn circle_from(alloc: Global, reads: &Reads, first: SigId) -> Result<Option<Vec<
         return Ok(None);
     };
     Ok(Some(circle_of(alloc, &readers, first, place)?))
+}
+
+// For each signal, whether a circle of reads can begin at it: each at which one does is marked.
+fn begin_table(alloc: Global, reads: &Reads) -> Result<Vec<bool>, AllocError>
+    ensures { IfOk result (λ table. (design : FlatDesign) → AreReads design reads.now
+        → HasBegins design table.items) }
+{
+    let table = begins_of(alloc, &reads.readers)?;
+    Ok(table)
 }
 
 // Whether the signal is combinational and a circle can begin at it.

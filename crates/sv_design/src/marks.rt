@@ -5,35 +5,22 @@ ghost use Rattle.sv_flat.specs.Readings.{names_signal};
 ghost use Rattle.sv_flat.specs.Soundness.{sound, statement_sound, well_formed};
 ghost use Rattle.sv_flat.specs.Views.{design_of, typed_tree, flat_statement, flat_statements};
 ghost use Rattle.sv_flat.specs.Views.{chain_of};
-ghost use Rattle.sv_design.specs.BitSets.{piece_forms};
+ghost use Rattle.sv_design.specs.Pieces.{piece_forms};
 ghost use Rattle.sv_design.specs.DriverTables.{AreTargets, IsSoundOver, assigned_in};
-ghost use Rattle.sv_design.specs.Marks.{Marks, is_marked, reads_in};
+ghost use Rattle.sv_graph.specs.Marks.{Marks};
+ghost use Rattle.sv_design.specs.ReadMarks.{reads_in};
 ghost use Rattle.sv_design.specs.ReadForms.{AreZeros};
 
 use crate::names::names_in;
 use std::alloc::{AllocError, Global};
-use sv_flat::{FExpr, FStmt, Flat, Piece, SigId};
+use sv_flat::{FExpr, FStmt, Flat, Piece};
+use sv_graph::mark;
 
 /// A table in which no signal is marked. It fails where memory runs out.
 pub fn unmarked(alloc: Global, flat: &Flat) -> Result<Vec<bool>, AllocError>
     ensures { IfOk result (λ table. table.items ≡ replicate (length flat.now.signals.items) false) }
 {
     vec![in alloc; false; flat.signals.len()]
-}
-
-/// Whether a table has the signal.
-pub fn has_mark(table: &[bool], signal: SigId) -> bool
-    ensures { result ≡ is_marked table.now signal.0 }
-{
-    table.get(signal.0 as usize).copied().unwrap_or(false)
-}
-
-/// Marks a signal.
-pub fn mark(table: &mut [bool], signal: SigId)
-    requires { signal.0 < length table.old }
-    ensures { Marks table.old table.new (λ s. signal.0 == s) }
-{
-    table[signal.0 as usize] = true;
 }
 
 // Marks the signals of pieces.

@@ -3,20 +3,17 @@ ghost use Rattle.std.specs.Prelude.{◌≡◌, ◌<◌, ◌≤◌, ◌^◌, ◌&
 ghost use Rattle.std.specs.Prelude.{IsTrue, OnOk, IfOk};
 ghost use Rattle.std.specs.List.{range_with_len};
 ghost use Rattle.sv_flat.specs.Design.{FlatDesign};
-ghost use Rattle.sv_flat.specs.Loops.{all_differ};
 ghost use Rattle.sv_flat.specs.Processes.{signal_numbers};
 ghost use Rattle.sv_flat.specs.Reads.{is_combinational, reads_for};
-ghost use Rattle.sv_design.specs.Graphs.{size, row, rows_of, has_edge, IsWhole};
-ghost use Rattle.sv_design.specs.Marks.{is_marked, IsTable};
+ghost use Rattle.sv_graph.specs.Graphs.{size, row, rows_of, has_edge, IsWhole};
+ghost use Rattle.sv_graph.specs.Marks.{is_marked, IsTable};
 ghost use Rattle.sv_design.specs.Numbers.{numbers};
 ghost use Rattle.sv_design.specs.Orders.{AreReads, HasDesign, IsLongestOrder};
-ghost use Rattle.sv_design.specs.Queues.{open_at, Begins, SettlesOne, Settles};
+ghost use Rattle.sv_design.specs.Orders.{Begins};
 
-use crate::graphs::Graph;
-use crate::lists::push_if;
-use crate::marks::has_mark;
 use std::alloc::{AllocError, Global};
 use sv_flat::SigId;
+use sv_graph::{Graph, Queue, has_mark, push_if};
 
 /// Which signals are combinational; for each signal those that are read for it; and for each
 /// combinational signal the combinational ones that it is read for.
@@ -81,42 +78,6 @@ pub fn reads_table(alloc: Global, combs: Vec<bool>, reads: Graph) -> Result<Read
         reads,
         readers,
     })
-}
-
-// Signals in an order, and for each signal how many of its combinational reads are still open.
-#[derive(Drop)]
-struct Queue {
-    order: Vec<SigId>,
-    counts: Vec<usize>,
-}
-
-impl Queue {
-    // One read less of a signal is open: with its last one it goes into the order.
-    fn settle(&mut self, reader: SigId) -> Result<(), AllocError>
-        requires within { reader.0 < length self.old.counts.items }
-        requires some { 0 < open_at self.old reader.0 }
-        ensures { OnOk result (SettlesOne self.old self.new reader.0) }
-    {
-        let r = reader.0 as usize;
-        let left = self.counts[r] - 1;
-        self.counts[r] = left;
-        push_if(left == 0, reader, &mut self.order)?;
-        Ok(())
-    }
-
-    // The same for some signals.
-    fn settle_all(&mut self, readers: &[SigId]) -> Result<(), AllocError>
-        requires within { (s : ℕ) → Contains (numbers readers.now) s →
-            s < length self.old.counts.items }
-        requires some { (s : ℕ) → Contains (numbers readers.now) s → 0 < open_at self.old s }
-        requires differ { IsTrue (all_differ (numbers readers.now)) }
-        ensures { OnOk result (Settles self.old self.new (numbers readers.now)) }
-    {
-        for reader in readers {
-            self.settle(*reader)?;
-        }
-        Ok(())
-    }
 }
 
 // How many of some signals are combinational.

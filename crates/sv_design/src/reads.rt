@@ -10,24 +10,24 @@ ghost use Rattle.sv_flat.specs.Reads.{reads_for};
 ghost use Rattle.sv_flat.specs.Soundness.{sound, statement_sound, well_formed};
 ghost use Rattle.sv_flat.specs.Views.{design_of, typed_tree, process_kind, process_form};
 ghost use Rattle.sv_flat.specs.Views.{flat_statement, flat_statements, chain_of};
-ghost use Rattle.sv_design.specs.BitGraphs.{in_row, IsRow, size, has_edge, IsOver, GainsEdges};
-ghost use Rattle.sv_design.specs.BitSets.{in_bits, has_some, HasTargetsBelow};
+ghost use Rattle.sv_graph.specs.BitGraphs.{in_row, IsRow, size, has_edge, IsOver, GainsEdges};
+ghost use Rattle.sv_graph.specs.BitSets.{in_bits, has_some, HasTargetsBelow};
 ghost use Rattle.sv_design.specs.Feeds.{is_sought, names_sought, feeds, sought_in, feeds_in};
-ghost use Rattle.sv_design.specs.Feeds.{feeds_through, AreWants};
-ghost use Rattle.sv_design.specs.Graphs.{rows_of};
-ghost use Rattle.sv_design.specs.Marks.{is_marked, IsTable};
+ghost use Rattle.sv_graph.specs.BitGraphs.{leads_through};
+ghost use Rattle.sv_design.specs.Feeds.{AreWants};
+ghost use Rattle.sv_graph.specs.Graphs.{rows_of};
+ghost use Rattle.sv_graph.specs.Marks.{is_marked, IsTable};
 ghost use Rattle.sv_design.specs.Phases.{SameBits};
 ghost use Rattle.sv_design.specs.ReadForms.{read_form, AreZeros};
 ghost use Rattle.sv_design.specs.Scopes.{in_scope};
 
-use crate::bit_graphs::{BitGraph, row_of};
-use crate::bits::{Bits, share};
 use crate::blocks::bits_read;
-use crate::graphs::Graph;
 use crate::names::{Read, names_in};
+use crate::pieces::add_pieces;
 use crate::scopes::Scope;
 use std::alloc::{AllocError, Global};
 use sv_flat::{FExpr, FStmt, Flat, ProcKind, Process, SigId};
+use sv_graph::{BitGraph, BitSet, Graph, row_of, share};
 
 /// Which reads of a process are sought: the earlier ones of an `always @*`, where an assignment to
 /// a bit that is read can follow the read, or all others.
@@ -85,7 +85,7 @@ fn add_reads(
     sought: Sought,
     expr: &FExpr,
     later: &Scope,
-    targets: &Bits,
+    targets: &BitSet,
 ) -> Result<(), AllocError>
     requires sound { IsTrue (sound (design_of flat.now)) }
     requires zeros { AreZeros (length flat.now.signals.items) zeros.now }
@@ -116,7 +116,7 @@ fn follow(
     sought: Sought,
     stmt: &FStmt,
     later: &Scope,
-) -> Result<Bits, AllocError>
+) -> Result<BitSet, AllocError>
     requires sound { IsTrue (sound (design_of flat.now)) }
     requires zeros { AreZeros (length flat.now.signals.items) zeros.now }
     requires body { IsTrue
@@ -132,8 +132,8 @@ fn follow(
 {
     match stmt {
         FStmt::Assign { pieces, value, .. } => {
-            let mut bits = Bits::new(alloc);
-            bits.add_pieces(pieces)?;
+            let mut bits = BitSet::new(alloc);
+            add_pieces(&mut bits, pieces)?;
             let inside = Scope::Inside(&bits, &*later);
             add_reads(alloc, flat, zeros, graph, sought, value, &inside, &bits)?;
             Ok(bits)
@@ -160,7 +160,7 @@ fn follow_all(
     sought: Sought,
     stmts: &[FStmt],
     later: &Scope,
-) -> Result<Bits, AllocError>
+) -> Result<BitSet, AllocError>
     requires sound { IsTrue (sound (design_of flat.now)) }
     requires zeros { AreZeros (length flat.now.signals.items) zeros.now }
     requires body { IsTrue
@@ -174,7 +174,7 @@ fn follow_all(
         (feeds (design_of flat.now).signals sought (chain_of (flat_statements stmts.now))
         (in_scope later.now))) }
 {
-    let mut here = Bits::new(alloc);
+    let mut here = BitSet::new(alloc);
     for i in 0..stmts.len() {
         let stmt = &stmts[stmts.len() - 1 - i];
         let inside = Scope::Inside(&here, &*later);
@@ -288,7 +288,7 @@ fn follow_earlier(
     ensures over { IsOver (size graph.old) graph.new }
     ensures edges { OnOk result ((a b : ℕ) → b < size graph.old →
         has_edge graph.new a b ≡
-        feeds_through (size graph.old) (has_edge graph.old) (has_edge earlier) a b) }
+        leads_through (size graph.old) (has_edge graph.old) (has_edge earlier) a b) }
 {
     if !earlier.has_edges() {
         return Ok(());

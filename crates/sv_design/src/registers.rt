@@ -7,7 +7,7 @@ ghost use Rattle.sv_flat.specs.Reads.{is_combinational};
 ghost use Rattle.sv_flat.specs.Soundness.{sound};
 ghost use Rattle.sv_flat.specs.Views.{design_of, process_kind, process_form, flat_statement};
 ghost use Rattle.sv_design.specs.DriverTables.{AreClocks, IsSoundOver};
-ghost use Rattle.sv_design.specs.Marks.{Marks, IsTable};
+ghost use Rattle.sv_graph.specs.Marks.{Marks, IsTable};
 
 use crate::clocks::is_top;
 use crate::marks::{mark_targets, unmarked};

@@ -1,16 +1,16 @@
 // Bits that are assigned around a statement.
 ghost use Rattle.std.specs.Prelude.{◌≡◌, ℕ};
-ghost use Rattle.sv_design.specs.BitSets.{is_set};
+ghost use Rattle.sv_graph.specs.BitSets.{is_set};
 ghost use Rattle.sv_design.specs.Scopes.{in_scope};
 
-use crate::bits::Bits;
 use sv_flat::SigId;
+use sv_graph::BitSet;
 
 /// Sets of bits: those of a block inside of those around it.
 #[derive(Clone, Copy)]
 pub enum Scope<'a> {
     Nothing,
-    Inside(&'a Bits, &'a Scope<'a>),
+    Inside(&'a BitSet, &'a Scope<'a>),
 }
 
 impl<'a> Scope<'a> {

@@ -1,6 +1,6 @@
 // What is worked out of a design once, when it is admitted.
-use crate::graphs::Graph;
 use sv_flat::{Process, SigId};
+use sv_graph::Graph;
 
 /// The tables of an admitted design.
 #[derive(Debug, Drop)]

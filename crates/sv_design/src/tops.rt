@@ -1,27 +1,23 @@
 // The inputs of the top module that clocks lead up to.
 ghost use Rattle.std.specs.Prelude.{◌≡◌, ◌<◌, ◌^◌, ◌==◌, ◌&&◌, ◌||◌, not, ℕ, Bool, length};
-ghost use Rattle.std.specs.Prelude.{Contains, IsTrue, IfOk, MatchOption};
+ghost use Rattle.std.specs.Prelude.{IsTrue, IfOk, MatchOption};
 ghost use Rattle.sv_flat.specs.Clocks.{agrees_with_earlier};
 ghost use Rattle.sv_flat.specs.Design.{FlatDesign};
 ghost use Rattle.sv_flat.specs.Processes.{is_top_input};
-ghost use Rattle.sv_flat.specs.Sets.{holds, least_set};
 ghost use Rattle.sv_flat.specs.Soundness.{sound};
 ghost use Rattle.sv_flat.specs.Views.{design_of};
 ghost use Rattle.sv_design.specs.DriverTables.{AreClocks};
-ghost use Rattle.sv_design.specs.Graphs.{size, IsWhole};
-ghost use Rattle.sv_design.specs.Marks.{is_marked, IsTable};
-ghost use Rattle.sv_design.specs.Numbers.{numbers, number_if_any};
-ghost use Rattle.sv_design.specs.Searches.{Brings};
+ghost use Rattle.sv_graph.specs.Graphs.{size, IsWhole};
+ghost use Rattle.sv_graph.specs.Marks.{is_marked, IsTable};
+ghost use Rattle.sv_design.specs.Numbers.{number_if_any};
 ghost use Rattle.sv_design.specs.Tops.{AreOrigins, AreSinks, leads_to, is_led, is_one};
 ghost use Rattle.sv_design.specs.Tops.{IsLeadingTop, FindsFirstOfBoth, agrees_by};
 
 use crate::clocks::is_top;
-use crate::graphs::Graph;
 use crate::links::origins_of;
-use crate::lists::listed;
-use crate::searches::search_from;
 use std::alloc::{AllocError, Global};
 use sv_flat::{Flat, SigId};
+use sv_graph::{Graph, listed, reached};
 
 // For each signal, whether it is an input of the top module.
 fn top_table(alloc: Global, flat: &Flat) -> Result<Vec<bool>, AllocError>
@@ -33,18 +29,6 @@ fn top_table(alloc: Global, flat: &Flat) -> Result<Vec<bool>, AllocError>
         tops.push(is_top(signal.kind))?;
     }
     Ok(tops)
-}
-
-/// For each signal, whether edges lead to it from some signals on. It fails where memory runs out.
-pub fn reached(alloc: Global, graph: &Graph, starts: &[SigId]) -> Result<Vec<bool>, AllocError>
-    requires whole { IsWhole graph.now }
-    requires starts { (k : ℕ) → Contains (numbers starts.now) k → k < size graph.now }
-    ensures { IfOk result (λ table. (brings : ℕ → ℕ → Bool) → Brings graph.now 0 brings
-        → IsTable (size graph.now) table.items
-        (holds (least_set (size graph.now) brings (numbers starts.now)))) }
-{
-    let found = search_from(alloc, graph, 0, starts)?;
-    found.table(alloc)
 }
 
 // For each signal, whether it leads up to one that a table has.

@@ -7,14 +7,15 @@ ghost use Rattle.sv_flat.specs.Readings.{names_signal};
 ghost use Rattle.sv_flat.specs.Soundness.{sound, process_sound, label_sound};
 ghost use Rattle.sv_flat.specs.Views.{design_of, process_form};
 ghost use Rattle.sv_design.specs.Links.{link_of, IsBelow};
-ghost use Rattle.sv_design.specs.Marks.{Marks};
+ghost use Rattle.sv_graph.specs.Marks.{Marks};
 ghost use Rattle.sv_design.specs.Selectors.{SelectsBelow, is_port};
 ghost use Rattle.sv_design.specs.ReadForms.{AreZeros};
 
 use crate::links::{Link, link_in};
-use crate::marks::{mark, mark_names, mark_reads, mark_targets};
+use crate::marks::{mark_names, mark_reads, mark_targets};
 use std::alloc::{AllocError, Global};
 use sv_flat::{Flat, Process, SigId};
+use sv_graph::mark;
 use sv_lattice::Label;
 
 // Marks what a process reads or drives, where it is no link by a whole name to an input port.

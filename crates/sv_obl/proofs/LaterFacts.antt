@@ -6,7 +6,7 @@ use mathlib.Core.Path.{fun_ext}
 use Rattle.sv_flat.specs.Assigned.{has_bit}
 use Rattle.sv_flat.specs.Readings.{BitSet, either}
 use Rattle.sv_flat.specs.declared.statements.Piece.{Piece}
-use Rattle.sv_design.proofs.EntryFacts.{nothing_in}
+use Rattle.sv_graph.proofs.EntryFacts.{nothing_in}
 use Rattle.sv_obl.specs.declared.later.Bits.{Bits}
 use Rattle.sv_obl.specs.declared.later.Scope.{Scope, Inside, the_lemmas}
 use Rattle.sv_obl.specs.Later.{mask_in, in_bits, HasBits, in_scope}

@@ -15,7 +15,7 @@ use Rattle.sv_flat.specs.Assigned.{assigns, can_assign}
 use Rattle.sv_flat.specs.Readings.{BitSet, either}
 use Rattle.sv_flat.specs.Sets.{holds}
 use Rattle.sv_flat.proofs.LeastSets.{holds-from_Contains, Contains-from_holds}
-use Rattle.sv_design.proofs.BitFacts.{same_answer}
+use Rattle.sv_graph.proofs.BitFacts.{same_answer}
 use Rattle.sv_obl.specs.declared.later.Bits.{Bits}
 use Rattle.sv_obl.specs.declared.marked.Marked.{Marked}
 use Rattle.sv_obl.specs.declared.marked.Marked as marked

@@ -5,7 +5,7 @@ use Rattle.std.specs.BTreeMap as tree
 use Rattle.std.specs.Ordering.{nat_cmp}
 use Rattle.sv_flat.specs.Design.{SignalForm}
 use Rattle.sv_flat.specs.Readings.{ReadForm, BitSet, some_bit_read}
-use Rattle.sv_design.specs.BitSets.{is_set}
+use Rattle.sv_graph.specs.BitSets.{is_set}
 use Rattle.sv_obl.specs.declared.later.Bits.{Bits}
 use Rattle.sv_obl.specs.declared.later.Scope.{Scope, fold-Scope}
 use Rattle.sv_obl.specs.declared.later.Scope.TheOpen.{Scope-F}

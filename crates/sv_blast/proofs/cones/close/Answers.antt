@@ -1,6 +1,6 @@
 use Rattle.std.proofs.Common.{◌-◌, ◌∙◌, subst, arith}
 use Rattle.sv_flat.specs.Views.{design_of}
-use Rattle.sv_design.specs.Marks.{is_marked}
+use Rattle.sv_graph.specs.Marks.{is_marked}
 use Rattle.sv_blast.proofs.ClosedCones.{IsClosedBut, order_below, pass_begins, pass_goes_on}
 use Rattle.sv_blast.proofs.ClosedCones.{pass_ends}
 use Rattle.sv_blast.proofs.cones.close.Goals as goal

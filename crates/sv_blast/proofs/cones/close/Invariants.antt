@@ -1,7 +1,7 @@
 use Rattle.std.proofs.Common.{◌≤◌, List, ℕ, length}
 use Rattle.sv_flat.specs.Sets.{holds}
 use Rattle.sv_flat.specs.Views.{design_of}
-use Rattle.sv_design.specs.Marks.{is_marked, IsTable}
+use Rattle.sv_graph.specs.Marks.{is_marked, IsTable}
 use Rattle.sv_blast.specs.NamedMarks.{AreBelow}
 use Rattle.sv_blast.proofs.ClosedCones.{IsClosedBut}
 use Rattle.sv_blast.proofs.cones.close.Given as goal

@@ -4,7 +4,7 @@ use Rattle.std.proofs.lemmas.List.Elements.{filter_agree}
 use Rattle.sv_flat.specs.declared.signals.SigId.{SigId}
 use Rattle.sv_flat.specs.Processes.{is_register, is_top_input}
 use Rattle.sv_flat.specs.Views.{design_of}
-use Rattle.sv_design.specs.Marks.{is_marked}
+use Rattle.sv_graph.specs.Marks.{is_marked}
 use Rattle.sv_design.specs.Numbers.{numbers}
 use Rattle.sv_blast.proofs.ConeStarts.{given_marked, count_is}
 use Rattle.sv_blast.proofs.cones.given_in.Goals as goal

@@ -5,7 +5,7 @@ use Rattle.sv_flat.specs.Reads.{reads_for}
 use Rattle.sv_flat.specs.Sets.{holds}
 use Rattle.sv_flat.specs.Views.{design_of}
 use Rattle.sv_design.specs.Numbers.{numbers}
-use Rattle.sv_design.proofs.MarkFacts.{marks_more}
+use Rattle.sv_graph.proofs.MarkFacts.{marks_more}
 use Rattle.sv_blast.proofs.MarkTables.{below_at, holds_join, no_signal}
 use Rattle.sv_blast.proofs.cones.mark_all_reads.Goals as goal
 

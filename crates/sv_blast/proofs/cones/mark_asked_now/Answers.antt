@@ -1,7 +1,7 @@
 use Rattle.std.proofs.Common.{◌≡◌, ◌||◌, ap, sym, subst, ◌∙◌, ◌<◌, rules}
 use Rattle.sv_flat.specs.Sets.{holds}
 use Rattle.sv_flat.specs.Views.{design_of, typed_tree}
-use Rattle.sv_design.specs.Marks.{is_marked}
+use Rattle.sv_graph.specs.Marks.{is_marked}
 use Rattle.sv_obl.specs.declared.frames.Frame.TheVariants.{Now}
 use Rattle.sv_obl.specs.Obligations.{holds as must_hold}
 use Rattle.sv_obl.specs.Views.{goal_form}

@@ -1,7 +1,7 @@
 use Rattle.std.proofs.Common.{drop, map}
 use Rattle.sv_obl.specs.Paths.{StepForm}
 use Rattle.sv_obl.specs.Views.{step_form}
-use Rattle.sv_design.proofs.MarkFacts.{MarksSoFar}
+use Rattle.sv_graph.proofs.MarkFacts.{MarksSoFar}
 use Rattle.sv_blast.specs.NamedMarks.{is_named_in}
 use Rattle.sv_blast.proofs.cones.mark_conditions.Given as goal
 

@@ -3,7 +3,7 @@ use Rattle.std.specs.Prelude.{flat_map}
 use Rattle.sv_flat.specs.Reads.{reads_for}
 use Rattle.sv_flat.specs.Sets.{holds}
 use Rattle.sv_flat.specs.Views.{design_of, typed_trees}
-use Rattle.sv_design.specs.Marks.{Marks}
+use Rattle.sv_graph.specs.Marks.{Marks}
 use Rattle.sv_design.specs.Numbers.{numbers}
 use Rattle.sv_obl.specs.Paths.{StepForm}
 use Rattle.sv_obl.specs.Views.{obligation_of, step_form}

@@ -3,7 +3,7 @@ use Rattle.std.specs.Result.{IsErrOf}
 use Rattle.sv_flat.specs.ByNumber.{signal_forms}
 use Rattle.sv_flat.specs.Views.{design_of}
 use Rattle.sv_design.specs.Designs.{IsDesign}
-use Rattle.sv_design.specs.Marks.{followed_in}
+use Rattle.sv_graph.specs.Marks.{followed_in}
 use Rattle.sv_gates.specs.declared.gates.GateFault.TheVariants.{Full}
 use Rattle.sv_gates.specs.Formulas.{Formula, most_variables}
 use Rattle.sv_flat.specs.Design.{SignalForm}

@@ -1,7 +1,7 @@
 use Rattle.std.proofs.Common.{length, min, ap, ◌∙◌, lt-ltb}
 use Rattle.sv_flat.specs.ByNumber.{signal_forms}
 use Rattle.sv_flat.specs.Views.{design_of}
-use Rattle.sv_design.specs.Marks.{followed_in}
+use Rattle.sv_graph.specs.Marks.{followed_in}
 use Rattle.sv_blast.proofs.FollowedTargets.{found_target, target_size}
 use Rattle.sv_blast.proofs.KnownSignals.{known_signal}
 use Rattle.sv_blast.proofs.followed_sizes.followed_size.Goals as goal

@@ -4,7 +4,7 @@ use Rattle.sv_flat.specs.Readings.{ReadForm, node_reads, parts_reads, names_sign
 use Rattle.sv_flat.specs.Views.{node_tree, typed_tree, typed_trees}
 use Rattle.sv_flat.proofs.Parts.{trees}
 use Rattle.sv_flat.proofs.Rows.{row_parts-hidden}
-use Rattle.sv_design.proofs.MarkFacts.{same_marked}
+use Rattle.sv_graph.proofs.MarkFacts.{same_marked}
 use Rattle.sv_blast.specs.NamedMarks.{is_named_in}
 use Rattle.sv_blast.proofs.NameMarks.{all_named}
 use Rattle.sv_blast.proofs.marks.+mark_names.Goals as goal

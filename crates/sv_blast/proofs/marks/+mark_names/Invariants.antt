@@ -1,6 +1,6 @@
 use Rattle.std.proofs.Common.{drop}
 use Rattle.sv_flat.specs.Views.{typed_trees}
-use Rattle.sv_design.proofs.MarkFacts.{MarksSoFar}
+use Rattle.sv_graph.proofs.MarkFacts.{MarksSoFar}
 use Rattle.sv_blast.specs.NamedMarks.{is_named_in}
 use Rattle.sv_blast.proofs.marks.+mark_names.Given as goal
 

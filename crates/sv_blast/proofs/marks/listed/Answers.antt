@@ -1,5 +1,5 @@
 use Rattle.std.proofs.Common.{◌++◌, ◌∷◌, [], cond, false, get_or, sym, ap, ◌∙◌}
-use Rattle.sv_design.proofs.DriverFacts.{filter_more}
+use Rattle.sv_graph.proofs.ListFacts.{filter_more}
 use Rattle.sv_blast.proofs.marks.listed.Goals as goal
 
 pub loop-s-preserved : goal.loop-s-preserved

@@ -2,7 +2,7 @@ use Rattle.std.proofs.Common.{◌==◌, ◌+◌, get_or, drop, refl}
 use Rattle.std.proofs.lemmas.List.{at_drop_all, at_drop_more}
 use Rattle.sv_flat.specs.Sets.{holds}
 use Rattle.sv_design.specs.Numbers.{numbers}
-use Rattle.sv_design.proofs.MarkFacts.{marks_more, marks_end}
+use Rattle.sv_graph.proofs.MarkFacts.{marks_more, marks_end}
 use Rattle.sv_blast.proofs.MarkTables.{no_signal}
 use Rattle.sv_blast.proofs.marks.mark_all.Goals as goal
 

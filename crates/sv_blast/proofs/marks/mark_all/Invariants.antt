@@ -1,7 +1,7 @@
 use Rattle.std.proofs.Common.{drop}
 use Rattle.sv_flat.specs.Sets.{holds}
 use Rattle.sv_design.specs.Numbers.{numbers}
-use Rattle.sv_design.proofs.MarkFacts.{MarksSoFar}
+use Rattle.sv_graph.proofs.MarkFacts.{MarksSoFar}
 use Rattle.sv_blast.proofs.marks.mark_all.Given as goal
 
 abbrev pub invariant-loop-signal : goal.invariant-loop-signal

@@ -2,7 +2,7 @@ use Rattle.std.proofs.Common.{map, ap, ◌∙◌}
 use Rattle.std.proofs.lemmas.List.{take_all}
 use Rattle.sv_flat.specs.declared.signals.Signal.{Signal}
 use Rattle.sv_flat.specs.Processes.{is_top_kind}
-use Rattle.sv_design.specs.Marks.{is_marked}
+use Rattle.sv_graph.specs.Marks.{is_marked}
 use Rattle.sv_blast.proofs.ConeStarts.{kinds_marked}
 use Rattle.sv_blast.proofs.marks.marked_inputs.Goals as goal
 

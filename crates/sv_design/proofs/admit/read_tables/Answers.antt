@@ -2,7 +2,7 @@ use Rattle.std.proofs.Common.{sym, subst, ◌∙◌, arith}
 use Rattle.std.proofs.Math.ListN.{length-map}
 use Rattle.sv_flat.specs.Reads.{is_combinational}
 use Rattle.sv_flat.specs.Views.{design_of, signal_form}
-use Rattle.sv_design.specs.Marks.{IsTable}
+use Rattle.sv_graph.specs.Marks.{IsTable}
 use Rattle.sv_design.proofs.ReadTables.{reads_size, reads_whole}
 use Rattle.sv_design.proofs.TableFacts.{few_signals}
 use Rattle.sv_design.proofs.admit.read_tables.Goals as goal

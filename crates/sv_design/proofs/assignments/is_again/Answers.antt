@@ -1,8 +1,8 @@
 use Rattle.std.proofs.Common.{subst}
 use Rattle.std.specs.Prelude.{IsTrue, ◌↔◌}
 use Rattle.sv_flat.specs.Views.{piece_form}
-use Rattle.sv_design.specs.BitSets.{SharesBit}
-use Rattle.sv_design.proofs.BitFacts.{again_is}
+use Rattle.sv_graph.specs.BitSets.{SharesBit}
+use Rattle.sv_design.proofs.HeldPieces.{again_is}
 use Rattle.sv_design.proofs.assignments.is_again.Goals as goal
 
 pub returns : goal.returns

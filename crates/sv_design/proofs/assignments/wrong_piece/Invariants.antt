@@ -1,6 +1,6 @@
 use Rattle.std.proofs.Common.{drop}
 use Rattle.sv_flat.specs.Views.{design_of, process_kind}
-use Rattle.sv_design.specs.BitSets.{piece_forms}
+use Rattle.sv_design.specs.Pieces.{piece_forms}
 use Rattle.sv_design.proofs.WrongPieces.{PiecesSoFar}
 use Rattle.sv_design.proofs.assignments.wrong_piece.Given as goal
 

@@ -9,7 +9,8 @@ use Rattle.sv_flat.specs.Soundness.{statement_sound}
 use Rattle.sv_flat.specs.Views.{design_of, typed_tree, flat_statement, flat_statements, chain_of}
 use Rattle.sv_flat.specs.declared.statements.FStmt.{the_lemmas}
 use Rattle.sv_flat.proofs.NumberedRuns.{no_branch}
-use Rattle.sv_design.specs.BitSets.{in_bits, piece_forms}
+use Rattle.sv_graph.specs.BitSets.{in_bits}
+use Rattle.sv_design.specs.Pieces.{piece_forms}
 use Rattle.sv_design.specs.Phases.{AddsAssigned}
 use Rattle.sv_design.proofs.Passes.{sound_at, assigned_more, assigned_rest, assigned_end}
 use Rattle.sv_design.proofs.Sound.{branch_is, sound_as, block_is, next_statement}
@@ -66,10 +67,10 @@ add_assigned_plain-returns-in-Assign t c =
     let whole = assign (piece_forms c.in-Assign.pieces.items) c.in-Assign.place
     c.in-Assign.blocking (typed_tree c.in-Assign.value) in
     let is : flat_statement c.args.stmt.now ≡ whole = ap flat_statement c.in-Assign.is in
-    subst (λ z. OnOk c.add_pieces.result (AddsAssigned c.args.bits.now c.add_pieces.new.self z))
+    subst (λ z. OnOk c.add_pieces.result (AddsAssigned c.args.bits.now c.add_pieces.new.set z))
     (sym is)
     (subst (λ ps. OnOk c.add_pieces.result ((s b : ℕ) →
-    in_bits c.add_pieces.new.self s b ≡
+    in_bits c.add_pieces.new.set s b ≡
     (in_bits c.args.bits.now s b || list_any (has_bit s b) (piece_forms ps))))
     c.deref.ensures.value c.add_pieces.ensures)
 

@@ -10,9 +10,10 @@ use Rattle.sv_flat.specs.Soundness.{statement_sound}
 use Rattle.sv_flat.specs.Views.{design_of, typed_tree, flat_statement, flat_statements, chain_of}
 use Rattle.sv_flat.specs.declared.statements.FStmt.{the_lemmas}
 use Rattle.sv_flat.proofs.NumberedRuns.{no_branch}
-use Rattle.sv_design.specs.declared.bits.Bits.{Bits}
+use Rattle.sv_graph.specs.declared.bit_sets.BitSet.{BitSet}
 use Rattle.sv_design.specs.declared.found.Found.{Found}
-use Rattle.sv_design.specs.BitSets.{in_bits, piece_forms}
+use Rattle.sv_graph.specs.BitSets.{in_bits}
+use Rattle.sv_design.specs.Pieces.{piece_forms}
 use Rattle.sv_design.specs.Phases.{SameBits, FindsReads}
 use Rattle.sv_design.specs.Scopes.{in_scope}
 use Rattle.sv_design.proofs.ArmFacts.{arms_begin, arms_more, arms_end}
@@ -106,7 +107,7 @@ forward_plain-forward_all-requires t c =
 pub forward_plain-returns-in-Block : goal.forward_plain-returns-in-Block
 forward_plain-returns-in-Block t c =
     let signals = (design_of c.args.flat.now).signals in
-    subst (λ b. IfOk c.forward_all.result (λ (both : Option Found × Bits).
+    subst (λ b. IfOk c.forward_all.result (λ (both : Option Found × BitSet).
     FindsReads signals c.args.targets.now (in_scope c.args.assigned.now)
     (readings signals b) both.0 × SameBits (in_bits both.1) (always_assigns b)))
     (sym (block_is _ c.in-Block.stmts _ c.in-Block.is c.deref-in-Block.ensures.value))
@@ -164,10 +165,10 @@ forward_plain-returns-in_ok-add_pieces-in-Assign t c =
     let is : flat_statement c.args.stmt.now ≡ whole = ap flat_statement c.in-Assign.is in
     subst (λ b. FindsReads signals c.args.targets.now (in_scope c.args.assigned.now)
     (readings signals b) c.in_ok-found-in-Assign.found
-    × SameBits (in_bits c.add_pieces.new.self) (always_assigns b)) (sym is) (
+    × SameBits (in_bits c.add_pieces.new.set) (always_assigns b)) (sym is) (
       λ body a f asks same.
           c.in_ok-found-in-Assign.ensures (assigns whole) body a (either (can_assign whole) f)
           asks same,
-      only_pieces c.new-bits.result c.add_pieces.new.self _ _ c.deref.ensures.value
+      only_pieces c.new-bits.result c.add_pieces.new.set _ _ c.deref.ensures.value
           c.new-bits.ensures c.in_ok-add_pieces-in-Assign.ensures,
     )

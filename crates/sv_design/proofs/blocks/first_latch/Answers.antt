@@ -5,7 +5,8 @@ use Rattle.std.specs.Map.{keys_of}
 use Rattle.std.specs.Map.Iter.{deref}
 use Rattle.std.proofs.lemmas.Map.Iter.{rest_more, rest_all}
 use Rattle.sv_flat.specs.Views.{design_of}
-use Rattle.sv_design.proofs.BlockPasses.{key_found, latches_begin, latches_more, latches_end}
+use Rattle.sv_graph.proofs.EntryFacts.{key_found}
+use Rattle.sv_design.proofs.BlockPasses.{latches_begin, latches_more, latches_end}
 use Rattle.sv_design.proofs.blocks.first_latch.Goals as goal
 
 pub loop-signal-init : goal.loop-signal-init

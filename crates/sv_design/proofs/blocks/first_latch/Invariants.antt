@@ -4,7 +4,7 @@ use Rattle.sv_flat.specs.Assigned.{assigns, always_assigns}
 use Rattle.sv_flat.specs.Design.{FlatStatement}
 use Rattle.sv_flat.specs.Soundness.{statement_sound}
 use Rattle.sv_flat.specs.Views.{design_of}
-use Rattle.sv_design.specs.BitSets.{in_bits, has_some}
+use Rattle.sv_graph.specs.BitSets.{in_bits, has_some}
 use Rattle.sv_design.specs.Phases.{SameBits}
 use Rattle.sv_design.proofs.BlockPasses.{LatchesSoFar}
 use Rattle.sv_design.proofs.blocks.first_latch.Given as goal

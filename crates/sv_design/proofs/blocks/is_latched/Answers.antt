@@ -4,7 +4,7 @@ use Rattle.sv_flat.specs.Assigned.{always_assigns}
 use Rattle.sv_flat.specs.Design.{SignalForm}
 use Rattle.sv_flat.specs.Values.{signal_width}
 use Rattle.sv_flat.specs.Views.{design_of}
-use Rattle.sv_design.specs.BitSets.{is_set}
+use Rattle.sv_graph.specs.BitSets.{is_set}
 use Rattle.sv_design.proofs.BlockPasses.{latch_is}
 use Rattle.sv_design.proofs.DriverFacts.{signal_at, inside_design}
 use Rattle.sv_design.proofs.Sound.{few_bits, some_width}

@@ -6,7 +6,7 @@ use Rattle.sv_flat.specs.Readings.{names_signal}
 use Rattle.sv_flat.specs.Views.{design_of}
 use Rattle.sv_design.specs.ClockTables.{is_used}
 use Rattle.sv_design.proofs.ClockFaults.{uses_are}
-use Rattle.sv_design.proofs.MarkFacts.{both_marked, same_marked}
+use Rattle.sv_graph.proofs.MarkFacts.{both_marked, same_marked}
 use Rattle.sv_design.proofs.clock_rule.mark_used.Goals as goal
 
 pub returns : goal.returns

@@ -11,10 +11,11 @@ use Rattle.sv_flat.specs.Processes.{declared_at}
 use Rattle.sv_flat.specs.Views.{design_of, signal_form}
 use Rattle.sv_design.specs.ClockTables.{is_whole_port, is_used}
 use Rattle.sv_design.specs.First.{FindsFirst, first_found}
-use Rattle.sv_design.specs.Marks.{IsTable}
+use Rattle.sv_graph.specs.Marks.{IsTable}
 use Rattle.sv_design.proofs.ClockFaults.{is_fault, faults_are, proper_is}
 use Rattle.sv_design.proofs.ClockLinks.{at_table}
-use Rattle.sv_design.proofs.DriverFacts.{passed_more, signal_at, inside_design}
+use Rattle.sv_graph.proofs.ListFacts.{passed_more}
+use Rattle.sv_design.proofs.DriverFacts.{signal_at, inside_design}
 use Rattle.sv_design.proofs.Firsts.{finds_both}
 use Rattle.sv_design.proofs.clock_rule.wrong_clock_by.Goals as goal
 

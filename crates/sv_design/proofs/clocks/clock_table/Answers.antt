@@ -6,7 +6,8 @@ use Rattle.sv_flat.specs.Views.{design_of, signal_form}
 use Rattle.sv_flat.proofs.LeastSets.{those_below}
 use Rattle.sv_design.specs.DriverTables.{AreClocks}
 use Rattle.sv_design.specs.Numbers.{numbers}
-use Rattle.sv_design.proofs.TableFacts.{clocks_are, if_ok}
+use Rattle.sv_design.proofs.TableFacts.{clocks_are}
+use Rattle.sv_graph.proofs.FoundTables.{if_ok}
 use Rattle.sv_design.proofs.clocks.clock_table.Goals as goal
 
 pub search_from-requires-clause-starts : goal.search_from-requires-clause-starts

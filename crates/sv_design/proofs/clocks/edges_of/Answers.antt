@@ -9,10 +9,12 @@ use Rattle.std.proofs.lemmas.List.{at_drop_all, length-replicate}
 use Rattle.sv_flat.specs.Clocks.{has_edge, is_edge}
 use Rattle.sv_flat.specs.Design.{ProcessForm}
 use Rattle.sv_flat.specs.Views.{design_of, process_form, signal_form}
-use Rattle.sv_design.specs.Marks.{is_marked, Marks, HasClockBelow}
-use Rattle.sv_design.proofs.MarkFacts.{MarksSoFar, marks_more, marks_end}
+use Rattle.sv_graph.specs.Marks.{is_marked, Marks}
+use Rattle.sv_design.specs.ReadMarks.{HasClockBelow}
+use Rattle.sv_graph.proofs.MarkFacts.{MarksSoFar, marks_more, marks_end}
 use Rattle.sv_design.proofs.Sound.{process_at}
-use Rattle.sv_design.proofs.TableFacts.{any_more, written_back, from_nothing, clock_below}
+use Rattle.sv_graph.proofs.ListFacts.{any_more}
+use Rattle.sv_design.proofs.TableFacts.{written_back, from_nothing, clock_below}
 use Rattle.sv_design.proofs.TableFacts.{listed_are}
 use Rattle.sv_design.proofs.clocks.edges_of.Goals as goal
 

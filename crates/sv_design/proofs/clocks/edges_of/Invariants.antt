@@ -3,7 +3,7 @@ use Rattle.std.specs.List.{list_any}
 use Rattle.sv_flat.specs.Clocks.{has_edge, is_edge}
 use Rattle.sv_flat.specs.Design.{ProcessForm}
 use Rattle.sv_flat.specs.Views.{design_of, process_form}
-use Rattle.sv_design.proofs.MarkFacts.{MarksSoFar}
+use Rattle.sv_graph.proofs.MarkFacts.{MarksSoFar}
 use Rattle.sv_design.proofs.clocks.edges_of.Given as goal
 
 abbrev pub invariant-loop-process : goal.invariant-loop-process

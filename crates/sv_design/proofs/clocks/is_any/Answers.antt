@@ -6,7 +6,7 @@ use Rattle.std.proofs.lemmas.Iterator.Search.{any_from_yields_List}
 use Rattle.sv_flat.specs.declared.statements.Piece.{Piece}
 use Rattle.sv_flat.specs.Design.{PieceForm}
 use Rattle.sv_flat.specs.Views.{piece_form}
-use Rattle.sv_design.specs.BitSets.{piece_forms}
+use Rattle.sv_design.specs.Pieces.{piece_forms}
 use Rattle.sv_design.proofs.clocks.is_any.Goals as goal
 
 any_formed : (test : PieceForm → Bool) (pieces : List Piece)

@@ -2,7 +2,7 @@ use Rattle.std.proofs.Common.{◌≡◌, true, false, get_or, refl, ap, ◌∙�
 use Rattle.std.specs.List.{list_any}
 use Rattle.sv_flat.specs.Design.{PieceForm, assign}
 use Rattle.sv_flat.specs.Views.{design_of, process_form, typed_tree, flat_statement}
-use Rattle.sv_design.specs.BitSets.{piece_forms}
+use Rattle.sv_design.specs.Pieces.{piece_forms}
 use Rattle.sv_design.proofs.ClockLinks.{not_block, is_link}
 use Rattle.sv_design.proofs.Sound.{block_is}
 use Rattle.sv_design.proofs.clocks.is_clock_link.Goals as goal

@@ -6,7 +6,7 @@ use Rattle.sv_flat.specs.Design.{assign, branch}
 use Rattle.sv_flat.specs.Soundness.{statement_sound}
 use Rattle.sv_flat.specs.Views.{typed_tree, flat_statement, flat_statements, chain_of}
 use Rattle.sv_flat.specs.declared.statements.FStmt.{the_lemmas}
-use Rattle.sv_design.specs.BitSets.{piece_forms}
+use Rattle.sv_design.specs.Pieces.{piece_forms}
 use Rattle.sv_design.specs.DriverTables.{assigned_in, Notes}
 use Rattle.sv_design.proofs.NoteFacts.{notes_begin, notes_more, notes_end, both_notes, same_notes}
 use Rattle.sv_design.proofs.Sound.{next_statement, sound_rest, block_is}

@@ -8,7 +8,8 @@ use Rattle.sv_flat.specs.Processes.{is_top_kind}
 use Rattle.sv_flat.specs.Views.{design_of}
 use Rattle.sv_design.specs.declared.drivers.Driver.{Driver}
 use Rattle.sv_design.specs.First.{FindsFirst, first_found}
-use Rattle.sv_design.proofs.DriverFacts.{fault_is, made_more, signal_at, inside_design}
+use Rattle.sv_design.proofs.DriverFacts.{fault_is, signal_at, inside_design}
+use Rattle.sv_graph.proofs.ListFacts.{made_more}
 use Rattle.sv_design.proofs.Firsts.{finds_both}
 use Rattle.sv_design.proofs.drivers.first_extra_driver.Goals as goal
 

@@ -11,7 +11,8 @@ use Rattle.sv_flat.specs.Processes.{is_top_kind, is_top_input, declared_at}
 use Rattle.sv_flat.specs.Views.{design_of}
 use Rattle.sv_design.specs.First.{FindsFirst, first_found}
 use Rattle.sv_design.proofs.ClockLinks.{at_table}
-use Rattle.sv_design.proofs.DriverFacts.{none_is, passed_more, signal_at, inside_design}
+use Rattle.sv_design.proofs.DriverFacts.{none_is, signal_at, inside_design}
+use Rattle.sv_graph.proofs.ListFacts.{passed_more}
 use Rattle.sv_design.proofs.Firsts.{finds_both}
 use Rattle.sv_design.proofs.drivers.first_undriven.Goals as goal
 

@@ -1,6 +1,6 @@
 use Rattle.std.proofs.Common.{◌<◌, ◌+◌, ◌==◌, length, drop, get_or, refl, sym, ap, subst, ◌∙◌}
 use Rattle.std.proofs.lemmas.List.{at_drop_all}
-use Rattle.sv_design.specs.BitSets.{piece_forms}
+use Rattle.sv_design.specs.Pieces.{piece_forms}
 use Rattle.sv_design.specs.DriverTables.{assigned_in, Notes}
 use Rattle.sv_design.proofs.NoteFacts.{notes_begin, notes_more, notes_end}
 use Rattle.sv_design.proofs.Sound.{no_piece, piece_at, targets_first, targets_rest}

@@ -1,5 +1,5 @@
 use Rattle.std.proofs.Common.{◌≡◌, length, drop}
-use Rattle.sv_design.specs.BitSets.{piece_forms}
+use Rattle.sv_design.specs.Pieces.{piece_forms}
 use Rattle.sv_design.specs.DriverTables.{AreTargets, assigned_in}
 use Rattle.sv_design.proofs.NoteFacts.{NotesSoFar}
 use Rattle.sv_design.proofs.drivers.note_pieces.Given as goal

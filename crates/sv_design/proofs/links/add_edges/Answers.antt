@@ -3,9 +3,9 @@ use Rattle.std.proofs.Math.ListN.{length-map}
 use Rattle.std.proofs.lemmas.List.{at_drop_all, at_drop_more}
 use Rattle.sv_flat.specs.Clocks.{lists_pair}
 use Rattle.sv_flat.specs.Views.{design_of, process_form, signal_form}
-use Rattle.sv_design.specs.Graphs.{size, has_edge, GainsEdges}
+use Rattle.sv_graph.specs.Graphs.{size, has_edge, GainsEdges}
 use Rattle.sv_design.specs.Links.{is_pair, IsBelow, edge_of, edges_of}
-use Rattle.sv_design.proofs.GraphFacts.{edges_more, edges_end}
+use Rattle.sv_graph.proofs.GraphFacts.{edges_more, edges_end}
 use Rattle.sv_design.proofs.LinkFacts.{pair_first, edge_below}
 use Rattle.sv_design.proofs.Sound.{process_at}
 use Rattle.sv_design.proofs.links.add_edges.Goals as goal

@@ -1,9 +1,9 @@
 use Rattle.std.proofs.Common.{◌≡◌, map, drop}
 use Rattle.sv_flat.specs.Clocks.{lists_pair}
 use Rattle.sv_flat.specs.Views.{process_form}
-use Rattle.sv_design.specs.Graphs.{size, has_edge, IsWhole}
+use Rattle.sv_graph.specs.Graphs.{size, has_edge, IsWhole}
 use Rattle.sv_design.specs.Links.{edges_of}
-use Rattle.sv_design.proofs.GraphFacts.{EdgesSoFar}
+use Rattle.sv_graph.proofs.GraphFacts.{EdgesSoFar}
 use Rattle.sv_design.proofs.links.add_edges.Given as goal
 
 abbrev pub invariant-loop-process : goal.invariant-loop-process

@@ -13,17 +13,17 @@ use Rattle.sv_flat.specs.declared.signals.SigId.{SigId}
 use Rattle.sv_flat.specs.Design.{FlatDesign}
 use Rattle.sv_flat.specs.Reads.{is_read_for, reads_for}
 use Rattle.sv_design.specs.declared.orders.Reads.{Reads}
-use Rattle.sv_design.specs.declared.searches.Search.{Search}
-use Rattle.sv_design.specs.Graphs.{size}
-use Rattle.sv_design.specs.Marks.{is_marked}
+use Rattle.sv_graph.specs.declared.searches.Search.{Search}
+use Rattle.sv_graph.specs.Graphs.{size}
+use Rattle.sv_graph.specs.Marks.{is_marked}
 use Rattle.sv_design.specs.Numbers.{numbers}
 use Rattle.sv_design.specs.Orders.{AreReads}
-use Rattle.sv_design.specs.Searches.{IsSearch, found_by, place_of, is_found}
+use Rattle.sv_graph.specs.Searches.{IsSearch, found_by, place_of, is_found}
 use Rattle.sv_design.proofs.CircleFacts.{over, readers_whole, is_candidate}
 use Rattle.sv_design.proofs.CircleFacts.{candidate_inside, reads_size, row_reads, read_inside}
 use Rattle.sv_design.proofs.CircleFacts.{is_read, leads_down, way_is_circle, no_circle_from}
 use Rattle.sv_design.proofs.FindMap.{Finds, Searched, finds}
-use Rattle.sv_design.proofs.GraphFacts.{row_is}
+use Rattle.sv_graph.proofs.GraphFacts.{row_is}
 use Rattle.sv_design.proofs.loops.circle_from.Goals as goal
 use denote.Param.Members.{Mut}
 

@@ -1,6 +1,6 @@
 use Rattle.std.proofs.Common.{◌≡◌, true, false, sym, subst, ◌∙◌, rules}
 use Rattle.sv_design.specs.Circles.{FindsCircleFrom}
-use Rattle.sv_design.specs.Marks.{is_marked}
+use Rattle.sv_graph.specs.Marks.{is_marked}
 use Rattle.sv_flat.proofs.Depths.{second_of}
 use Rattle.sv_design.proofs.FirstCircles.{not_begun, none_here, later_here, first_here}
 use Rattle.sv_design.proofs.loops.earlier_circle.Goals as goal

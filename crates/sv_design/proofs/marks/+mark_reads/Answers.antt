@@ -4,8 +4,9 @@ use Rattle.std.proofs.lemmas.List.{at_drop_all}
 use Rattle.sv_flat.specs.Soundness.{statement_sound}
 use Rattle.sv_flat.specs.Views.{design_of, flat_statement, flat_statements, chain_of}
 use Rattle.sv_flat.specs.declared.statements.FStmt.{the_lemmas}
-use Rattle.sv_design.specs.Marks.{Marks, reads_in}
-use Rattle.sv_design.proofs.MarkFacts.{marks_more, marks_end}
+use Rattle.sv_graph.specs.Marks.{Marks}
+use Rattle.sv_design.specs.ReadMarks.{reads_in}
+use Rattle.sv_graph.proofs.MarkFacts.{marks_more, marks_end}
 use Rattle.sv_design.proofs.Sound.{next_statement, sound_first, sound_rest, block_is}
 use Rattle.sv_design.proofs.marks.+mark_reads.Goals as goal
 

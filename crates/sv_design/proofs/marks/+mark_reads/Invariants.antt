@@ -2,8 +2,8 @@ use Rattle.std.proofs.Common.{drop}
 use Rattle.std.specs.Prelude.{IsTrue}
 use Rattle.sv_flat.specs.Soundness.{statement_sound}
 use Rattle.sv_flat.specs.Views.{design_of, flat_statements, chain_of}
-use Rattle.sv_design.specs.Marks.{reads_in}
-use Rattle.sv_design.proofs.MarkFacts.{MarksSoFar}
+use Rattle.sv_design.specs.ReadMarks.{reads_in}
+use Rattle.sv_graph.proofs.MarkFacts.{MarksSoFar}
 use Rattle.sv_design.proofs.marks.+mark_reads.Given as goal
 
 abbrev pub invariant-mark_all_reads-loop-stmt : goal.invariant-mark_all_reads-loop-stmt

@@ -6,10 +6,10 @@ use Rattle.sv_flat.specs.Design.{assign, branch}
 use Rattle.sv_flat.specs.Soundness.{statement_sound}
 use Rattle.sv_flat.specs.Views.{typed_tree, flat_statement, flat_statements, chain_of}
 use Rattle.sv_flat.specs.declared.statements.FStmt.{the_lemmas}
-use Rattle.sv_design.specs.BitSets.{piece_forms}
+use Rattle.sv_design.specs.Pieces.{piece_forms}
 use Rattle.sv_design.specs.DriverTables.{assigned_in}
-use Rattle.sv_design.specs.Marks.{Marks}
-use Rattle.sv_design.proofs.MarkFacts.{marks_more, marks_end, both_marked, same_marked}
+use Rattle.sv_graph.specs.Marks.{Marks}
+use Rattle.sv_graph.proofs.MarkFacts.{marks_more, marks_end, both_marked, same_marked}
 use Rattle.sv_design.proofs.Sound.{next_statement, sound_first, sound_rest, block_is}
 use Rattle.sv_design.proofs.marks.+mark_targets.Goals as goal
 

@@ -2,7 +2,7 @@ use Rattle.std.proofs.Common.{length, drop}
 use Rattle.sv_flat.specs.Assigned.{assigns}
 use Rattle.sv_flat.specs.Views.{flat_statements, chain_of}
 use Rattle.sv_design.specs.DriverTables.{IsSoundOver}
-use Rattle.sv_design.proofs.MarkFacts.{MarksSoFar}
+use Rattle.sv_graph.proofs.MarkFacts.{MarksSoFar}
 use Rattle.sv_design.proofs.marks.+mark_targets.Given as goal
 
 abbrev pub invariant-mark_all_targets-loop-stmt : goal.invariant-mark_all_targets-loop-stmt

@@ -8,8 +8,8 @@ use Rattle.sv_flat.specs.Readings.{reads, ReadForm, names_signal}
 use Rattle.sv_flat.specs.Views.{design_of, signal_form, typed_tree}
 use Rattle.sv_design.specs.declared.names.Read.{Read}
 use Rattle.sv_design.specs.ReadForms.{read_form, read_forms}
-use Rattle.sv_design.specs.Marks.{is_marked}
-use Rattle.sv_design.proofs.MarkFacts.{any_map, marks_more, marks_end}
+use Rattle.sv_graph.specs.Marks.{is_marked}
+use Rattle.sv_graph.proofs.MarkFacts.{any_map, marks_more, marks_end}
 use Rattle.sv_design.proofs.PhaseFacts.{no_read, name_is_signal}
 use Rattle.sv_design.proofs.marks.mark_names.Goals as goal
 

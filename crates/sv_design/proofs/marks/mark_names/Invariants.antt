@@ -3,7 +3,7 @@ use Rattle.std.specs.List.{list_any}
 use Rattle.sv_flat.specs.Readings.{names_signal}
 use Rattle.sv_flat.specs.Views.{design_of, typed_tree}
 use Rattle.sv_design.specs.declared.names.Read.{Read}
-use Rattle.sv_design.proofs.MarkFacts.{MarksSoFar}
+use Rattle.sv_graph.proofs.MarkFacts.{MarksSoFar}
 use Rattle.sv_design.proofs.marks.mark_names.Given as goal
 
 -- the names so far, and those that are left

@@ -1,8 +1,8 @@
 use Rattle.std.proofs.Common.{◌<◌, ◌+◌, ◌==◌, length, drop, get_or, refl, sym, ap, subst}
 use Rattle.std.proofs.lemmas.List.{at_drop_all}
-use Rattle.sv_design.specs.BitSets.{piece_forms}
+use Rattle.sv_design.specs.Pieces.{piece_forms}
 use Rattle.sv_design.specs.DriverTables.{assigned_in}
-use Rattle.sv_design.proofs.MarkFacts.{marks_more, marks_end}
+use Rattle.sv_graph.proofs.MarkFacts.{marks_more, marks_end}
 use Rattle.sv_design.proofs.Sound.{no_piece, piece_at, targets_first, targets_rest}
 use Rattle.sv_design.proofs.marks.mark_pieces.Goals as goal
 

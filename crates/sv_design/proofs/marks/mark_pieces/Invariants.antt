@@ -1,7 +1,7 @@
 use Rattle.std.proofs.Common.{length, drop}
-use Rattle.sv_design.specs.BitSets.{piece_forms}
+use Rattle.sv_design.specs.Pieces.{piece_forms}
 use Rattle.sv_design.specs.DriverTables.{AreTargets, assigned_in}
-use Rattle.sv_design.proofs.MarkFacts.{MarksSoFar}
+use Rattle.sv_graph.proofs.MarkFacts.{MarksSoFar}
 use Rattle.sv_design.proofs.marks.mark_pieces.Given as goal
 
 abbrev pub invariant-loop-piece : goal.invariant-loop-piece

@@ -2,7 +2,7 @@ use Rattle.std.proofs.Common.{rules, tests, ◌∙◌}
 use Rattle.std.proofs.lemmas.Iterator.{YieldsList-from_slice}
 use Rattle.std.proofs.lemmas.Iterator.Consumers.{count_from_yields_List, YieldsList-from_filter}
 use Rattle.sv_flat.specs.declared.signals.SigId.{SigId}
-use Rattle.sv_design.specs.Marks.{is_marked}
+use Rattle.sv_graph.specs.Marks.{is_marked}
 use Rattle.sv_design.proofs.QueueFacts.{counted}
 use Rattle.sv_design.proofs.orders.comb_count_among.Goals as goal
 

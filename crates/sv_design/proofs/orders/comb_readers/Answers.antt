@@ -3,10 +3,10 @@ use Rattle.std.specs.Prelude.{Contains, filter}
 use Rattle.sv_flat.specs.Sets.{holds}
 use Rattle.sv_flat.proofs.Depths.{first_of}
 use Rattle.sv_flat.proofs.LeastSets.{holds-from_Contains, Contains-from_filter}
-use Rattle.sv_design.specs.Graphs.{size, row}
-use Rattle.sv_design.specs.Marks.{is_marked}
+use Rattle.sv_graph.specs.Graphs.{size, row}
+use Rattle.sv_graph.specs.Marks.{is_marked}
 use Rattle.sv_design.specs.Numbers.{numbers}
-use Rattle.sv_design.proofs.GraphFacts.{row_is}
+use Rattle.sv_graph.proofs.GraphFacts.{row_is}
 use Rattle.sv_design.proofs.ReaderFacts.{marked_within, reader_more}
 use Rattle.sv_design.proofs.orders.comb_readers.Goals as goal
 

@@ -1,5 +1,5 @@
 use Rattle.std.proofs.Common.{◌≡◌}
-use Rattle.sv_design.specs.Graphs.{size}
+use Rattle.sv_graph.specs.Graphs.{size}
 use Rattle.sv_design.proofs.ReaderFacts.{HasReaders}
 use Rattle.sv_design.proofs.orders.comb_readers.Given as goal
 

@@ -3,12 +3,12 @@ use Rattle.std.proofs.Common.{ap, ap₂, subst, ◌∙◌, arith}
 use Rattle.std.specs.Prelude.{filter}
 use Rattle.std.specs.List.{range_with_len}
 use Rattle.std.proofs.lemmas.List.{get_or_default}
-use Rattle.sv_design.specs.Graphs.{size, row}
-use Rattle.sv_design.specs.Marks.{is_marked}
+use Rattle.sv_graph.specs.Graphs.{size, row}
+use Rattle.sv_graph.specs.Marks.{is_marked}
 use Rattle.sv_design.specs.Numbers.{numbers}
-use Rattle.sv_design.specs.Queues.{comb_count}
-use Rattle.sv_design.proofs.DriverFacts.{filter_more}
-use Rattle.sv_design.proofs.GraphFacts.{row_is}
+use Rattle.sv_design.specs.Orders.{comb_count}
+use Rattle.sv_graph.proofs.ListFacts.{filter_more}
+use Rattle.sv_graph.proofs.GraphFacts.{row_is}
 use Rattle.sv_design.proofs.QueueFacts.{reads_size, counts_more}
 use Rattle.sv_design.proofs.orders.first_queue.Goals as goal
 

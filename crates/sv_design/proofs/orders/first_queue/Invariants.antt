@@ -1,9 +1,9 @@
 use Rattle.std.proofs.Common.{◌≡◌, ℕ, ◌<◌, ◌&&◌, ◌==◌, length, get_or}
 use Rattle.std.specs.Prelude.{filter}
 use Rattle.std.specs.List.{range_with_len}
-use Rattle.sv_design.specs.Marks.{is_marked}
+use Rattle.sv_graph.specs.Marks.{is_marked}
 use Rattle.sv_design.specs.Numbers.{numbers}
-use Rattle.sv_design.specs.Queues.{comb_count}
+use Rattle.sv_design.specs.Orders.{comb_count}
 use Rattle.sv_design.proofs.orders.first_queue.Given as goal
 
 abbrev pub invariant-loop-s : goal.invariant-loop-s

@@ -5,8 +5,8 @@ use Rattle.std.proofs.Math.ListN.{length-map}
 use Rattle.sv_flat.specs.Loops.{all_differ}
 use Rattle.sv_flat.specs.declared.signals.SigId.{SigId}
 use Rattle.sv_flat.proofs.LeastSets.{holds-from_Contains}
-use Rattle.sv_design.specs.Graphs.{size, row}
-use Rattle.sv_design.specs.Queues.{ordered, open_at, Settles}
+use Rattle.sv_graph.specs.Graphs.{size, row}
+use Rattle.sv_graph.specs.Queues.{ordered, open_at, Settles}
 use Rattle.sv_design.proofs.QueueFacts.{first_queued, in_order, signal_inside, readers_are}
 use Rattle.sv_design.proofs.QueueFacts.{readers_inside, readers_open, reads_size, fewer_left}
 use Rattle.sv_design.proofs.QueueFacts.{next_queued, still_inside}

@@ -1,8 +1,8 @@
 use Rattle.std.proofs.Common.{◌≡◌, ◌≤◌, length, take}
 use Rattle.sv_flat.specs.Design.{FlatDesign}
-use Rattle.sv_design.specs.Graphs.{size}
+use Rattle.sv_graph.specs.Graphs.{size}
 use Rattle.sv_design.specs.Orders.{AreReads}
-use Rattle.sv_design.specs.Queues.{ordered, open_at}
+use Rattle.sv_graph.specs.Queues.{ordered, open_at}
 use Rattle.sv_design.proofs.QueueFacts.{unseen}
 use Rattle.sv_design.proofs.ReadOrders.{Queued}
 use Rattle.sv_design.proofs.orders.read_order.Given as goal

@@ -1,5 +1,5 @@
 use Rattle.std.proofs.Common.{subst}
-use Rattle.sv_design.specs.Graphs.{size}
+use Rattle.sv_graph.specs.Graphs.{size}
 use Rattle.sv_design.proofs.ReaderFacts.{HasReaders, reads_are}
 use Rattle.sv_design.proofs.orders.reads_table.Goals as goal
 

@@ -11,10 +11,11 @@ use Rattle.sv_flat.specs.Soundness.{statement_sound}
 use Rattle.sv_flat.specs.Views.{design_of, signal_form, typed_tree, flat_statement, flat_statements}
 use Rattle.sv_flat.specs.Views.{chain_of}
 use Rattle.sv_flat.specs.declared.statements.FStmt.{the_lemmas}
-use Rattle.sv_design.specs.declared.bits.Bits.{Bits}
-use Rattle.sv_design.specs.BitSets.{in_bits, piece_forms}
+use Rattle.sv_graph.specs.declared.bit_sets.BitSet.{BitSet}
+use Rattle.sv_graph.specs.BitSets.{in_bits}
+use Rattle.sv_design.specs.Pieces.{piece_forms}
 use Rattle.sv_design.specs.Feeds.{names_sought, feeds}
-use Rattle.sv_design.specs.BitGraphs.{GainsEdges}
+use Rattle.sv_graph.specs.BitGraphs.{GainsEdges}
 use Rattle.sv_design.specs.Phases.{SameBits}
 use Rattle.sv_design.specs.Scopes.{in_scope}
 use Rattle.sv_design.proofs.BlockPasses.{targets_are}
@@ -30,10 +31,10 @@ follow-add_reads-requires-clause-targets t c =
     let pieces = piece_forms c.in-Assign.pieces.items in
     let whole = assign pieces c.in-Assign.place c.in-Assign.blocking
     (typed_tree c.in-Assign.value) in
-    targets_below signals whole c.add_pieces.new.self _
+    targets_below signals whole c.add_pieces.new.set _
     (length-map c.args.flat.now.signals.items signal_form)
     (sound_as signals c.in-Assign.is c.requires.body)
-    (only_pieces c.new-bits.result c.add_pieces.new.self _ _ c.deref.ensures.value
+    (only_pieces c.new-bits.result c.add_pieces.new.set _ _ c.deref.ensures.value
     c.new-bits.ensures c.in_ok-add_pieces-in-Assign.ensures)
 
 pub follow-add_reads-requires-clause-formed : goal.follow-add_reads-requires-clause-formed
@@ -72,13 +73,13 @@ follow-returns-in_ok-add_reads-in-Assign-clause-gains t c =
     let whole = assign pieces c.in-Assign.place c.in-Assign.blocking
     (typed_tree c.in-Assign.value) in
     let is : flat_statement c.args.stmt.now ≡ whole = ap flat_statement c.in-Assign.is in
-    let bits = only_pieces c.new-bits.result c.add_pieces.new.self _ _ c.deref.ensures.value
+    let bits = only_pieces c.new-bits.result c.add_pieces.new.set _ _ c.deref.ensures.value
     c.new-bits.ensures c.in_ok-add_pieces-in-Assign.ensures in
     subst (λ b. GainsEdges c.args.graph.now c.add_reads.new.graph
     (feeds signals c.args.sought b (in_scope c.args.later.now))) (sym is)
-    (gains_inside signals c.args.sought (typed_tree c.in-Assign.value) whole c.add_pieces.new.self
+    (gains_inside signals c.args.sought (typed_tree c.in-Assign.value) whole c.add_pieces.new.set
     c.args.graph.now c.add_reads.new.graph _ _ bits
-    (targets_are signals whole c.add_pieces.new.self
+    (targets_are signals whole c.add_pieces.new.set
     (sound_as signals c.in-Assign.is c.requires.body) bits)
     c.in_ok-add_reads-in-Assign.ensures.gains)
 
@@ -102,7 +103,7 @@ follow-follow_all-requires t c =
 
 pub follow-returns-in-Block-clause-bits : goal.follow-returns-in-Block-clause-bits
 follow-returns-in-Block-clause-bits t c =
-    subst (λ b. IfOk c.follow_all.result (λ (bits : Bits). SameBits (in_bits bits) (can_assign b)))
+    subst (λ b. IfOk c.follow_all.result (λ (bits : BitSet). SameBits (in_bits bits) (can_assign b)))
     (sym (block_is _ c.in-Block.stmts _ c.in-Block.is c.deref-in-Block.ensures.value))
     c.follow_all.ensures.bits
 

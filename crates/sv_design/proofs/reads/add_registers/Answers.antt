@@ -1,9 +1,9 @@
 use Rattle.std.proofs.Common.{◌≡◌, ◌&&◌, ◌||◌, ◌==◌, nat_lt, length, sym, ap, subst, ◌∙◌}
 use Rattle.std.proofs.Common.{arith}
-use Rattle.sv_design.specs.BitGraphs.{has_edge, IsOver, GainsEdges}
-use Rattle.sv_design.specs.Marks.{is_marked}
+use Rattle.sv_graph.specs.BitGraphs.{has_edge, IsOver, GainsEdges}
+use Rattle.sv_graph.specs.Marks.{is_marked}
 use Rattle.sv_design.proofs.FeedFacts.{registers_more, no_register}
-use Rattle.sv_design.proofs.MarkFacts.{or_no, or_three}
+use Rattle.sv_graph.proofs.MarkFacts.{or_no, or_three}
 use Rattle.sv_design.proofs.reads.add_registers.Goals as goal
 
 pub loop-s-init : goal.loop-s-init

@@ -1,6 +1,6 @@
 use Rattle.std.proofs.Common.{◌&&◌, ◌==◌, nat_lt}
-use Rattle.sv_design.specs.BitGraphs.{size, IsOver, GainsEdges}
-use Rattle.sv_design.specs.Marks.{is_marked}
+use Rattle.sv_graph.specs.BitGraphs.{size, IsOver, GainsEdges}
+use Rattle.sv_graph.specs.Marks.{is_marked}
 use Rattle.sv_design.proofs.reads.add_registers.Given as goal
 
 abbrev pub invariant-loop-s : goal.invariant-loop-s

@@ -1,6 +1,6 @@
 use Rattle.std.proofs.Common.{◌<◌, ◌^◌, sym, subst}
-use Rattle.sv_design.specs.BitGraphs.{size, has_edge, IsOver, Shortens}
-use Rattle.sv_design.proofs.FollowFacts.{through_none}
+use Rattle.sv_graph.specs.BitGraphs.{size, has_edge, IsOver, Shortens}
+use Rattle.sv_graph.proofs.FollowFacts.{through_none}
 use Rattle.sv_design.proofs.reads.follow_earlier.Goals as goal
 
 pub returns-then-not-has_edges-clause-edges : goal.returns-then-not-has_edges-clause-edges

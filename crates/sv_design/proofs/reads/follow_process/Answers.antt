@@ -4,12 +4,12 @@ use Rattle.sv_flat.specs.Processes.{is_block}
 use Rattle.sv_flat.specs.Readings.{BitSet, no_bits}
 use Rattle.sv_flat.specs.Views.{design_of, process_form, flat_statement}
 use Rattle.sv_design.specs.Feeds.{feeds, sought_in}
-use Rattle.sv_design.specs.BitGraphs.{has_edge, GainsEdges}
+use Rattle.sv_graph.specs.BitGraphs.{has_edge, GainsEdges}
 use Rattle.sv_design.specs.Scopes.{in_scope}
 use Rattle.sv_design.specs.declared.scopes.Scope.{Nothing}
 use Rattle.sv_design.proofs.BlockPasses.{in_scope-nothing}
 use Rattle.sv_design.proofs.FeedFacts.{fed_by_none}
-use Rattle.sv_design.proofs.MarkFacts.{or_no}
+use Rattle.sv_graph.proofs.MarkFacts.{or_no}
 use Rattle.sv_design.proofs.reads.follow_process.Goals as goal
 
 pub returns-then-has_none-clause-gains : goal.returns-then-has_none-clause-gains

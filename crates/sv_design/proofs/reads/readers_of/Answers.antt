@@ -7,11 +7,11 @@ use Rattle.sv_system.proofs.Lists.{Contains-map}
 use Rattle.sv_flat.specs.Design.{ProcessForm}
 use Rattle.sv_flat.specs.Views.{design_of, process_form}
 use Rattle.sv_flat.specs.Readings.{no_bits}
-use Rattle.sv_design.specs.BitGraphs.{has_edge, IsOver}
+use Rattle.sv_graph.specs.BitGraphs.{has_edge, IsOver}
 use Rattle.sv_design.specs.Feeds.{feeds, sought_in, feeds_in}
-use Rattle.sv_design.proofs.GraphFacts.{edges_more, edges_end}
+use Rattle.sv_graph.proofs.GraphFacts.{edges_more, edges_end}
 use Rattle.sv_design.proofs.ReadFacts.{body_of_process}
-use Rattle.sv_design.proofs.TableFacts.{any_more}
+use Rattle.sv_graph.proofs.ListFacts.{any_more}
 use Rattle.sv_design.proofs.reads.readers_of.Goals as goal
 
 pub loop-process-init : goal.loop-process-init

@@ -1,8 +1,8 @@
 use Rattle.std.proofs.Common.{length, map, drop}
 use Rattle.sv_flat.specs.Views.{design_of, process_form}
 use Rattle.sv_design.specs.Feeds.{feeds_in}
-use Rattle.sv_design.specs.BitGraphs.{has_edge, IsOver}
-use Rattle.sv_design.proofs.GraphFacts.{EdgesSoFar}
+use Rattle.sv_graph.specs.BitGraphs.{has_edge, IsOver}
+use Rattle.sv_graph.proofs.GraphFacts.{EdgesSoFar}
 use Rattle.sv_design.proofs.reads.readers_of.Given as goal
 
 abbrev pub invariant-loop-process : goal.invariant-loop-process

@@ -1,11 +1,11 @@
 use Rattle.std.proofs.Common.{◌≡◌, ◌<◌, ℕ, length, sym, subst, ◌∙◌}
 use Rattle.std.proofs.Math.ListN.{length-map}
 use Rattle.sv_flat.specs.Views.{design_of, signal_form}
-use Rattle.sv_design.specs.BitGraphs.{size, has_edge}
-use Rattle.sv_design.specs.Feeds.{feeds_through}
-use Rattle.sv_design.proofs.BitRows.{edge_inside}
+use Rattle.sv_graph.specs.BitGraphs.{size, has_edge}
+use Rattle.sv_graph.specs.BitGraphs.{leads_through}
+use Rattle.sv_graph.proofs.BitRows.{edge_inside}
 use Rattle.sv_design.proofs.FeedFacts.{rows_are, edge_is}
-use Rattle.sv_design.proofs.GraphFacts.{turned_edge, turned_whole}
+use Rattle.sv_graph.proofs.GraphFacts.{turned_edge, turned_whole}
 use Rattle.sv_design.proofs.reads.reads_of.Goals as goal
 
 pub returns-clause-reads : goal.returns-clause-reads
@@ -24,7 +24,7 @@ returns-clause-reads c =
     (length c.args.flat.now.signals.items) (sym count)
     c.requires.registers c.in_ok-readers.ensures.edges c.in_ok-earlier.ensures.edges
     (subst (λ m. (a b : ℕ) → b < m
-    → has_edge all a b ≡ feeds_through m (has_edge settled) (has_edge earlier) a b)
+    → has_edge all a b ≡ leads_through m (has_edge settled) (has_edge earlier) a b)
     c.in_ok-readers.ensures.over.0 c.in_ok-follow_earlier.ensures.edges)
     c.add_registers.ensures.gains)
 

@@ -1,6 +1,6 @@
 use Rattle.sv_flat.specs.Reads.{is_combinational}
 use Rattle.sv_flat.specs.Views.{design_of}
-use Rattle.sv_design.specs.Marks.{IsTable}
+use Rattle.sv_graph.specs.Marks.{IsTable}
 use Rattle.sv_design.proofs.registers.comb_table.Given as goal
 
 abbrev pub invariant-loop-s : goal.invariant-loop-s

@@ -4,7 +4,7 @@ use Rattle.sv_flat.specs.Assigned.{assigns}
 use Rattle.sv_flat.specs.Processes.{is_clocked, is_register}
 use Rattle.sv_flat.specs.Design.{ProcessForm}
 use Rattle.sv_flat.specs.Views.{design_of, process_form}
-use Rattle.sv_design.proofs.MarkFacts.{MarksSoFar}
+use Rattle.sv_graph.proofs.MarkFacts.{MarksSoFar}
 use Rattle.sv_design.proofs.registers.register_table.Given as goal
 
 abbrev pub invariant-loop-process : goal.invariant-loop-process

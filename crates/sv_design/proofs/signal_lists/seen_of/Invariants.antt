@@ -1,7 +1,7 @@
 use Rattle.std.proofs.Common.{not}
 use Rattle.sv_flat.specs.Clocks.{is_clock}
 use Rattle.sv_flat.specs.Views.{design_of}
-use Rattle.sv_design.specs.Marks.{IsTable}
+use Rattle.sv_graph.specs.Marks.{IsTable}
 use Rattle.sv_design.proofs.signal_lists.seen_of.Given as goal
 
 abbrev pub invariant-loop-s : goal.invariant-loop-s

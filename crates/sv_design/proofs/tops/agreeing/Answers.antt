@@ -9,10 +9,10 @@ use Rattle.sv_flat.specs.Clocks.{links_in, lists_pair, is_clock, agrees_with_ear
 use Rattle.sv_flat.specs.Design.{FlatDesign}
 use Rattle.sv_flat.specs.Processes.{is_top_input}
 use Rattle.sv_flat.specs.Views.{design_of, signal_form}
-use Rattle.sv_design.specs.declared.graphs.Graph.{Graph}
+use Rattle.sv_graph.specs.declared.graphs.Graph.{Graph}
 use Rattle.sv_design.specs.DriverTables.{AreClocks}
-use Rattle.sv_design.specs.Graphs.{size, has_edge, IsWhole}
-use Rattle.sv_design.specs.Marks.{IsTable}
+use Rattle.sv_graph.specs.Graphs.{size, has_edge, IsWhole}
+use Rattle.sv_graph.specs.Marks.{IsTable}
 use Rattle.sv_design.specs.Numbers.{number_if_any}
 use Rattle.sv_design.specs.Tops.{AreOrigins, leads_to, is_led, is_other_top}
 use Rattle.sv_design.specs.Tops.{IsLeadingTop}

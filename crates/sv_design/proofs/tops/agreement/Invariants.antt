@@ -1,5 +1,5 @@
 use Rattle.std.proofs.Common.{◌≡◌}
-use Rattle.sv_design.specs.Marks.{IsTable}
+use Rattle.sv_graph.specs.Marks.{IsTable}
 use Rattle.sv_design.specs.Tops.{both_have, some_before, agrees_by}
 use Rattle.sv_design.proofs.tops.agreement.Given as goal
 

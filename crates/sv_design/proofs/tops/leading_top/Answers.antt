@@ -1,8 +1,8 @@
 use Rattle.std.proofs.Common.{◌<◌, ◌∷◌, [], List, Bool, length, refl, sym, ap, subst, ◌∙◌}
 use Rattle.sv_flat.specs.Clocks.{links_in, lists_pair}
 use Rattle.sv_flat.specs.Sets.{holds, least_set}
-use Rattle.sv_design.specs.Graphs.{has_edge}
-use Rattle.sv_design.specs.Marks.{IsTable}
+use Rattle.sv_graph.specs.Graphs.{has_edge}
+use Rattle.sv_graph.specs.Marks.{IsTable}
 use Rattle.sv_design.specs.Numbers.{number_if_any}
 use Rattle.sv_design.specs.Tops.{FindsFirstOfBoth}
 use Rattle.sv_design.proofs.TopTables.{all_brought, none_leads, some_leads}

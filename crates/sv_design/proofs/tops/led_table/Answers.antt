@@ -4,12 +4,12 @@ use Rattle.std.specs.Prelude.{Contains}
 use Rattle.sv_flat.specs.Design.{FlatDesign}
 use Rattle.sv_flat.specs.Sets.{holds, least_set}
 use Rattle.sv_flat.proofs.LeastSets.{those_below}
-use Rattle.sv_design.specs.Graphs.{size, has_edge}
-use Rattle.sv_design.specs.Marks.{IsTable}
+use Rattle.sv_graph.specs.Graphs.{size, has_edge}
+use Rattle.sv_graph.specs.Marks.{IsTable}
 use Rattle.sv_design.specs.Numbers.{numbers}
-use Rattle.sv_design.specs.Searches.{Brings}
+use Rattle.sv_graph.specs.Searches.{Brings}
 use Rattle.sv_design.specs.Tops.{AreSinks, leads_to}
-use Rattle.sv_design.proofs.TableFacts.{if_ok}
+use Rattle.sv_graph.proofs.FoundTables.{if_ok}
 use Rattle.sv_design.proofs.TopTables.{led_are, all_brought}
 use Rattle.sv_design.proofs.tops.led_table.Goals as goal
 

@@ -1,6 +1,6 @@
 use Rattle.sv_flat.specs.Processes.{is_top_input}
 use Rattle.sv_flat.specs.Views.{design_of}
-use Rattle.sv_design.specs.Marks.{IsTable}
+use Rattle.sv_graph.specs.Marks.{IsTable}
 use Rattle.sv_design.proofs.tops.top_table.Given as goal
 
 abbrev pub invariant-loop-signal : goal.invariant-loop-signal

@@ -7,9 +7,9 @@ use Rattle.sv_system.proofs.Lists.{Contains-map}
 use Rattle.sv_flat.specs.Design.{InvariantForm}
 use Rattle.sv_flat.specs.Readings.{names_signal}
 use Rattle.sv_flat.specs.Views.{design_of, invariant_form}
-use Rattle.sv_design.specs.Marks.{is_marked}
-use Rattle.sv_design.proofs.MarkFacts.{marks_more, marks_end}
-use Rattle.sv_design.proofs.TableFacts.{any_more}
+use Rattle.sv_graph.specs.Marks.{is_marked}
+use Rattle.sv_graph.proofs.MarkFacts.{marks_more, marks_end}
+use Rattle.sv_graph.proofs.ListFacts.{any_more}
 use Rattle.sv_design.proofs.UseFacts.{invariant_formed}
 use Rattle.sv_design.proofs.uses.mark_invariant_uses.Goals as goal
 

@@ -3,7 +3,7 @@ use Rattle.std.specs.List.{list_any}
 use Rattle.sv_flat.specs.Design.{InvariantForm}
 use Rattle.sv_flat.specs.Readings.{names_signal}
 use Rattle.sv_flat.specs.Views.{design_of, invariant_form}
-use Rattle.sv_design.proofs.MarkFacts.{MarksSoFar}
+use Rattle.sv_graph.proofs.MarkFacts.{MarksSoFar}
 use Rattle.sv_design.proofs.uses.mark_invariant_uses.Given as goal
 
 abbrev pub invariant-loop-invariant : goal.invariant-loop-invariant

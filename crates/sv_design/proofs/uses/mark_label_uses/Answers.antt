@@ -9,10 +9,10 @@ use Rattle.sv_flat.specs.Clocks.{selects_by}
 use Rattle.sv_flat.specs.Design.{SignalForm}
 use Rattle.sv_flat.specs.declared.signals.Signal.{Signal}
 use Rattle.sv_flat.specs.Views.{design_of, signal_form}
-use Rattle.sv_design.specs.Marks.{is_marked}
+use Rattle.sv_graph.specs.Marks.{is_marked}
 use Rattle.sv_design.specs.Selectors.{SelectsBelow}
-use Rattle.sv_design.proofs.MarkFacts.{marks_more, marks_end}
-use Rattle.sv_design.proofs.TableFacts.{any_more}
+use Rattle.sv_graph.proofs.MarkFacts.{marks_more, marks_end}
+use Rattle.sv_graph.proofs.ListFacts.{any_more}
 use Rattle.sv_design.proofs.UseFacts.{label_below}
 use Rattle.sv_design.proofs.uses.mark_label_uses.Goals as goal
 

@@ -3,7 +3,7 @@ use Rattle.std.specs.List.{list_any}
 use Rattle.sv_flat.specs.Clocks.{selects_by}
 use Rattle.sv_flat.specs.Design.{SignalForm}
 use Rattle.sv_flat.specs.Views.{design_of, signal_form}
-use Rattle.sv_design.proofs.MarkFacts.{MarksSoFar}
+use Rattle.sv_graph.proofs.MarkFacts.{MarksSoFar}
 use Rattle.sv_design.proofs.uses.mark_label_uses.Given as goal
 
 abbrev pub invariant-loop-signal : goal.invariant-loop-signal

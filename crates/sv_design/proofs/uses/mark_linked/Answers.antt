@@ -5,10 +5,10 @@ use Rattle.std.proofs.lemmas.List.{at_drop_all, at_drop_more}
 use Rattle.sv_flat.specs.Clocks.{link_in, links_in}
 use Rattle.sv_flat.specs.Views.{design_of, process_form, signal_form}
 use Rattle.sv_design.specs.Links.{links_in_of, IsBelow}
-use Rattle.sv_design.specs.Marks.{is_marked, Marks}
+use Rattle.sv_graph.specs.Marks.{is_marked, Marks}
 use Rattle.sv_design.specs.Selectors.{is_port}
 use Rattle.sv_design.proofs.LinkFacts.{link_in_below}
-use Rattle.sv_design.proofs.MarkFacts.{marks_more, marks_end}
+use Rattle.sv_graph.proofs.MarkFacts.{marks_more, marks_end}
 use Rattle.sv_design.proofs.Sound.{process_at}
 use Rattle.sv_design.proofs.UseFacts.{port_first}
 use Rattle.sv_design.proofs.uses.mark_linked.Goals as goal

@@ -3,7 +3,7 @@ use Rattle.std.specs.List.{list_any}
 use Rattle.sv_flat.specs.Clocks.{links_in}
 use Rattle.sv_flat.specs.Views.{design_of, process_form}
 use Rattle.sv_design.specs.Links.{links_in_of}
-use Rattle.sv_design.proofs.MarkFacts.{MarksSoFar}
+use Rattle.sv_graph.proofs.MarkFacts.{MarksSoFar}
 use Rattle.sv_design.proofs.uses.mark_linked.Given as goal
 
 abbrev pub invariant-loop-process : goal.invariant-loop-process

@@ -3,10 +3,10 @@ use Rattle.std.specs.List.{list_any}
 use Rattle.std.proofs.lemmas.List.{at_drop_all}
 use Rattle.sv_flat.specs.Clocks.{uses_as_signal}
 use Rattle.sv_flat.specs.Views.{design_of, process_form}
-use Rattle.sv_design.specs.Marks.{is_marked}
-use Rattle.sv_design.proofs.MarkFacts.{marks_more, marks_end}
+use Rattle.sv_graph.specs.Marks.{is_marked}
+use Rattle.sv_graph.proofs.MarkFacts.{marks_more, marks_end}
 use Rattle.sv_design.proofs.Sound.{process_at}
-use Rattle.sv_design.proofs.TableFacts.{any_more}
+use Rattle.sv_graph.proofs.ListFacts.{any_more}
 use Rattle.sv_design.proofs.uses.mark_process_uses.Goals as goal
 
 pub loop-process-init : goal.loop-process-init

@@ -2,7 +2,7 @@ use Rattle.std.proofs.Common.{map, drop}
 use Rattle.std.specs.List.{list_any}
 use Rattle.sv_flat.specs.Clocks.{uses_as_signal}
 use Rattle.sv_flat.specs.Views.{design_of, process_form}
-use Rattle.sv_design.proofs.MarkFacts.{MarksSoFar}
+use Rattle.sv_graph.proofs.MarkFacts.{MarksSoFar}
 use Rattle.sv_design.proofs.uses.mark_process_uses.Given as goal
 
 abbrev pub invariant-loop-process : goal.invariant-loop-process

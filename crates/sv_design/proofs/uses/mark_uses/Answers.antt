@@ -4,8 +4,8 @@ use Rattle.sv_flat.specs.Assigned.{assigns}
 use Rattle.sv_flat.specs.Soundness.{kind_sound, statement_sound}
 use Rattle.sv_flat.specs.Views.{design_of, process_form, signal_form}
 use Rattle.sv_flat.proofs.Depths.{second_of}
-use Rattle.sv_design.specs.Marks.{reads_in}
-use Rattle.sv_design.proofs.MarkFacts.{both_marked}
+use Rattle.sv_design.specs.ReadMarks.{reads_in}
+use Rattle.sv_graph.proofs.MarkFacts.{both_marked}
 use Rattle.sv_design.proofs.UseFacts.{process_uses}
 use Rattle.sv_design.proofs.uses.mark_uses.Goals as goal
 

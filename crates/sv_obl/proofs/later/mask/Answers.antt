@@ -1,8 +1,8 @@
 use Rattle.std.proofs.Common.{ap, ◌∙◌, arith}
 use Rattle.std.proofs.Math.Nat.{pow-le-pow_right}
 use Rattle.std.proofs.lemmas.Nat.{one_shl}
-use Rattle.sv_design.specs.BitSets.{is_set}
-use Rattle.sv_design.proofs.BitFacts.{run_has, run_is}
+use Rattle.sv_graph.specs.BitSets.{is_set}
+use Rattle.sv_graph.proofs.BitFacts.{run_has, run_is}
 use Rattle.sv_obl.proofs.later.mask.Goals as goal
 
 pub overflow_sub-result : goal.overflow_sub-result

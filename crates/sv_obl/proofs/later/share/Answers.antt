@@ -1,4 +1,4 @@
-use Rattle.sv_design.proofs.BitFacts.{common_bit, bit_in_common}
+use Rattle.sv_graph.proofs.BitFacts.{common_bit, bit_in_common}
 use Rattle.sv_obl.proofs.later.share.Goals as goal
 
 pub returns : goal.returns

@@ -10,7 +10,7 @@ use Rattle.sv_flat.specs.Soundness.{statement_sound}
 use Rattle.sv_flat.specs.Views.{typed_tree, flat_statement, flat_statements, chain_of}
 use Rattle.sv_flat.specs.declared.statements.FStmt.{the_lemmas}
 use Rattle.sv_flat.proofs.NumberedRuns.{no_branch}
-use Rattle.sv_design.proofs.EntryFacts.{nothing_in}
+use Rattle.sv_graph.proofs.EntryFacts.{nothing_in}
 use Rattle.sv_design.proofs.Passes.{sound_at}
 use Rattle.sv_design.proofs.Sound.{branch_is, sound_as}
 use Rattle.sv_obl.specs.declared.later.Bits.{Bits}

@@ -4,7 +4,7 @@ use Rattle.std.proofs.lemmas.Bool.{false≢true}
 use Rattle.std.proofs.lemmas.List.{length-replicate, take_all}
 use Rattle.sv_flat.specs.Values.{signal_width}
 use Rattle.sv_flat.proofs.LeastSets.{those_below, those_pass}
-use Rattle.sv_design.specs.Marks.{is_marked}
+use Rattle.sv_graph.specs.Marks.{is_marked}
 use Rattle.sv_gates.specs.Gates.{false_literal}
 use Rattle.sv_encoding.specs.Bodies.{with_word}
 use Rattle.sv_blast.specs.FollowedWords.{forms_in, follows_in}

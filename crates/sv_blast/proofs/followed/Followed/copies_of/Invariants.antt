@@ -1,6 +1,6 @@
 use Rattle.std.proofs.Common.{◌≡◌, ◌++◌, map, filter, nat_cmp}
 use Rattle.std.specs.BTreeSet.{IsOrdered}
-use Rattle.sv_design.specs.Marks.{is_marked}
+use Rattle.sv_graph.specs.Marks.{is_marked}
 use Rattle.sv_design.specs.Numbers.{numbers}
 use Rattle.sv_obl.specs.Wanted.{copy_of}
 use Rattle.sv_blast.specs.FollowedWords.{forms_in}

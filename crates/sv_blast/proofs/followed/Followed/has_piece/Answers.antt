@@ -4,7 +4,7 @@ use Rattle.std.proofs.lemmas.Iterator.Search.{any_from_yields_List}
 use Rattle.sv_flat.specs.declared.statements.Piece.{Piece}
 use Rattle.sv_flat.specs.Design.{PieceForm}
 use Rattle.sv_flat.specs.Views.{piece_form}
-use Rattle.sv_design.specs.Marks.{is_marked}
+use Rattle.sv_graph.specs.Marks.{is_marked}
 use Rattle.sv_obl.proofs.PieceFacts.{any_formed}
 use Rattle.sv_blast.proofs.followed.Followed.has_piece.Goals as goal
 

@@ -1,6 +1,6 @@
 use Rattle.std.proofs.Common.{filter, nat_cmp}
 use Rattle.std.specs.BTreeSet.{IsOrdered}
-use Rattle.sv_design.specs.Marks.{is_marked}
+use Rattle.sv_graph.specs.Marks.{is_marked}
 use Rattle.sv_encoding.specs.Sizes.{widths_of}
 use Rattle.sv_blast.specs.FollowedWords.{forms_in}
 use Rattle.sv_blast.proofs.FollowedLoops.{WidthsAt}

@@ -7,7 +7,7 @@ use Rattle.sv_flat.specs.Design.{ProcessForm}
 use Rattle.sv_flat.specs.Reads.{followed}
 use Rattle.sv_flat.specs.Views.{design_of, signal_form}
 use Rattle.sv_flat.specs.declared.designs.Flat.{Flat}
-use Rattle.sv_design.specs.Marks.{followed_in}
+use Rattle.sv_graph.specs.Marks.{followed_in}
 use Rattle.sv_design.proofs.FollowTables.{starts_below, table_follows, table_size}
 use Rattle.sv_design.proofs.design.Design.follows.Goals as goal
 

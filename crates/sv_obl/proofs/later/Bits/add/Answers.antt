@@ -1,6 +1,6 @@
 use Rattle.std.proofs.Common.{ap}
 use Rattle.std.specs.Prelude.{bit_or}
-use Rattle.sv_design.proofs.BitFacts.{gained}
+use Rattle.sv_graph.proofs.BitFacts.{gained}
 use Rattle.sv_obl.proofs.later.Bits.add.Goals as goal
 
 pub returns : goal.returns

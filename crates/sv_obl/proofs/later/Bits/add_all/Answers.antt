@@ -1,9 +1,9 @@
 use Rattle.std.proofs.Common.{◌≡◌, ◌||◌, ap, ◌∙◌, rules}
 use Rattle.std.specs.BTreeMap.{IsOrdered}
 use Rattle.std.specs.Ordering.{nat_cmp}
-use Rattle.sv_design.specs.BitSets.{in_entries}
+use Rattle.sv_graph.specs.BitSets.{in_entries}
 use Rattle.sv_obl.specs.Later.{in_bits}
-use Rattle.sv_design.proofs.EntryFacts.{entries_are}
+use Rattle.sv_graph.proofs.EntryFacts.{entries_are}
 use Rattle.sv_obl.proofs.later.Bits.add_all.Goals as goal
 
 pub loop-signal-init : goal.loop-signal-init

@@ -1,5 +1,5 @@
 use Rattle.std.proofs.Common.{◌≡◌, ℕ, ◌||◌}
-use Rattle.sv_design.specs.BitSets.{in_entries}
+use Rattle.sv_graph.specs.BitSets.{in_entries}
 use Rattle.sv_obl.specs.Later.{in_bits}
 use Rattle.sv_obl.proofs.later.Bits.add_all.Given as goal
 

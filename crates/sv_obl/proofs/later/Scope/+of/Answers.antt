@@ -1,6 +1,6 @@
 use Rattle.std.proofs.Common.{◌||◌, ap, ap₂, sym, ◌∙◌}
 use Rattle.sv_lattice.proofs.TableLemmas.{or_test}
-use Rattle.sv_design.specs.BitSets.{is_set}
+use Rattle.sv_graph.specs.BitSets.{is_set}
 use Rattle.sv_obl.specs.Later.{in_scope}
 use Rattle.sv_obl.proofs.LaterFacts.{in_scope-inside}
 use Rattle.sv_obl.proofs.later.Scope.+of.Goals as goal

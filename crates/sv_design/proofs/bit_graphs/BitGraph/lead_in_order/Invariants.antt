@@ -1,9 +1,0 @@
-use Rattle.sv_design.specs.BitGraphs.{size, has_edge, IsOver, Shortens}
-use Rattle.sv_design.proofs.bit_graphs.BitGraph.lead_in_order.Given as goal
-
-abbrev pub invariant-loop-from : goal.invariant-loop-from
-invariant-loop-from l =
-    let n = size l.initial.self in
-    IsOver n l.self
-    × (Shortens n (has_edge l.first) (has_edge l.initial.self) 0
-    → Shortens n (has_edge l.first) (has_edge l.self) 0)

@@ -1,9 +1,0 @@
-use Rattle.std.proofs.Common.{◌≡◌, ℕ, ◌&&◌, ◌||◌}
-use Rattle.sv_design.specs.BitSets.{in_bits, in_entries}
-use Rattle.sv_design.proofs.bits.Bits.common.Given as goal
-
--- the bits so far, and those of the entries that are left
-abbrev pub invariant-loop-signal : goal.invariant-loop-signal
-invariant-loop-signal l = (s b : ℕ)
-    → (in_bits l.both s b || (in_entries l.signal-iterator s b && in_bits l.other s b)) ≡
-    (in_bits l.self s b && in_bits l.other s b)

@@ -1,7 +1,0 @@
-use Rattle.std.proofs.Common.{take}
-use Rattle.sv_design.specs.Numbers.{numbers}
-use Rattle.sv_design.specs.Queues.{Settles}
-use Rattle.sv_design.proofs.orders.Queue.settle_all.Given as goal
-
-abbrev pub invariant-loop-reader : goal.invariant-loop-reader
-invariant-loop-reader l = Settles l.initial.self l.self (take l.reader-index (numbers l.readers))

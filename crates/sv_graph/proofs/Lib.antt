@@ -1,0 +1,12 @@
+pub mod ListFacts
+pub mod BitFacts
+pub mod MarkFacts
+pub mod GraphFacts
+pub mod SearchFacts
+pub mod Differing
+pub mod EntryFacts
+pub mod FollowFacts
+pub mod BitRows
+pub mod Ways
+pub mod QueueFacts
+pub mod FoundTables

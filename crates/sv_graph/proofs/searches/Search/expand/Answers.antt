@@ -1,0 +1,102 @@
+use Rattle.std.proofs.Common.{◌≡◌, ◌<◌, length, get_or, drop, sym, ap, subst, ◌∙◌, arith}
+use Rattle.std.proofs.lemmas.List.Elements.{Contains-get_or}
+use Rattle.std.proofs.lemmas.List.{at_drop_all, get_or-map}
+use Rattle.std.proofs.Math.ListN.{length-map}
+use Rattle.sv_system.proofs.Lists.{Contains-map}
+use Rattle.sv_flat.proofs.LeastSets.{holds-from_Contains}
+use Rattle.sv_flat.specs.Sets.{holds}
+use Rattle.sv_flat.specs.declared.signals.SigId.{SigId}
+use Rattle.sv_graph.specs.declared.searches.Search.{Search}
+use Rattle.sv_graph.specs.declared.searches.Step.{Step}
+use Rattle.sv_graph.specs.Graphs.{size, row}
+use Rattle.sv_graph.specs.Numbers.{numbers}
+use Rattle.sv_graph.specs.Searches.{found_by}
+use Rattle.sv_graph.proofs.GraphFacts.{row_is}
+use Rattle.sv_graph.proofs.SearchFacts.{visit_size, expand_more, expand_end}
+use Rattle.sv_graph.proofs.searches.Search.expand.Goals as goal
+
+no_signal : SigId
+no_signal = record { 0 = 0 }
+
+-- the signal of the step at a place
+signal_at : (search : Search) (place : _) (step : Step) → place < length (found_by search)
+    → step ≡ get_or search.steps.items place step
+    → step.signal.0 ≡ get_or (found_by search) place 0
+signal_at search place step inside is =
+    let f = λ (s : Step). s.signal.0 in
+    ap f is ∙ sym (get_or-map f search.steps.items place step 0
+    (subst (λ n. place < n) (length-map search.steps.items f) inside))
+
+pub index-requires-2 : goal.index-requires-2
+index-requires-2 c =
+    let here = signal_at c.args.self.now c.args.place c.index.result.now c.requires.place
+    c.index.ensures in
+    let inside = subst (λ s.
+    s < size c.args.graph.now) (sym here) (c.requires.within c.args.place c.requires.place) in
+    omega arith
+
+pub visit-requires : goal.visit-requires
+unfolding no_signal
+visit-requires c =
+    let here = signal_at c.args.self.now c.args.place c.index.result.now c.requires.place
+    c.index.ensures in
+    let inside = subst (λ s.
+    s < size c.args.graph.now) (sym here) (c.requires.within c.args.place c.requires.place) in
+    let signals = c.as_slice-row.result.now in
+    let is : numbers signals ≡ row c.args.graph.now c.index.result.now.signal.0 =
+    ap numbers c.as_slice-row.ensures.value
+    ∙ row_is c.args.graph.now c.index.result.now.signal.0 c.index-2.result.now inside
+    c.index-2.ensures in
+    let x = get_or signals c.loop-next.next-index no_signal in
+    let member = Contains-map (λ (s : SigId).
+    s.0) signals x (Contains-get_or signals c.loop-next.next-index no_signal
+    c.loop-next-test.true) in
+    subst (λ n. x.0 < n) (sym c.loop-next.invariant.0)
+    (c.requires.whole c.index.result.now.signal.0 x.0 (ap (λ r. holds r x.0) (sym is)
+    ∙ holds-from_Contains (numbers signals) x.0 member))
+
+pub loop-next-preserved : goal.loop-next-preserved
+unfolding no_signal
+loop-next-preserved c =
+    let here = signal_at c.args.self.now c.args.place c.index.result.now c.requires.place
+    c.index.ensures in
+    let inside = subst (λ s.
+    s < size c.args.graph.now) (sym here) (c.requires.within c.args.place c.requires.place) in
+    let signals = c.as_slice-row.result.now in
+    let i = c.loop-next.next-index in
+    let is : numbers signals ≡
+    row c.args.graph.now (get_or (found_by c.args.self.now) c.args.place 0) =
+    ap numbers c.as_slice-row.ensures.value
+    ∙ row_is c.args.graph.now c.index.result.now.signal.0 c.index-2.result.now inside
+    c.index-2.ensures
+    ∙ ap (row c.args.graph.now) here in (
+      visit_size c.loop-next.self c.visit.new.self c.args.least (get_or signals i no_signal).0
+          c.args.place c.in_ok-visit.ensures
+          ∙ c.loop-next.invariant.0,
+      λ brings starts bring within before.
+          expand_more c.args.graph.now c.args.least c.args.place signals
+          (get_or (found_by c.args.self.now) c.args.place 0)
+          c.args.self.now c.loop-next.self c.visit.new.self i no_signal brings starts bring within
+          c.requires.whole is c.loop-next-test.true
+          c.in_ok-visit.ensures (c.loop-next.invariant.1 brings starts bring within before),
+    )
+
+pub returns : goal.returns
+unfolding no_signal
+returns c = λ brings starts bring within before.
+    let here = signal_at c.args.self.now c.args.place c.index.result.now c.requires.place
+    c.index.ensures in
+    let inside = subst (λ s.
+    s < size c.args.graph.now) (sym here) (c.requires.within c.args.place c.requires.place) in
+    let signals = c.as_slice-row.result.now in
+    let is : numbers signals ≡
+    row c.args.graph.now (get_or (found_by c.args.self.now) c.args.place 0) =
+    ap numbers c.as_slice-row.ensures.value
+    ∙ row_is c.args.graph.now c.index.result.now.signal.0 c.index-2.result.now inside
+    c.index-2.ensures
+    ∙ ap (row c.args.graph.now) here in
+    expand_end c.args.graph.now c.args.least c.args.place signals
+    (get_or (found_by c.args.self.now) c.args.place 0)
+    c.args.self.now c.loop-next.self brings starts (drop c.loop-next.next-index signals) bring is
+    (at_drop_all numbers signals c.loop-next.next-index c.loop-next-test.false)
+    (c.loop-next.invariant.1 brings starts bring within before)

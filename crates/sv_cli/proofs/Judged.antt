@@ -7,6 +7,7 @@ use Rattle.std.specs.Option.{option_copied}
 use denote.Ref.{Bor}
 use Rattle.std.proofs.lemmas.List.Elements.{All-nil, All-append, All-map, All-weaker}
 use Rattle.std.proofs.lemmas.Result.{IfOk-weaker}
+use Rattle.sv_obl.proofs.TargetFacts.{get_all}
 use Rattle.sv_clause.specs.Logs.{Step}
 use Rattle.sv_flat.specs.Clocks.{processes_of}
 use Rattle.sv_flat.specs.Design.{ProcessForm, FlatDesign}
@@ -37,7 +38,6 @@ use Rattle.sv_cli.specs.Checks.{IsTooLarge, Spends, Decides, accepts, falsifies,
 use Rattle.sv_cli.specs.Checks.{Checks, exceeds, decides}
 use Rattle.sv_cli.specs.Limits.{TellsLimit, ExceedsLimit}
 use Rattle.sv_cli.specs.Prepared.{Readies, Reports, Says, MayStoreOwn, MayStoreBytes, StoresBytes}
-use Rattle.sv_cli.proofs.Numbered.{get_all}
 
 -- ---- each obligation asks of labels
 

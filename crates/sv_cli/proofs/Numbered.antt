@@ -1,11 +1,9 @@
 -- The obligation of a number, where those of one target are looked at after the other.
 use Rattle.std.proofs.Common.{◌≡◌, ℕ, ◌+◌, ◌-◌, ◌<◌, ◌≤◌, ◌++◌, zero, suc, List, [], ◌∷◌, map}
-use Rattle.std.proofs.Common.{length, Option, Some, None, refl, sym, ◌∙◌, ap, subst, arith}
+use Rattle.std.proofs.Common.{length, Option, Some, None, refl, sym, ◌∙◌, ap, arith}
 use Rattle.std.proofs.Common.{length-append}
 use Rattle.std.specs.Prelude.{slice_get, option_map, IfSome, All, Result, Ok, Err, IfOk}
-use Rattle.std.proofs.lemmas.List.Elements.{All-get_or}
-use Rattle.std.proofs.lemmas.Option.{slice_get_within, slice_get-map}
-use Rattle.std.proofs.lemmas.Option.{get_or_from_slice_get}
+use Rattle.std.proofs.lemmas.Option.{slice_get-map}
 use Rattle.sv_flat.specs.Design.{FlatDesign}
 use Rattle.sv_obl.specs.DesignQueries.{IsQueryOf}
 use Rattle.sv_obl.specs.ListParts.{IsAt, obligations_before, obligations_from}
@@ -13,6 +11,7 @@ use Rattle.sv_obl.specs.Obligations.{Obligation, obligations, target_obligations
 use Rattle.sv_obl.specs.Views.{obligation_of}
 use Rattle.sv_obl.specs.declared.list_parts.Listing.{Listing}
 use Rattle.sv_obl.specs.declared.queries.Query.{Query}
+use Rattle.sv_obl.proofs.TargetFacts.{get_all}
 use Rattle.sv_obl.proofs.WrittenFacts.{before_and_from, from_next, next_before}
 use Rattle.sv_cli.specs.Clauses.{IsFoundOrNext}
 
@@ -37,13 +36,6 @@ module _ {A : Type 0} where
   get_first [] zs k y is = absurd cc
   get_first (x ∷ ys) zs zero y is = is
   get_first (x ∷ ys) zs (suc k) y is = get_first ys zs k y is
-
-  -- what holds of all elements holds of the one that stands there
-  pub get_all : (P : A → Type 0) (xs : List A) (k : ℕ) (x : A) → All P xs
-      → slice_get xs k ≡ Some x → P x
-  get_all P xs k x all is =
-      subst P (get_or_from_slice_get xs k x x is)
-      (All-get_or P xs k x (slice_get_within xs k x is) all)
 
   -- nothing stands past the end alone
   pub none_past : (xs : List A) (k : ℕ) → slice_get xs k ≡ None → length xs ≤ k

@@ -7,6 +7,7 @@ use Rattle.std.specs.List.{AllZip}
 use Rattle.std.proofs.Math.Nat.{pow-le-pow_right}
 use Rattle.std.proofs.lemmas.List.{take_all}
 use Rattle.std.proofs.lemmas.List.Elements.{All-drop, All-weaker}
+use Rattle.sv_obl.proofs.TargetFacts.{get_all}
 use Rattle.sv_clause.specs.Logs.{Step, plain_log}
 use Rattle.sv_clause.specs.declared.logs.Log.{Log}
 use Rattle.sv_flat.specs.Design.{FlatDesign}
@@ -18,7 +19,7 @@ use Rattle.sv_judge.specs.Answers.{HasUnitConflict}
 use Rattle.sv_judge.specs.Progress.{first_obligations, IsSpared, IsStanding, AreKept, verdict_of}
 use Rattle.sv_judge.specs.Verdicts.{IsProvedFor, IsAccepted, AreRefutations, AreWithin, IsSpent}
 use Rattle.sv_judge.specs.declared.verdicts.Spent.{Spent}
-use Rattle.sv_judge.proofs.Lists.{get_all, zip_length}
+use Rattle.sv_judge.proofs.Lists.{zip_length}
 
 module _ (design : FlatDesign) (budget count : ℕ)
     (counted : count ≡ length (obligations [] design)) where

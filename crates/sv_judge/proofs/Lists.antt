@@ -3,9 +3,8 @@ use Rattle.std.proofs.Common.{◌≡◌, ℕ, ◌+◌, ◌++◌, zero, suc, List
 use Rattle.std.proofs.Common.{length, Some, refl, sym, ◌∙◌, ap, subst, arith}
 use Rattle.std.specs.Prelude.{slice_get, All}
 use Rattle.std.specs.List.{AllZip}
-use Rattle.std.proofs.lemmas.List.{take_more}
-use Rattle.std.proofs.lemmas.List.Elements.{All-get_or, All-push}
-use Rattle.std.proofs.lemmas.Option.{slice_get_within, get_or_from_slice_get}
+use Rattle.std.proofs.lemmas.List.Elements.{All-push}
+use Rattle.sv_obl.proofs.TargetFacts.{take_next}
 
 none_more : (k : ℕ) → 0 + k ≡ k
 none_more k = omega arith
@@ -26,20 +25,6 @@ module _ {A : Type 0} where
   get_first [] zs k y is = absurd cc
   get_first (x ∷ ys) zs zero y is = is
   get_first (x ∷ ys) zs (suc k) y is = get_first ys zs k y is
-
-  -- what holds of all elements holds of the one that stands there
-  pub get_all : (P : A → Type 0) (xs : List A) (k : ℕ) (x : A) → All P xs
-      → slice_get xs k ≡ Some x → P x
-  get_all P xs k x all is =
-      subst P (get_or_from_slice_get xs k x x is)
-      (All-get_or P xs k x (slice_get_within xs k x is) all)
-
-  -- one element more
-  pub take_next : (xs : List A) (k : ℕ) (x : A) → slice_get xs k ≡ Some x
-      → take (k + 1) xs ≡ take k xs ++ x ∷ []
-  take_next xs k x is =
-      take_more xs k x (slice_get_within xs k x is)
-      ∙ ap (λ y. take k xs ++ y ∷ []) (get_or_from_slice_get xs k x x is)
 
   pub all_next : (P : A → Type 0) (xs : List A) (k : ℕ) (x : A) → slice_get xs k ≡ Some x
       → All P (take k xs) → P x → All P (take (k + 1) xs)

@@ -2,6 +2,7 @@
 use Rattle.std.proofs.Common.{ℕ, ◌<◌, ◌≤◌, ◌^◌, List, [], arith}
 use Rattle.std.specs.Prelude.{All}
 use Rattle.std.proofs.Math.Nat.{pow-le-pow_right}
+use Rattle.sv_obl.proofs.TargetFacts.{get_all}
 use Rattle.sv_clause.specs.Logs.{Step, clauses_of}
 use Rattle.sv_flat.specs.Design.{FlatDesign}
 use Rattle.sv_obl.specs.DesignQueries.{IsQueryOf}
@@ -14,7 +15,6 @@ use Rattle.sv_solve.proofs.Knowing.{conflict_more}
 use Rattle.sv_decide.proofs.SpentSize.{spent_short}
 use Rattle.sv_judge.specs.Answers.{HasAtMost, HasUnitConflict}
 use Rattle.sv_judge.specs.Verdicts.{IsSpent}
-use Rattle.sv_judge.proofs.Lists.{get_all}
 
 module _ (design : FlatDesign) (budget number : ℕ) (steps : List Step)
     (spent : IsSpent design budget number steps) where

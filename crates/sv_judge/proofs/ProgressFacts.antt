@@ -6,6 +6,7 @@ use Rattle.std.specs.Prelude.{slice_get, take, IsTrue, IsFalse, IsSome, All}
 use Rattle.std.specs.List.{AllZip}
 use Rattle.std.proofs.lemmas.List.{map-append}
 use Rattle.std.proofs.lemmas.List.Elements.{All-push}
+use Rattle.sv_obl.proofs.TargetFacts.{take_next}
 use Rattle.sv_clause.specs.Logs.{Step, plain_log}
 use Rattle.sv_clause.specs.declared.logs.Log.{Log}
 use Rattle.sv_flat.specs.Design.{FlatDesign}
@@ -17,7 +18,7 @@ use Rattle.sv_judge.specs.Progress.{first_obligations, IsSpared, IsStanding, Are
 use Rattle.sv_judge.specs.Progress.{HasDone}
 use Rattle.sv_judge.specs.declared.progress.Progress.{Progress}
 use Rattle.sv_judge.specs.declared.verdicts.Spent.{Spent}
-use Rattle.sv_judge.proofs.Lists.{take_next, all_next, zip_push}
+use Rattle.sv_judge.proofs.Lists.{all_next, zip_push}
 
 module _ (design : FlatDesign) (budget count : ℕ) (o : Obligation)
     (is : slice_get (obligations [] design) count ≡ Some o) where

@@ -10,7 +10,7 @@ use Rattle.sv_clause.specs.Logs.{Step, plain_step, plain_log}
 use Rattle.sv_clause.specs.declared.logs.Log.{Log}
 use Rattle.sv_flat.specs.Design.{FlatDesign}
 use Rattle.sv_obl.specs.Obligations.{Obligation, obligations}
-use Rattle.sv_obl.proofs.TargetFacts.{length_mapped}
+use Rattle.sv_obl.proofs.TargetFacts.{length_mapped, get_all}
 use Rattle.sv_proof.specs.Certificate.{IsWritableLog, AreLogs, plain_logs, proof_text}
 use Rattle.sv_proof.specs.Checking.{HasFault}
 use Rattle.sv_proof.specs.FaultLines.{fault_line}
@@ -29,7 +29,7 @@ use Rattle.sv_judge.specs.declared.verifying.Flaw.{Flaw}
 use Rattle.sv_judge.specs.declared.verifying.Flaw.TheVariants as flaws
 use Rattle.sv_judge.specs.declared.verdicts.Verified.{Verified}
 use Rattle.sv_judge.specs.declared.verdicts.Verified.TheVariants.{Accepted, Fault, TooLarge}
-use Rattle.sv_judge.proofs.Lists.{get_all, zip_next}
+use Rattle.sv_judge.proofs.Lists.{zip_next}
 
 module _ (design : FlatDesign) (logs : List (List Step)) where
   abbrev all : List Obligation

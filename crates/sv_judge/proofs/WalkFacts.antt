@@ -14,10 +14,10 @@ use Rattle.sv_obl.specs.Views.{obligation_of}
 use Rattle.sv_obl.specs.declared.list_parts.Listing.{Listing}
 use Rattle.sv_obl.specs.declared.queries.Query.{Query}
 use Rattle.sv_obl.specs.declared.target_paths.TargetPaths.{TargetPaths}
-use Rattle.sv_obl.proofs.TargetFacts.{length_mapped}
+use Rattle.sv_obl.proofs.TargetFacts.{length_mapped, get_all}
 use Rattle.sv_obl.proofs.WrittenFacts.{before_and_from, from_next, next_before}
 use Rattle.sv_judge.specs.Walking.{IsNext, AreNext, ComeNext}
-use Rattle.sv_judge.proofs.Lists.{get_behind, get_first, get_all}
+use Rattle.sv_judge.proofs.Lists.{get_behind, get_first}
 
 two_sums : {a b c d : ℕ} → a ≡ c → b ≡ d → a + b ≡ c + d
 two_sums first second = omega arith

@@ -10,10 +10,12 @@ use Rattle.sv_num.specs.declared.faults.Place.{Place}
 use Rattle.sv_flat.specs.Design.{SignalForm, TypedTree, typed, choice, PieceForm, FlatStatement}
 use Rattle.sv_flat.specs.Design.{nothing, after, assign, branch}
 use Rattle.sv_flat.specs.Assigned.{assigns}
+use Rattle.sv_obl.specs.declared.conditions.Condition.{Condition}
 use Rattle.sv_obl.specs.declared.queries.Step.{Step}
 use Rattle.sv_obl.specs.declared.trails.Trail.{Trail}
 use Rattle.sv_obl.specs.Alongs.{WayForm, next_arm, later_arms, on_arm, with_step, along_ways}
 use Rattle.sv_obl.specs.Alongs.{along_own, along_assign, along, open_way}
+use Rattle.sv_obl.specs.AlongViews.{condition_form}
 use Rattle.sv_obl.specs.Paths.{StepForm, step_with}
 use Rattle.sv_obl.specs.Trails.{TrailForm, open_trail, wanted_signals, takes, marked_by, own_pieces, whole_from}
 use Rattle.sv_obl.specs.Trails.{with_right_put}
@@ -75,25 +77,26 @@ pub none_later : (arms : List Bool) (n : ℕ) → length arms ≤ n
 none_later arms n past = drop_all n arms past ∙ sym (ap later_arms (drop_all n arms past))
 
 -- with other arms
-abbrev pub with_arms : Trail → List Step → List Bool → WayForm
-with_arms trail steps arms =
-    record { trail = trail_form trail; steps = map step_form steps; arms = arms }
+abbrev pub with_arms : Trail → List Condition → List Bool → WayForm
+with_arms trail conditions arms =
+    record { trail = trail_form trail; steps = map condition_form conditions; arms = arms }
 
 -- ---- one step more
 
 pub step_added : (count : ℕ) (step : StepForm) (way : WayForm) (trail : TrailForm)
-    (steps more : List Step) (one : Step)
+    (conditions more : List Condition) (one : Condition)
     → trail ≡ marked_by count (record { truth = step.truth; place = step.place }) step.condition
     way.trail
-    → way.steps ≡ map step_form steps → more ≡ steps ++ one ∷ [] → step_form one ≡ step
-    → record { trail = trail; steps = map step_form more; arms = way.arms }
+    → way.steps ≡ map condition_form conditions → more ≡ conditions ++ one ∷ []
+    → condition_form one ≡ step
+    → record { trail = trail; steps = map condition_form more; arms = way.arms }
     ≡ with_step count step way
-step_added count step way trail steps more one marked so_far made is =
+step_added count step way trail conditions more one marked so_far made is =
     let whole : TrailForm → List StepForm → WayForm = λ t ss.
     record { trail = t; steps = ss; arms = way.arms } in
     ap₂ whole marked
-    (ap (map step_form) made
-    ∙ map-append step_form steps (one ∷ [])
+    (ap (map condition_form) made
+    ∙ map-append condition_form conditions (one ∷ [])
     ∙ ap₂ (λ ss s. ss ++ s ∷ []) (sym so_far) is)
 
 -- ---- one arm is taken
@@ -194,34 +197,60 @@ module _ (signals : List SignalForm) (s : ℕ) (pieces : List PieceForm) (right 
 -- ---- at the ends
 
 -- where the path is walked along from
-pub begins : (s : ℕ) (trail : TrailForm) (steps : List Step) (given arms : List Bool)
-    → trail ≡ open_trail s → steps ≡ [] → given ≡ arms
-    → record { trail = trail; steps = map step_form steps; arms = drop 0 given } ≡ open_way s arms
-begins s trail steps given arms opened none same =
-    let whole : TrailForm → List Step → WayForm = λ t ss.
-    record { trail = t; steps = map step_form ss; arms = given } in
+pub begins : (s : ℕ) (trail : TrailForm) (conditions : List Condition) (given arms : List Bool)
+    → trail ≡ open_trail s → conditions ≡ [] → given ≡ arms
+    → record { trail = trail; steps = map condition_form conditions; arms = drop 0 given }
+    ≡ open_way s arms
+begins s trail conditions given arms opened none same =
+    let whole : TrailForm → List Condition → WayForm = λ t cs.
+    record { trail = t; steps = map condition_form cs; arms = given } in
     let on : List Bool → WayForm = λ bs.
     record { trail = open_trail s; steps = []; arms = bs } in
     ap₂ whole opened none ∙ ap on same
 
 -- one more of those that are left is the last but the ones so far
-pub turned_more : (turned more rest left all : List Step) (step : Step)
-    → more ≡ turned ++ step ∷ [] → rest ≡ left ++ step ∷ []
-    → turned ++ reverse rest ≡ all → more ++ reverse left ≡ all
-turned_more turned more rest left all step made split so_far =
-    ap (λ xs. xs ++ reverse left) made
-    ∙ append_assoc turned (step ∷ []) (reverse left)
+turned_more : (turned rest left all : List StepForm) (step : StepForm)
+    → rest ≡ left ++ step ∷ [] → turned ++ reverse rest ≡ all
+    → (turned ++ step ∷ []) ++ reverse left ≡ all
+turned_more turned rest left all step split so_far =
+    append_assoc turned (step ∷ []) (reverse left)
     ∙ ap (λ xs. turned ++ xs) (sym (ap reverse split ∙ reverse-append left (step ∷ [])))
     ∙ so_far
 
--- one more condition in which something is put
-pub put_next : (f : StepForm → StepForm) (made more seen : List Step) (one step : Step)
-    → more ≡ made ++ one ∷ [] → step_form one ≡ f (step_form step)
-    → map step_form made ≡ map f (map step_form seen)
-    → map step_form more ≡ map f (map step_form (seen ++ step ∷ []))
-put_next f made more seen one step gains is so_far =
-    ap (map step_form) gains
-    ∙ map-append step_form made (one ∷ [])
-    ∙ ap₂ (λ xs x. xs ++ x ∷ []) so_far is
-    ∙ sym (ap (map f) (map-append step_form seen (step ∷ []))
-    ∙ map-append f (map step_form seen) (step_form step ∷ []))
+-- one more condition, changed, as the last
+more_changed : {X : Type 0} (form : X → StepForm) (f : StepForm → StepForm) (seen : List X)
+    (one : X) → map f (map form (seen ++ one ∷ []))
+    ≡ map f (map form seen) ++ f (form one) ∷ []
+more_changed form f seen one =
+    ap (map f) (map-append form seen (one ∷ []))
+    ∙ map-append f (map form seen) (form one ∷ [])
+
+module _ (f : StepForm → StepForm) where
+  -- one more condition in which something is put
+  pub put_next : (made more seen : List Condition) (one condition : Condition)
+      → more ≡ made ++ one ∷ [] → condition_form one ≡ f (condition_form condition)
+      → map condition_form made ≡ map f (map condition_form seen)
+      → map condition_form more ≡ map f (map condition_form (seen ++ condition ∷ []))
+  put_next made more seen one condition gains is so_far =
+      ap (map condition_form) gains
+      ∙ map-append condition_form made (one ∷ [])
+      ∙ ap₂ (λ xs x. xs ++ x ∷ []) so_far is
+      ∙ sym (more_changed condition_form f seen condition)
+
+  -- one more of those that are left, behind the ones so far
+  pub closed_next : (closed more : List Step) (rest left : List Condition) (all : List StepForm)
+      (one : Step) (condition : Condition)
+      → more ≡ closed ++ one ∷ [] → rest ≡ left ++ condition ∷ []
+      → step_form one ≡ f (condition_form condition)
+      → map step_form closed ++ reverse (map f (map condition_form rest)) ≡ all
+      → map step_form more ++ reverse (map f (map condition_form left)) ≡ all
+  closed_next closed more rest left all one condition gains split is so_far =
+      let changed = map f (map condition_form left) in
+      ap (λ xs. map step_form xs ++ reverse changed) gains
+      ∙ ap (λ xs. xs ++ reverse changed)
+      (map-append step_form closed (one ∷ [])
+      ∙ ap (λ x. map step_form closed ++ x ∷ []) is)
+      ∙ turned_more (map step_form closed) (map f (map condition_form rest)) changed all
+      (f (condition_form condition))
+      (ap (λ cs. map f (map condition_form cs)) split
+      ∙ more_changed condition_form f left condition) so_far

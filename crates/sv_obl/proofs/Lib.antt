@@ -1,6 +1,7 @@
 pub mod AlongFacts
 pub mod BlockFollows
 pub mod Closing
+pub mod ConditionFacts
 pub mod DesignQueryFacts
 pub mod DrivenTargets
 pub mod DrivenTrails

@@ -133,8 +133,8 @@ impl<'p> Put<'p> {
         }
     }
 
-    // Whether something is put for a name, where there are so many signals.
-    fn has_for(self, count: u32, name: SigId) -> bool
+    /// Whether something is put for a name, where there are so many signals.
+    pub fn has_for(self, count: u32, name: SigId) -> bool
         ensures { result ≡ is_put_at count self.entry name.0 }
     {
         name.0 >= count && self.has(SigId(name.0 - count))

@@ -39,6 +39,7 @@
 
 mod body_slices;
 mod checked;
+mod conditions;
 mod exchange;
 mod faults;
 mod frames;

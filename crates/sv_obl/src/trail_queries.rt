@@ -1,12 +1,12 @@
 // The obligation of one path through a body with earlier reads. The path is walked once more, along
 // the arms that it took, and its conditions are made into expressions on the way.
-ghost use Rattle.std.specs.Prelude.{◌≡◌, ◌<◌, map, reverse, length, None, IfOk, OnOk};
+ghost use Rattle.std.specs.Prelude.{◌≡◌, ◌<◌, false, map, reverse, length, None, IfOk, OnOk};
 ghost use Rattle.sv_flat.specs.ByNumber.{signal_forms};
 ghost use Rattle.sv_flat.specs.Views.{typed_tree, process_form};
 ghost use Rattle.sv_obl.specs.Alongs.{next_arm, on_arm, with_step, along_ways, along_own};
 ghost use Rattle.sv_obl.specs.Alongs.{along_assign, along};
 ghost use Rattle.sv_obl.specs.Alongs.{conditions_along, trail_obligation};
-ghost use Rattle.sv_obl.specs.AlongViews.{way_form};
+ghost use Rattle.sv_obl.specs.AlongViews.{condition_form, way_form};
 ghost use Rattle.sv_obl.specs.Exchange.{exchanged as exchanged_tree};
 ghost use Rattle.sv_obl.specs.MarkedBodies.{marked_statement, TellsTargets};
 ghost use Rattle.sv_obl.specs.Paths.{step_with};
@@ -14,8 +14,9 @@ ghost use Rattle.sv_obl.specs.PutIn.{put_for, CanBePut, AreInWords, HasWords};
 ghost use Rattle.sv_obl.specs.RouteViews.{piece_forms};
 ghost use Rattle.sv_obl.specs.TrailViews.{trail_form};
 ghost use Rattle.sv_obl.specs.Views.{step_form, obligation_of};
-ghost use Rattle.sv_obl.specs.Wanted.{with_copies};
+ghost use Rattle.sv_obl.specs.Wanted.{with_copies, closed_tree};
 
+use crate::conditions::Condition;
 use crate::exchange::{Put, with_put};
 use crate::list_lines::Mark;
 use crate::marked::Marked;
@@ -33,7 +34,7 @@ use sv_num::Place;
 #[derive(Drop)]
 struct Making<'c> {
     trail: Trail,
-    steps: Vec<Step>,
+    conditions: Vec<Condition>,
     choices: &'c [bool],
     next: usize,
 }
@@ -71,35 +72,32 @@ impl<'c> Making<'c> {
     {
         self.trail
             .add_mark(alloc, count, Mark { truth, place }, cond)?;
-        self.steps.push(Step {
+        let step = Step {
             place,
             cond: cond.copy(alloc)?,
             truth,
-        })?;
+        };
+        self.conditions.push(Condition::new(alloc, count, step)?)?;
         Ok(())
     }
 }
 
 // The conditions with what is put into each; an error where one nests too deep then.
-fn put_in_steps(
+fn put_in_conditions(
     alloc: Global,
     signals: &[Signal],
-    steps: Vec<Step>,
+    conditions: Vec<Condition>,
     put: Put,
-) -> Result<Vec<Step>, AllocError>
+) -> Result<Vec<Condition>, AllocError>
     requires few { length signals.now < 4294967296 }
     requires put { CanBePut put }
-    ensures { IfOk result (λ made. map step_form made.items ≡ map (step_with (exchanged_tree
+    ensures { IfOk result (λ made. map condition_form made.items ≡ map (step_with (exchanged_tree
         (with_copies (signal_forms signals.now)) (put_for (signal_forms signals.now) put.entry)))
-        (map step_form steps.items)) }
+        (map condition_form conditions.items)) }
 {
-    let mut made = Vec::with_capacity(alloc, steps.len())?;
-    for step in steps {
-        made.push(Step {
-            place: step.place,
-            cond: with_put(step.cond, alloc, signals, put)?,
-            truth: step.truth,
-        })?;
+    let mut made = Vec::with_capacity(alloc, conditions.len())?;
+    for condition in conditions {
+        made.push(condition.with_put(alloc, signals, put)?)?;
     }
     Ok(made)
 }
@@ -171,8 +169,9 @@ fn along_assign<'c>(
     making
         .trail
         .put_right(alloc, signals, target, pieces, right)?;
-    let steps = mem::replace(&mut making.steps, Vec::new(alloc));
-    making.steps = put_in_steps(alloc, signals, steps, Put::Pieces(pieces, right))?;
+    let conditions = mem::replace(&mut making.conditions, Vec::new(alloc));
+    let put = Put::Pieces(pieces, right);
+    making.conditions = put_in_conditions(alloc, signals, conditions, put)?;
     match whole {
         Some(from) => along_ways(right, alloc, count, from, making),
         None => along_rest(alloc, count, times, right, making),
@@ -267,16 +266,29 @@ fn along_arm<'c>(
     making.add(alloc, signals.len() as u32, place, cond, truth)
 }
 
-// The conditions in textual order.
-fn turned(alloc: Global, steps: Vec<Step>) -> Result<Vec<Step>, AllocError>
-    ensures { IfOk result (λ made. made.items ≡ reverse steps.items) }
+// The conditions in textual order, at the beginning of the process; an error where one nests too
+// deep then.
+fn closed(
+    alloc: Global,
+    signals: &[Signal],
+    conditions: Vec<Condition>,
+) -> Result<Vec<Step>, AllocError>
+    requires few { length signals.now < 4294967296 }
+    ensures { IfOk result (λ steps. map step_form steps.items
+        ≡ reverse (map (step_with (closed_tree (signal_forms signals.now) false))
+        (map condition_form conditions.items))) }
 {
-    let mut rest = steps;
-    let mut turned = Vec::with_capacity(alloc, rest.len())?;
-    while let Some(step) = rest.pop() {
-        turned.push(step)?;
+    let mut rest = conditions;
+    let mut closed = Vec::with_capacity(alloc, rest.len())?;
+    while let Some(condition) = rest.pop() {
+        let Step { place, cond, truth } = condition.step;
+        closed.push(Step {
+            place,
+            cond: with_put(cond, alloc, signals, Put::Zero)?,
+            truth,
+        })?;
     }
-    Ok(turned)
+    Ok(closed)
 }
 
 // The conditions of the path, in textual order.
@@ -296,13 +308,12 @@ fn steps_along(
 {
     let mut making = Making {
         trail: Trail::open(alloc, target),
-        steps: Vec::new(alloc),
+        conditions: Vec::new(alloc),
         choices: trail.choices.as_slice(),
         next: 0,
     };
     along(body, alloc, signals, target, &mut making)?;
-    let steps = put_in_steps(alloc, signals, making.steps, Put::Zero)?;
-    turned(alloc, steps)
+    closed(alloc, signals, making.conditions)
 }
 
 /// The obligation of a path of the target through the process; an error where memory runs out.

@@ -2,13 +2,12 @@ use Rattle.std.proofs.Common.{◌≡◌, map, sym, ap, subst, ◌∙◌, Vec, Gl
 use Rattle.std.specs.Prelude.{OnOk}
 use Rattle.sv_flat.specs.ByNumber.{signal_forms}
 use Rattle.sv_flat.specs.Views.{typed_tree}
-use Rattle.sv_obl.specs.declared.queries.Step.{Step}
+use Rattle.sv_obl.specs.declared.conditions.Condition.{Condition}
 use Rattle.sv_obl.specs.Alongs.{WayForm}
-use Rattle.sv_obl.specs.AlongViews.{way_form}
+use Rattle.sv_obl.specs.AlongViews.{condition_form, way_form}
 use Rattle.sv_obl.specs.Paths.{step_with}
 use Rattle.sv_obl.specs.RouteViews.{piece_forms}
 use Rattle.sv_obl.specs.TrailViews.{trail_form}
-use Rattle.sv_obl.specs.Views.{step_form}
 use Rattle.sv_obl.specs.Wanted.{put_in}
 use Rattle.sv_obl.proofs.AlongFacts.{whole_along, rest_along}
 use Rattle.sv_obl.proofs.TrailFacts.{form_count}
@@ -22,11 +21,11 @@ returns-in-Some c =
     subst (λ (f : WayForm). OnOk c.along_ways.result (way_form c.along_ways.new.making ≡ f))
     (whole_along (signal_forms signals) c.args.target.0 (piece_forms c.args.pieces.now)
     (typed_tree c.args.right.now) (way_form c.args.making.now) (trail_form c.put_right.new.self)
-    (map step_form c.in_ok-making.field-0.items) _ (sym (form_count signals))
+    (map condition_form c.in_ok-making.field-0.items) _ (sym (form_count signals))
     c.in_ok-put_right.ensures
     (c.in_ok-making.ensures
-    ∙ ap (λ (steps : Vec Step Global). map put (map step_form steps.items))
-    c.replace-steps.ensures.value)
+    ∙ ap (λ (v : Vec Condition Global). map put (map condition_form v.items))
+    c.replace-conditions.ensures.value)
     _ (sym c.whole_from-whole.ensures ∙ c.in-Some.is))
     c.along_ways.ensures
 
@@ -38,10 +37,10 @@ returns-in-None c =
     subst (λ (f : WayForm). OnOk c.along_rest.result (way_form c.along_rest.new.making ≡ f))
     (rest_along (signal_forms signals) c.args.target.0 (piece_forms c.args.pieces.now)
     (typed_tree c.args.right.now) (way_form c.args.making.now) (trail_form c.put_right.new.self)
-    (map step_form c.in_ok-making.field-0.items) _ (sym (form_count signals))
+    (map condition_form c.in_ok-making.field-0.items) _ (sym (form_count signals))
     c.in_ok-put_right.ensures
     (c.in_ok-making.ensures
-    ∙ ap (λ (steps : Vec Step Global). map put (map step_form steps.items))
-    c.replace-steps.ensures.value)
+    ∙ ap (λ (v : Vec Condition Global). map put (map condition_form v.items))
+    c.replace-conditions.ensures.value)
     _ c.own_pieces-times.ensures (sym c.whole_from-whole.ensures ∙ c.in-None.is))
     c.along_rest.ensures

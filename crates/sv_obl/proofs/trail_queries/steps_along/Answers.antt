@@ -9,7 +9,6 @@ use Rattle.sv_obl.specs.TrailViews.{trail_form}
 use Rattle.sv_obl.specs.Views.{step_form}
 use Rattle.sv_obl.specs.Wanted.{closed_tree}
 use Rattle.sv_obl.proofs.AlongFacts.{begins}
-use Rattle.sv_obl.proofs.RouteFacts.{reversed_map}
 use Rattle.sv_obl.proofs.SliceChains.{on_ok}
 use Rattle.sv_obl.proofs.trail_queries.steps_along.Goals as goal
 
@@ -25,11 +24,8 @@ returns c =
     ∙ ap (along forms s body) (begins s (trail_form c.open.result) c.new.result.items
     c.as_slice.result.now trail.choices c.open.ensures c.new.ensures.items
     c.as_slice.ensures.value) in
-    let closed : map step_form c.in_ok-steps.steps.items
-    ≡ map close (along forms s body (open_way s trail.choices)).steps =
-    c.in_ok-steps.ensures ∙ ap (λ (w : WayForm). map close w.steps) way in
-    on_ok c.turned.result (λ (v : Vec Step Global). v.items ≡ reverse c.in_ok-steps.steps.items)
+    on_ok c.closed.result (λ (v : Vec Step Global). map step_form v.items
+    ≡ reverse (map close (way_form c.along.new.making).steps))
     (λ (v : Vec Step Global). map step_form v.items ≡ conditions_along forms s body trail)
-    (λ v is. ap (map step_form) is ∙ reversed_map step_form c.in_ok-steps.steps.items
-    ∙ ap reverse closed)
-    c.turned.ensures
+    (λ v is. is ∙ ap (λ (w : WayForm). reverse (map close w.steps)) way)
+    c.closed.ensures

@@ -1,9 +1,10 @@
-use Rattle.std.proofs.Common.{refl, ap}
+use Rattle.std.proofs.Common.{refl, ap, ◌∙◌}
 use Rattle.sv_flat.specs.Design.{TypedTree}
 use Rattle.sv_flat.specs.Views.{typed_tree}
 use Rattle.sv_obl.specs.AlongViews.{way_form}
 use Rattle.sv_obl.specs.Paths.{StepForm}
 use Rattle.sv_obl.specs.TrailViews.{trail_form}
+use Rattle.sv_obl.specs.Views.{step_form}
 use Rattle.sv_obl.proofs.AlongFacts.{step_added}
 use Rattle.sv_obl.proofs.trail_queries.Making.add.Goals as goal
 
@@ -12,5 +13,6 @@ returns c =
     let step : TypedTree → StepForm = λ e.
     record { place = c.args.place; condition = e; truth = c.args.truth } in
     step_added c.args.count (step (typed_tree c.args.cond.now)) (way_form c.args.self.now)
-    (trail_form c.add_mark.new.self) c.args.self.now.steps.items c.push.new.self.items _
-    c.in_ok-add_mark.ensures refl c.in_ok-push.ensures.items (ap step c.in_ok-copy.ensures)
+    (trail_form c.add_mark.new.self) c.args.self.now.conditions.items c.push.new.self.items
+    _ c.in_ok-add_mark.ensures refl c.in_ok-push.ensures.items
+    (ap step_form c.in_ok-new.ensures ∙ ap step c.in_ok-copy.ensures)

@@ -9,7 +9,7 @@ returns-then-next-choices-clause-arm c =
 pub returns-then-next-choices-clause-way : goal.returns-then-next-choices-clause-way
 returns-then-next-choices-clause-way c =
     let old = c.args.self.now in
-    ap (with_arms old.trail old.steps.items) (later_are old.choices.now old.next)
+    ap (with_arms old.trail old.conditions.items) (later_are old.choices.now old.next)
 
 pub returns-else-next-choices-clause-arm : goal.returns-else-next-choices-clause-arm
 returns-else-next-choices-clause-arm c =
@@ -18,5 +18,5 @@ returns-else-next-choices-clause-arm c =
 pub returns-else-next-choices-clause-way : goal.returns-else-next-choices-clause-way
 returns-else-next-choices-clause-way c =
     let old = c.args.self.now in
-    ap (with_arms old.trail old.steps.items)
+    ap (with_arms old.trail old.conditions.items)
     (none_later old.choices.now old.next c.if-next-choices.false)

@@ -73,12 +73,12 @@ struct Fitful {
 }
 
 impl Fitful {
-    fn next(&mut self) -> Result<usize> {
+    fn next(&mut self) -> Result<bool> {
         self.calls = self.calls.saturating_add(1);
         match self.calls {
             1 => Err(Error::from(ErrorKind::Interrupted)),
-            2 | 4 => Ok(1),
-            3 => Ok(0),
+            2 | 4 => Ok(true),
+            3 => Ok(false),
             _ => Err(Error::from(ErrorKind::BrokenPipe)),
         }
     }
@@ -86,13 +86,15 @@ impl Fitful {
 
 impl Read for Fitful {
     fn read(&mut self, buf: &mut [u8]) -> Result<usize> {
-        if buf.is_empty() { Ok(0) } else { self.next() }
+        let moves = self.next()?;
+        Ok(if moves && !buf.is_empty() { 1 } else { 0 })
     }
 }
 
 impl Write for Fitful {
     fn write(&mut self, buf: &[u8]) -> Result<usize> {
-        if buf.is_empty() { Ok(0) } else { self.next() }
+        let moves = self.next()?;
+        Ok(if moves && !buf.is_empty() { 1 } else { 0 })
     }
 
     fn flush(&mut self) -> Result<()> {

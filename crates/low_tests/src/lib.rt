@@ -1,6 +1,11 @@
-//! Tests of files and streams. What the program calls of this layer on its way is tried through it
-//! (`tests/`). The tests stand in a crate of their own, since a crate with tests is proved twice.
+//! Tests of files and streams, and of clauses and gates with answers worked by hand. What the
+//! program calls of these layers on its way is tried through it (`tests/`). The tests stand in a
+//! crate of their own, since a crate with tests is proved twice.
 #![tactic(auto)]
 
 #[cfg(test)]
+mod clauses;
+#[cfg(test)]
 mod files;
+#[cfg(test)]
+mod gates;

@@ -2,18 +2,18 @@
 # Admits designs at the limits and runs one of 4,096 signals. First it prints, for three kinds of designs (a chain of wires, one block
 # that assigns every signal in nested branches, one block of many statements), the processor time of admission at 1/4, 1/2 and the
 # whole of the limit, the ratio of the last two (asked: at most 2.3), and that of the whole against a whole run of iverilog on the
-# same text (asked: at most a quarter). Then it prints a table of the cycles in a second on a design of 4,096 signals: a row each for the
-# simulator's core, vvp and Verilator's program, where they are installed, with the ratio of the core's cycles to these (asked: at
-# least 3 to vvp's). Last come the greatest ratio of admission and the ratio to vvp.
+# same text (asked: at most a quarter). Admission is what `secv sim` of a level that is not there (707) takes more than `sim` of the
+# same text where its last name is refused (401). Then it prints a table of the cycles in a second on a design of 4,096 signals: a row
+# each for the simulator's core, vvp and Verilator's program, where they are installed, with the ratio of the core's cycles to these
+# (asked: at least 3 to vvp's). All signals are secret, so `sim --level L` prints the number of a cycle alone; a run without cycles is
+# taken off. Last come the greatest ratio of admission and the ratio to vvp. The variable SECV may name another program to measure.
 set -eu
 top=$(CDPATH='' cd -- "$(dirname -- "$0")/.." && pwd -P)
 work=$(mktemp -d)
 trap 'rm -rf "$work"' EXIT
-cd "$top/crates/simulation_bench"
-mkdir -p out
-rt run <stdin >out/build.log 2>&1 || { cat out/build.log; exit 1; }
-PYTHONPATH="$top/bench" python3 - "$top/crates/simulation_bench/out/simulation_bench" "$work" <<'PY'
-import os, shutil, subprocess, sys, time
+program=${SECV:-$("$top/secv" --path)}
+PYTHONPATH="$top/bench" python3 - "$program" "$work" <<'PY'
+import os, resource, shutil, subprocess, sys, time
 
 from results import note
 
@@ -54,12 +54,12 @@ def statements(size):
 
 
 def datapath(size):
-    """Registers with a wire each, which reads the wire before it and the register."""
+    """Registers with a wire each, which reads the wire before it and the register; all but the clock are secret."""
     count = (size - 4) // 2
-    yield "module m(input clk, input [31:0] a, output [31:0] y, z);\n"
+    yield "module m(input clk, input [31:0] {H} a, output [31:0] {H} y, z);\n"
     for i in range(count):
         before = f"w{i - 1}" if i % 16 else "a"
-        yield f"  reg [31:0] r{i}; wire [31:0] w{i}; assign w{i} = (r{i} + {before}) ^ (r{(i * 7) % count} & a);\n"
+        yield f"  reg [31:0] {{H}} r{i}; wire [31:0] {{H}} w{i}; assign w{i} = (r{i} + {before}) ^ (r{(i * 7) % count} & a);\n"
         yield f"  always @(posedge clk) r{i} <= w{i} + 32'd{i};\n"
     yield f"  assign y = w{count - 1}; assign z = w0;\nendmodule\n"
 
@@ -79,9 +79,30 @@ def timed(words, text=None):
     return best, said
 
 
+def spent(name, text, words, refusal, given=""):
+    """The least processor seconds of five runs of `secv sim`, or of one that takes over 5, each of which ends with this refusal, or with none."""
+    path = os.path.join(work, name)
+    with open(path, "w") as file:
+        file.write(text)
+    best = None
+    for _ in range(5):
+        before = resource.getrusage(resource.RUSAGE_CHILDREN)
+        done = subprocess.run([program, "sim", path, *words], input=given, capture_output=True, text=True)
+        after = resource.getrusage(resource.RUSAGE_CHILDREN)
+        if done.returncode != (1 if refusal else 0) or refusal not in done.stdout:
+            sys.exit(f"sim {path} ended with {done.returncode}: {done.stdout[-400:]}")
+        took = after.ru_utime + after.ru_stime - before.ru_utime - before.ru_stime
+        best = took if best is None else min(best, took)
+        if best > 5:
+            break
+    return best
+
+
 def admission(text):
-    """The least processor seconds of admission in five runs."""
-    return min(int(subprocess.run([program, "0"], input=text, capture_output=True, text=True, check=True).stdout.split()[1]) for _ in range(5)) / 1e6
+    """The processor seconds of admission: up to a level that is not there, less those up to the last name, where that is refused."""
+    front, _, _ = text.rpartition("assign y = ")
+    whole = spent("whole.v", text, ["--level", "none"], "refused 707")
+    return max(whole - spent("front.v", f"{front}assign y = nothing;\nendmodule\n", [], "refused 401"), 1e-6)
 
 
 def admissions():
@@ -143,9 +164,10 @@ def cycles_of_verilator(text, cycles):
 def running():
     text = "".join(datapath(SIGNALS))
     cycles = 20000
-    spent = min(int(subprocess.run([program, str(cycles)], input=text, capture_output=True, text=True, check=True).stdout.split()[2]) for _ in range(3))
-    ours = cycles / (spent / 1e6)
-    rows = [("secv", ours)]
+    given = "inputs a\n" + "".join(f"{(i * 2654435761 + 1) % 2**32:x}\n" for i in range(cycles))
+    took = spent("core.v", text, ["--level", "L"], "", given) - spent("core.v", text, ["--level", "L"], "", "inputs a\n")
+    ours = cycles / max(took, 1e-6)
+    rows, text = [("secv", ours)], text.replace(" {H}", "")
     if shutil.which("vvp"):
         rows.append(("vvp", cycles_of_vvp(text, 2000)))
     if shutil.which("verilator"):

@@ -1,4 +1,6 @@
 """What `width.sh` runs: it is given the program, a folder and how often an expression is evaluated."""
+import functools
+import operator
 import os
 import random
 import resource
@@ -15,16 +17,28 @@ SIGNALS = (("a", 32, True), ("b", 32, False), ("c", 16, True), ("d", 64, False))
 STEP = 6364136223846793005
 
 
-def declared():
-    return [f"signal {name} {width} {'signed' if signed else 'unsigned'}" for name, width, signed in SIGNALS]
-
-
-def run(words, text=""):
+def run(words, text="", statuses=(0,)):
     """What a program writes, and its processor time in seconds."""
     before = resource.getrusage(resource.RUSAGE_CHILDREN)
-    told = subprocess.run(words, input=text, capture_output=True, text=True, check=True).stdout
+    told = subprocess.run(words, input=text, capture_output=True, text=True, check=False)
     after = resource.getrusage(resource.RUSAGE_CHILDREN)
-    return told, after.ru_utime + after.ru_stime - before.ru_utime - before.ru_stime
+    if told.returncode not in statuses:
+        sys.exit(f"{words} ended with {told.returncode}: {told.stdout[-200:]}")
+    return told.stdout, after.ru_utime + after.ru_stime - before.ru_utime - before.ru_stime
+
+
+def put(name, *lines):
+    """A file that holds these lines."""
+    path = os.path.join(FOLDER, name)
+    with open(path, "w", encoding="ascii") as file:
+        file.write("\n".join([*lines, ""]))
+    return path
+
+
+def header():
+    """The head of a design with the signals as its inputs."""
+    ports = ", ".join(f"input {'signed ' if signed else ''}[{width - 1}:0] {name}" for name, width, signed in SIGNALS)
+    return f"module m({ports}, output [63:0] y);"
 
 
 # ---- evaluating
@@ -48,6 +62,27 @@ def tree(tokens, operators, draw, names="abcd"):
     return ["(", *left, ")", draw.choice(operators), "(", *right, ")"]
 
 
+def steps():
+    """What is added to each signal in a cycle, from the value 0 on."""
+    odd = 1
+    for name, width, _ in SIGNALS:
+        odd = odd * STEP % 2**64
+        yield name, width, odd % 2**width
+
+
+def stimulus(times):
+    """The values of the signals in so many cycles."""
+    lines = ["inputs " + " ".join(name for name, *_ in SIGNALS)]
+    for turn in range(1, times + 1):
+        lines.append(" ".join(f"{step * turn % 2**width:x}" for _, width, step in steps()))
+    return "\n".join([*lines, ""])
+
+
+def traced(text, given):
+    """The trace of the expression's values as `y`, and the processor time of `secv sim`."""
+    return run([PROGRAM, "sim", put("design.v", header(), f"  assign y = {text};", "endmodule")], given)
+
+
 def vvp_source(text, times):
     lines = ["module bench;"]
     for name, width, signed in SIGNALS:
@@ -55,18 +90,13 @@ def vvp_source(text, times):
     lines += [f"wire [63:0] y = {text};", "reg [63:0] all;", "integer i;", "initial begin", "all = 0;"]
     lines += [f"{name} = 0;" for name, _, _ in SIGNALS]
     lines.append(f"for (i = 0; i < {times}; i = i + 1) begin")
-    odd = 1
-    for name, width, _ in SIGNALS:
-        odd = odd * STEP % 2**64
-        lines.append(f"{name} = {name} + {width}'d{odd % 2**width};")
-    lines += ["#1 all = all ^ y;", "end", '$display("%0d", all);', "end", "endmodule", ""]
-    return "\n".join(lines)
+    lines += [f"{name} = {name} + {width}'d{step};" for name, width, step in steps()]
+    lines += ["#1 all = all ^ y;", "end", '$display("%0d", all);', "end", "endmodule"]
+    return lines
 
 
 def vvp(text, times):
-    source, program = os.path.join(FOLDER, "bench.v"), os.path.join(FOLDER, "bench.vvp")
-    with open(source, "w", encoding="ascii") as file:
-        file.write(vvp_source(text, times))
+    source, program = put("bench.v", *vvp_source(text, times)), os.path.join(FOLDER, "bench.vvp")
     subprocess.run(["iverilog", "-g2005", "-o", program, source], check=True)
     told, took = run(["vvp", program])
     return told.strip(), took
@@ -74,18 +104,24 @@ def vvp(text, times):
 
 def evaluate(name, tokens, rounds):
     text = " ".join(tokens)
-    lines = "\n".join(declared() + [f"expression 64 {text}"]) + "\n"
-    value = run([PROGRAM, "evaluate", str(rounds)], lines)[0].split()[0]
+    trace, _ = traced(text, stimulus(rounds))
+    value = functools.reduce(operator.xor, (int(line.rpartition("=")[2], 16) for line in trace.splitlines()))
     wanted, whole = vvp(text, rounds)
     _, start = vvp(text, 0)
-    if value != wanted:
+    if str(value) != wanted:
         sys.exit(f"{name}: {value}, and vvp has {wanted}")
-    # the program's own clock, over more rounds, since each takes so little
-    own = int(run([PROGRAM, "evaluate", str(MORE * TIMES)], lines)[0].split()[1]) / (MORE * TIMES)
+    # over more rounds, since each takes so little, and less what the same cycles take without the expression
+    given = stimulus(MORE * TIMES)
+    own = max(least(traced, text, given) - least(traced, "d", given), 0) / (MORE * TIMES) * 1e6
     beside = (whole - start) / rounds * 1e6
     print(f"{name:24} {len(tokens):6} {own:10.2f} {beside:10.2f} {own / beside:8.4f}", flush=True)
     note("width", f"evaluating {name}", us=f"{own:.2f}", vvp=f"{beside:.2f}")
     return own / beside
+
+
+def least(measure, *given):
+    """The least processor time of seven runs."""
+    return min(measure(*given)[1] for _ in range(7))
 
 
 # ---- typing
@@ -128,17 +164,24 @@ SHAPES = {
 }
 
 
+def elaborated(text, last):
+    """The processor time of so many copies of an expression, with what stands behind them."""
+    copies = [f"  wire [63:0] w{number} = {text};" for number in range(TYPED)]
+    return run([PROGRAM, "sim", put("design.v", header(), *copies, *last)], statuses=(1,))
+
+
+def typed(text):
+    """The microseconds that typing an expression takes: up to a name that is refused behind all copies, less reading, up to the end that is missing."""
+    return max(least(elaborated, text, ["  assign y = nothing;", "endmodule"]) - least(elaborated, text, ["  assign y = nothing;"]), 0) / TYPED * 1e6
+
+
 def typing():
     print(f"\n{'typing, by shape':24} " + " ".join(f"{n:>7} tokens" for n in TOKENS) + "   growth")
     worst = 0.0
     for name, shape in SHAPES.items():
-        times, sizes = [], []
-        for tokens in TOKENS:
-            text = shape(tokens)
-            sizes.append(len(text))
-            lines = "\n".join(declared() + [f"expression 64 {' '.join(text)}"]) + "\n"
-            times.append(min(int(run([PROGRAM, "type", str(TYPED)], lines)[0]) for _ in range(3)) / TYPED)
-        growth = times[-1] / times[-2] / (sizes[-1] / sizes[-2]) * 2
+        texts = [shape(tokens) for tokens in TOKENS]
+        times = [typed(" ".join(text)) for text in texts]
+        growth = times[-1] / max(times[-2], 1e-6) / (len(texts[-1]) / len(texts[-2])) * 2
         worst = max(worst, growth)
         print(f"{name:24} " + " ".join(f"{t:11.1f} us" for t in times) + f"   {growth:.2f}")
         note("width", f"typing {name}", us=f"{times[-1]:.1f}")

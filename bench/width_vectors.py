@@ -1,8 +1,8 @@
 #!/usr/bin/env python3
-"""Writes the expressions whose values `crates/width_bench` compares with its own: every operator at seven lengths and both
+"""Writes the expressions whose values `tests/expressions.py` compares with those of `secv`: every operator at seven lengths and both
 signednesses, nested mixes of signed and unsigned operands, and constants.
 
-    width_vectors.py > crates/width_bench/stdin
+    width_vectors.py > tests/expressions.txt
 
 The answers are those of Icarus Verilog (`iverilog` and `vvp`), which is to be installed. An expression whose answer has an x is
 left out: a division by zero, or a bit outside of its vector. What is asked of such bits and of rules was worked by hand, and each

@@ -2,8 +2,6 @@
 use crate::calls::{Outside, run_over};
 use crate::texts::{COUNTER, GATE, INVERTERS, ONE_LANE, SUMS, TURN, TURNED_LEAK, UNDRIVEN};
 use std::alloc::{AllocError, Global};
-use std::process::Abort;
-use std::test::Fail;
 use sv_io::MemCabinet;
 
 const CERTIFICATE: &str = "secv-proof 1\nobligations 2\no 1 1\n0 3 5 6 0\no 2 1\n0 1 3 0\nend\n";
@@ -112,6 +110,13 @@ const ROWS: [Row; 30] = [
     ("chekc f", TURN, "", 0, 0, "usage unknown-command\n"),
 ];
 
+// Nothing comes in, and nothing fails.
+const QUIET: Outside<'static> = Outside {
+    stimulus: "",
+    take: 0,
+    put: 0,
+};
+
 const READ_FAULT: u8 = 4;
 
 const WRITE_FAULT: u8 = 5;
@@ -120,10 +125,29 @@ const WRITE_FAULT: u8 = 5;
 fn files_of(alloc: Global, text: &str, call: u32) -> Result<MemCabinet, AllocError> {
     let mut files = MemCabinet::new(alloc, vec![in alloc; call]?);
     files.hold("f", text.as_bytes())?;
-    for (name, bytes) in FILES {
+    for (name, bytes) in &FILES {
         files.hold(name, bytes.as_bytes())?;
     }
     Ok(files)
+}
+
+// What becomes of words over a text where the call of the files with the number fails.
+fn ended(
+    alloc: Global,
+    words: &str,
+    text: &str,
+    call: u32,
+    outside: Outside<'_>,
+) -> Result<(u8, Vec<u8>), AllocError> {
+    let mut files = files_of(alloc, text, call)?;
+    run_over(alloc, words, &mut files, outside)
+}
+
+// What `check` stores of a text.
+fn certificate_of(alloc: Global, text: &str) -> Result<Vec<u8>, AllocError> {
+    let mut files = files_of(alloc, text, 0)?;
+    let _ = run_over(alloc, "check f --proof stored", &mut files, QUIET)?;
+    Vec::from_slice(alloc, files.bytes("stored").unwrap_or(b""))
 }
 
 // Whether the bytes under the name are those of before, or a front of a certificate of the design.
@@ -139,101 +163,159 @@ fn is_not_stored(files: &MemCabinet) -> bool {
     files.bytes("q").is_none() && files.bytes("p").unwrap_or(b"") == CERTIFICATE.as_bytes()
 }
 
-// Each call of the files fails once, and then nothing is written; a call more is not made.
-fn fails_at_each_file(rt: &impl Abort, alloc: Global, row: Row) -> Result<(), Fail> {
-    let (words, text, stimulus, calls, _, whole) = row;
-    let mut sure = files_of(alloc, text, 0)?;
+// Whether the design is what it was, and what may be stored a front of its certificate.
+fn are_kept(files: &MemCabinet, text: &str, certificate: &[u8]) -> bool {
+    is_kept(files, "q", b"", certificate)
+        && is_kept(files, "p", CERTIFICATE.as_bytes(), certificate)
+        && files.bytes("f").unwrap_or(b"") == text.as_bytes()
+}
+
+// Whether nothing is written where this call of the files fails.
+fn is_silent(alloc: Global, row: &Row, call: u32, certificate: &[u8]) -> Result<bool, AllocError> {
+    let (words, text, stimulus, ..) = row;
+    let mut files = files_of(alloc, text, call)?;
     let outside = Outside {
         stimulus,
         take: 0,
         put: 0,
     };
-    let _ = run_over(alloc, "check f --proof stored", &mut sure, outside)?;
-    let certificate = sure.bytes("stored").unwrap_or(b"");
-    for call in 1..=calls {
-        let mut files = files_of(alloc, text, call)?;
-        let (status, bytes) = run_over(alloc, words, &mut files, outside)?;
-        let wanted = if call == 2 && words.starts_with("check") {
-            WRITE_FAULT
-        } else {
-            READ_FAULT
-        };
-        assert_eq!(rt; (status, bytes.is_empty()), (wanted, true));
-        assert!(rt; is_kept(&files, "q", b"", certificate));
-        assert!(rt; is_kept(&files, "p", CERTIFICATE.as_bytes(), certificate));
-        assert!(rt; wanted == WRITE_FAULT || is_not_stored(&files));
-        assert_eq!(rt; files.bytes("f").unwrap_or(b""), text.as_bytes());
+    let (status, bytes) = run_over(alloc, words, &mut files, outside)?;
+    let stores = call == 2 && words.starts_with("check");
+    let is_wanted = if stores {
+        status == WRITE_FAULT
+    } else {
+        status == READ_FAULT && is_not_stored(&files)
+    };
+    Ok(is_wanted && bytes.is_empty() && are_kept(&files, text, certificate))
+}
+
+// Whether each call of the files that fails is silent; a call more is not made.
+fn fails_at_each_file(alloc: Global, row: &Row) -> Result<bool, AllocError> {
+    let (words, text, stimulus, calls, _, whole) = row;
+    let certificate = certificate_of(alloc, text)?;
+    for call in 1..=*calls {
+        if !is_silent(alloc, row, call, &certificate)? {
+            return Ok(false);
+        }
     }
-    let mut files = files_of(alloc, text, calls.saturating_add(1))?;
-    let (_, bytes) = run_over(alloc, words, &mut files, outside)?;
-    assert_eq!(rt; bytes.as_slice(), whole.as_bytes());
-    Ok(())
+    let outside = Outside {
+        stimulus,
+        take: 0,
+        put: 0,
+    };
+    let (_, bytes) = ended(alloc, words, text, calls.saturating_add(1), outside)?;
+    Ok(bytes.as_slice() == whole.as_bytes())
 }
 
 #[test]
-fn a_file_that_fails_is_silent(rt: HostRuntime) -> Result<(), Fail> {
-    for row in ROWS {
-        fails_at_each_file(&rt, rt.alloc(), row)?;
+fn a_file_that_fails_is_silent(rt: HostRuntime) {
+    for row in &ROWS {
+        assert!(rt; fails_at_each_file(rt.alloc(), row) == Ok(true));
     }
-    Ok(())
 }
 
-// Each put fails once, and has what stands before it written.
-fn fails_at_each_put(rt: &impl Abort, alloc: Global, row: Row) -> Result<(), Fail> {
+// Whether each put that fails has what stands before it written.
+fn fails_at_each_put(alloc: Global, row: &Row) -> Result<bool, AllocError> {
     let (words, text, stimulus, _, _, whole) = row;
+    let whole = whole.as_bytes();
     let mut put = 0_u32;
     for before in 0..whole.len() {
         put = put.saturating_add(1);
-        let mut files = files_of(alloc, text, 0)?;
         let outside = Outside {
             stimulus,
             take: 0,
             put,
         };
-        let (status, bytes) = run_over(alloc, words, &mut files, outside)?;
-        assert_eq!(rt; status, WRITE_FAULT);
-        assert_eq!(rt; bytes.as_slice(), &whole.as_bytes()[..before]);
+        let (status, bytes) = ended(alloc, words, text, 0, outside)?;
+        if status != WRITE_FAULT || bytes.as_slice() != &whole[..before] {
+            return Ok(false);
+        }
     }
-    Ok(())
+    Ok(true)
 }
 
 #[test]
-fn an_output_that_fails_has_the_front(rt: HostRuntime) -> Result<(), Fail> {
-    for row in ROWS {
-        fails_at_each_put(&rt, rt.alloc(), row)?;
+fn an_output_that_fails_has_the_front(rt: HostRuntime) {
+    for row in &ROWS {
+        assert!(rt; fails_at_each_put(rt.alloc(), row) == Ok(true));
     }
-    Ok(())
 }
 
-// Each take fails once, and has a front of the trace written; a take more is not made.
-fn fails_at_each_take(rt: &impl Abort, alloc: Global, row: Row) -> Result<(), Fail> {
+// Whether each take that fails has a front of the trace written; a take more is not made.
+fn fails_at_each_take(alloc: Global, row: &Row) -> Result<bool, AllocError> {
     let (words, text, stimulus, _, takes, whole) = row;
-    for take in 1..=takes {
-        let mut files = files_of(alloc, text, 0)?;
+    let most = takes.saturating_add(1);
+    for take in 1..=most {
         let outside = Outside {
             stimulus,
             take,
             put: 0,
         };
-        let (status, bytes) = run_over(alloc, words, &mut files, outside)?;
-        assert_eq!(rt; status, READ_FAULT);
-        assert!(rt; whole.as_bytes().starts_with(bytes.as_slice()));
+        let (status, bytes) = ended(alloc, words, text, 0, outside)?;
+        let is_wanted = if take < most {
+            status == READ_FAULT && whole.as_bytes().starts_with(bytes.as_slice())
+        } else {
+            bytes.as_slice() == whole.as_bytes()
+        };
+        if !is_wanted {
+            return Ok(false);
+        }
     }
-    let mut files = files_of(alloc, text, 0)?;
-    let outside = Outside {
-        stimulus,
-        take: takes.saturating_add(1),
-        put: 0,
-    };
-    let (_, bytes) = run_over(alloc, words, &mut files, outside)?;
-    assert_eq!(rt; bytes.as_slice(), whole.as_bytes());
-    Ok(())
+    Ok(true)
 }
 
 #[test]
-fn an_input_that_fails_has_a_front(rt: HostRuntime) -> Result<(), Fail> {
-    for row in ROWS {
-        fails_at_each_take(&rt, rt.alloc(), row)?;
+fn an_input_that_fails_has_a_front(rt: HostRuntime) {
+    for row in &ROWS {
+        assert!(rt; fails_at_each_take(rt.alloc(), row) == Ok(true));
     }
-    Ok(())
+}
+
+// A text, a stimulus of which each take gives a byte, the first and the last of the takes that fail
+// in turn, and the status and what is written then.
+type Cut = (&'static str, &'static str, u32, u32, u8, &'static str);
+
+const LINE_0: &str = "0 en=1 d=3 q=9 s=0 n=a\n";
+
+const LINES_0_AND_1: &str = "0 en=1 d=3 q=9 s=0 n=a\n1 en=0 d=f q=a s=3 n=b\n";
+
+const INVERTED_0: &str = "0 a=0 y=1 p=1 q=0\n";
+
+const REFUSED_1: &str = "0 a=0 y=1 p=1 q=0\nrefused stimulus input 3 value\n";
+
+const WRONG: &str = "inputs a\n0\nx\n";
+
+// The lines of a trace are there as soon as those of the stimulus are. A wrong line is told once
+// its last byte is taken.
+const CUTS: [Cut; 6] = [
+    (COUNTER, STIMULUS, 1, 26, 4, ""),
+    (COUNTER, STIMULUS, 27, 30, 4, LINE_0),
+    (COUNTER, STIMULUS, 31, 34, 4, LINES_0_AND_1),
+    (INVERTERS, TURNED, 12, 12, 4, INVERTED_0),
+    (INVERTERS, WRONG, 13, 13, 4, INVERTED_0),
+    (INVERTERS, WRONG, 14, 14, 1, REFUSED_1),
+];
+
+// Whether each of these takes that fails has this written.
+fn fails_at_takes(alloc: Global, cut: &Cut) -> Result<bool, AllocError> {
+    let (text, stimulus, first, last, wanted, printed) = cut;
+    for take in *first..=*last {
+        let outside = Outside {
+            stimulus,
+            take,
+            put: 0,
+        };
+        let (status, bytes) = ended(alloc, "sim f", text, 0, outside)?;
+        if status != *wanted || bytes.as_slice() != printed.as_bytes() {
+            return Ok(false);
+        }
+    }
+    Ok(true)
+}
+
+#[test]
+fn an_input_that_fails_has_the_lines_so_far(rt: HostRuntime) {
+    for cut in &CUTS {
+        assert!(rt; fails_at_takes(rt.alloc(), cut) == Ok(true));
+    }
 }

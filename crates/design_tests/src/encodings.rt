@@ -1,22 +1,20 @@
 // The encoding of an obligation with facts, whose goal is that an expression holds: it can be met
-// at the values alone that falsify the obligation, and what meets it there is decoded to them. And
-// what a coder makes of obligations that begin with equal conditions: the encoding of each alone.
+// at the values alone that falsify the obligation, and what meets it there is decoded to them.
 ghost use Rattle.std.specs.Prelude.{◌≡◌, All, IfOk, IsTrue, length};
 ghost use Rattle.sv_flat.specs.Views.{design_of};
 ghost use Rattle.sv_obl.specs.DesignQueries.{IsQueryOf};
 ghost use Rattle.sv_obl.specs.Views.{obligation_of};
 ghost use Rattle.sv_blast.specs.Coded.{encoding_of};
-ghost use Rattle.sv_blast.specs.Coders.{IsCoder};
 ghost use Rattle.sv_blast.specs.Decoded.{IsDecodable};
 ghost use Rattle.sv_solve.specs.Answers.{IsWithin};
 
 use crate::texts::design;
 use std::alloc::Global;
 use std::test::Fail;
-use sv_blast::{BitPlace, Coded, Coder, clause_lines, decode, encode};
+use sv_blast::{BitPlace, Coded, decode, encode};
 use sv_clause::Clause;
 use sv_design::Design;
-use sv_obl::{Bodies, Frame, Goal, Query, Valuation, obligations};
+use sv_obl::{Frame, Goal, Query, Valuation, obligations};
 use sv_solve::{Solved, is_within, solve};
 
 // The first obligation has three conditions: of these the facts and the goal are made.
@@ -178,65 +176,7 @@ fn agrees(alloc: Global, design: &Design, frame: Frame) -> Result<bool, Fail> {
 #[test]
 fn met_where_falsified(rt: HostRuntime) -> Result<(), Fail> {
     let design = design(&rt, rt.alloc(), ENABLED)?;
-    assert!(rt; agrees(rt.alloc(), &design, Frame::Now)?, "in the cycle");
-    assert!(rt;
-        agrees(rt.alloc(), &design, Frame::Next)?,
-        "in the next one"
-    );
-    Ok(())
-}
-
-// The first three obligations hang on the same signals. The second begins with both conditions of
-// the first, and the third with all three of the second. The fourth is that of p where it is held.
-const NESTED: &str = "module m(input clk, input a, input b, output reg p, output reg q);\n  \
-    always @(posedge clk) begin\n    \
-    q <= a ^ b;\n    \
-    if (a | p) if (b & q) p <= b; else if (a ^ b ^ q) p <= q; else p <= a;\n  \
-    end\nendmodule\n";
-
-// Whether a coder makes of an obligation what `encode` makes of it.
-fn is_as_alone(
-    alloc: Global,
-    design: &Design,
-    coder: &mut Coder,
-    query: &Query,
-) -> Result<bool, Fail>
-    requires coder { IsCoder (design_of design.now) coder.old }
-    requires query { IsQueryOf (design_of design.now) (obligation_of query.now) }
-    ensures { IsCoder (design_of design.now) coder.new }
-{
-    coder.encode(design, query)?;
-    let alone = encode(alloc, design, query)?;
-    let made = clause_lines(alloc, coder.clauses())?;
-    Ok(
-        coder.variables() == alone.variables
-            && coder.bits() == alone.bits.as_slice()
-            && made.as_slice() == clause_lines(alloc, &alone.clauses)?.as_slice(),
-    )
-}
-
-// Whether a coder does so for the obligations with these numbers, one after the other.
-fn are_as_alone(alloc: Global, design: &Design, numbers: &[usize]) -> Result<bool, Fail> {
-    let queries = obligations(alloc, design)?;
-    let queries = queries.as_slice();
-    let bodies = Bodies::new(alloc, design)?;
-    let mut coder = Coder::new(alloc, design, &bodies)?;
-    'numbers: for number in numbers {
-        let number = *number;
-        if number >= queries.len() {
-            return Err(Fail::from("there are fewer obligations"));
-        }
-        if !is_as_alone(alloc, design, &mut coder, &queries[number])? {
-            return Ok(false);
-        }
-    }
-    Ok(true)
-}
-
-#[test]
-fn kept_as_alone(rt: HostRuntime) -> Result<(), Fail> {
-    let design = design(&rt, rt.alloc(), NESTED)?;
-    // behind no condition, two, three and none, and once more from the start
-    assert!(rt; are_as_alone(rt.alloc(), &design, &[0, 1, 2, 3, 1])?);
+    assert!(rt; agrees(rt.alloc(), &design, Frame::Now)?);
+    assert!(rt; agrees(rt.alloc(), &design, Frame::Next)?);
     Ok(())
 }

@@ -24,14 +24,14 @@ fn has_few(text: &Text) -> bool
     few_pairs && text.maps.len() < 0x1_0000_0000
 }
 
-/// The admitted design of a text.
+/// The admitted design of a text, over copies of its tree and of the flat design.
 pub fn design(rt: &impl Abort, alloc: Global, source: &str) -> Result<Design, Fail> {
     let bytes = source.as_bytes();
     assert!(rt; bytes.len() < 1_000_000, "the text is short");
-    let text = read_text(alloc, bytes)?;
+    let text = read_text(alloc, bytes)?.copy(alloc)?;
     assert!(rt; text.is_shaped(), "the text is shaped");
     assert!(rt; has_few(&text), "the text is small");
-    let flat = elaborate(alloc, &text, None)?;
+    let flat = elaborate(alloc, &text, None)?.copy(alloc)?;
     assert!(rt; sound(&flat), "the design is sound");
     Ok(Design::admit(alloc, flat)?)
 }

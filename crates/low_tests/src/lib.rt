@@ -1,9 +1,11 @@
-//! Tests of files and streams, and of copies of trees and flat designs. What the program calls of
-//! these layers on its way is tried through it (`tests/`). The tests stand in a crate of their own,
-//! since a crate with tests is proved twice.
+//! Tests of files and streams, and of clauses and gates with answers worked by hand. What the
+//! program calls of these layers on its way is tried through it (`tests/`). The tests stand in a
+//! crate of their own, since a crate with tests is proved twice.
 #![tactic(auto)]
 
 #[cfg(test)]
-mod copies;
+mod clauses;
 #[cfg(test)]
 mod files;
+#[cfg(test)]
+mod gates;

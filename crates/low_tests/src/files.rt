@@ -42,9 +42,11 @@ fn passes_on(alloc: Global) -> std::result::Result<bool, AllocError> {
     let mut source = SureSource::new(Vec::from_slice(alloc, b"abc")?);
     let mut sink = SureSink::new(alloc);
     let mut buf = [0u8; 4];
-    Ok(source.take(&mut buf) == Ok(3)
-        && put_all(&mut sink, &buf[..3]).is_ok()
-        && sink.bytes() == b"abc".as_slice())
+    Ok(
+        source.take(&mut buf) == Ok(3)
+            && put_all(&mut sink, &buf[..3]).is_ok()
+            && sink.bytes() == b"abc".as_slice(),
+    )
 }
 
 #[test]

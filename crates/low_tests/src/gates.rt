@@ -44,10 +44,12 @@ fn has_each_gate(alloc: Global) -> Result<bool, GateFault> {
     let differ = gates.xor(both, a)?;
     let chosen = gates.mux(b, differ, 1)?;
     gates.unit(chosen)?;
-    Ok(gates.variables() == 6
-        && are_clauses(gates.clauses(), &CLAUSES)
-        && gates.meets(&[true, false, false, false, false, true])
-        && !gates.meets(&[true, true, true, true, false, true]))
+    Ok(
+        gates.variables() == 6
+            && are_clauses(gates.clauses(), &CLAUSES)
+            && gates.meets(&[true, false, false, false, false, true])
+            && !gates.meets(&[true, true, true, true, false, true]),
+    )
 }
 
 // The clauses of variable 1, of 3 = neither 2 nor -2, and -3 alone.

@@ -17,7 +17,7 @@ use Rattle.sv_elab_rules.specs.Names.{Names, names_at, is_bound}
 use Rattle.sv_elab_rules.specs.Declarations.{Site, Declared, nothing_declared, range_steps, override_of}
 use Rattle.sv_elab_rules.specs.Declarations.{final_walk, parameter_walk}
 use Rattle.sv_elab_rules.specs.Declarations.{declaration_walk, declarations_walk}
-use Rattle.sv_elab_rules.specs.LabelSteps.{TextTables, given_label, labels_walk}
+use Rattle.sv_elab_rules.specs.LabelSteps.{Tables, given_label, labels_walk}
 use Rattle.sv_elab_decl.proofs.SameSites.{signal_signals}
 
 -- where the walk ends well, the measure of what it found is this number
@@ -158,7 +158,7 @@ all_declared base least s m w h =
 abbrev how_many : List SignalForm → ℕ
 how_many signals = length signals
 
-module _ (tables : TextTables) (names : Names) where
+module _ (tables : Tables) (names : Names) where
   labels_counted : (ds : List DeclarationTree) (signals : List SignalForm)
       → Measures how_many (length signals) (labels_walk tables names ds signals).end
   unfolding labels_walk

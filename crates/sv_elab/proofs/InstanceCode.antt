@@ -16,7 +16,7 @@ use Rattle.sv_flat.specs.Design.{ProcessForm}
 use Rattle.sv_elab_rules.specs.Walks.{Step, Walk, ask, done, found, then_walk, ◌>>=◌}
 use Rattle.sv_elab_rules.specs.Names.{Names}
 use Rattle.sv_elab_rules.specs.Declarations.{Site, Declared, nothing_declared, declarations_walk}
-use Rattle.sv_elab_rules.specs.LabelSteps.{TextTables}
+use Rattle.sv_elab_rules.specs.LabelSteps.{Tables}
 use Rattle.sv_elab_rules.specs.Overrides.{overrides_walk}
 use Rattle.sv_elab_rules.specs.Links.{Ports, links_walk}
 use Rattle.sv_elab_rules.specs.InstanceSteps.{Built, ports_of, instance_names, item_walk, items_from}
@@ -28,7 +28,7 @@ use Rattle.sv_elab.proofs.InstanceEnds.{same_after, ports_same, opened_same, hea
 
 -- ---- an instance up to its items
 
-module _ (tables : TextTables) (outer : Names) (path : List (List ℕ)) (m : ModuleTree) (built : Built)
+module _ (tables : Tables) (outer : Names) (path : List (List ℕ)) (m : ModuleTree) (built : Built)
     (i : InstanceTree) where
   with_links : List ProcessForm → Built
   with_links ps =
@@ -130,7 +130,7 @@ items_shaped m h =
 
 -- ---- items one after another
 
-module _ (inside : Site → Built → Walk Built) (tables : TextTables) (site : Site) (names : Names)
+module _ (inside : Site → Built → Walk Built) (tables : Tables) (site : Site) (names : Names)
     (taken : List (List ℕ)) (built : Built) where
   pub items_none : (items_from inside tables site names taken built []).end ≡ Ok built
   unfolding items_from
@@ -159,7 +159,7 @@ name_passes None a b c s t u v x h = absurd (cc h)
 name_passes (Some y) true b c s t u v x h = refl
 name_passes (Some y) false b c s t u v x h = absurd (cc h)
 
-pub name_free : (tables : TextTables) (around declared keys : List (List ℕ)) (instances : ℕ)
+pub name_free : (tables : Tables) (around declared keys : List (List ℕ)) (instances : ℕ)
     (i : InstanceTree) (m : ModuleTree)
     → (master_walk tables around (declared ++ keys) instances i).end ≡ Ok m
     → list_any (bytes_eq i.name) keys ≡ false

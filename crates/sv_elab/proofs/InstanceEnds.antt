@@ -15,7 +15,7 @@ use Rattle.sv_elab_rules.specs.Walks.{Step, Walk, ask, done, found, then_walk, �
 use Rattle.sv_elab_rules.specs.Rules.{unknown_module, twice, recursive, too_many}
 use Rattle.sv_elab_rules.specs.Names.{Names, names_of}
 use Rattle.sv_elab_rules.specs.Declarations.{Site, Declared, nothing_declared, declarations_walk}
-use Rattle.sv_elab_rules.specs.LabelSteps.{TextTables, labels_walk}
+use Rattle.sv_elab_rules.specs.LabelSteps.{Tables, labels_walk}
 use Rattle.sv_elab_rules.specs.Overrides.{overrides_walk}
 use Rattle.sv_elab_rules.specs.Links.{Ports, links_walk}
 use Rattle.sv_elab_rules.specs.InstanceSteps.{Built, ports_of, instance_walk, instance_names, item_walk}
@@ -31,7 +31,7 @@ use Rattle.sv_elab.specs.Nests.{Nesting, entered, site_at}
 
 -- ---- the walk of items asks of a site where it stands alone
 
-module _ (inside : Site → Built → Walk Built) (tables : TextTables) (site other : Site) (names : Names)
+module _ (inside : Site → Built → Walk Built) (tables : Tables) (site other : Site) (names : Names)
     (path : site.path ≡ other.path) (around : site.around ≡ other.around) where
   instance_there : (taken : List (List ℕ)) (built : Built) (i : InstanceTree)
       → instance_walk inside tables site names taken built i ≡
@@ -107,7 +107,7 @@ same_after {X} {Y} w f g same = by w.end
 
 -- ---- all of one instance
 
-module _ (inside : Site → Built → Walk Built) (tables : TextTables) (site : Site) (built : Built) where
+module _ (inside : Site → Built → Walk Built) (tables : Tables) (site : Site) (built : Built) where
   pub module_ends : (module_walk inside tables site built).end
       ≡ (opened_walk tables site built >>= λ (o : Opened).
       items_from inside tables site o.names o.taken o.built site.master.items).end
@@ -125,7 +125,7 @@ module _ (inside : Site → Built → Walk Built) (tables : TextTables) (site : 
       (λ o. items_from inside tables site o.names o.taken o.built site.master.items)
 
 -- sites that declare the same have the same ports, and open the same
-module _ (tables : TextTables) (s t : Site) (same : SameSite s t) where
+module _ (tables : Tables) (s t : Site) (same : SameSite s t) where
   pub ports_same : (base : ℕ) → ports_of tables.least s base ≡ ports_of tables.least t base
   unfolding ports_of
   ports_same base = λ j. record {
@@ -158,7 +158,7 @@ module _ (tables : TextTables) (s t : Site) (same : SameSite s t) where
         (all_items m))) same.master
 
 -- a header that breaks a rule opens nothing
-pub header_unopened : (tables : TextTables) (site : Site) (built : Built) (s : Step)
+pub header_unopened : (tables : Tables) (site : Site) (built : Built) (s : Step)
     → (declarations_walk (length built.signals) tables.least site nothing_declared
     (header_items site.master)).end ≡ Err s
     → (opened_walk tables site built).end ≡ Err s
@@ -174,7 +174,7 @@ header_unopened tables site built s h =
     end_broken all _ s stops
 
 -- the same, from a site that declares the same
-module _ (inside : Site → Built → Walk Built) (tables : TextTables) (site there : Site)
+module _ (inside : Site → Built → Walk Built) (tables : Tables) (site there : Site)
     (same : SameSite site there) (built : Built) where
   items_of : Opened → Walk Built
   items_of o = items_from inside tables site o.names o.taken o.built site.master.items
@@ -206,14 +206,14 @@ module _ (inside : Site → Built → Walk Built) (tables : TextTables) (site th
       (items_from inside tables other o.names o.taken o.built m.items).end) same.master)
 
 -- a level of instances more
-levels_more : (n levels : ℕ) → n ≡ suc levels → (tables : TextTables) (site : Site) (built : Built)
+levels_more : (n levels : ℕ) → n ≡ suc levels → (tables : Tables) (site : Site) (built : Built)
     → site_walk n tables site built ≡ module_walk (site_walk levels tables) tables site built
 unfolding site_walk
 levels_more n levels e tables site built = ap (λ k. site_walk k tables site built) e
 
 -- ---- an instance in another one
 
-module _ (tables : TextTables) (names : Names) (taken : List (List ℕ)) (built : Built)
+module _ (tables : Tables) (names : Names) (taken : List (List ℕ)) (built : Built)
     (i : InstanceTree)
     (nest : Nesting) (n : ℕ) where
   next : ModuleTree → List (List ℕ × Number) → Site
@@ -333,7 +333,7 @@ module _ (tables : TextTables) (names : Names) (taken : List (List ℕ)) (built 
 -- ---- the top
 
 -- a header that breaks a rule, at a site that declares the same
-pub header_stops : (tables : TextTables) (site there : Site) → SameSite site there
+pub header_stops : (tables : Tables) (site there : Site) → SameSite site there
     → (built : Built) (s : Step)
     → (declarations_walk (length built.signals) tables.least there nothing_declared
     (header_items there.master)).end ≡ Err s
@@ -342,7 +342,7 @@ header_stops tables site there same built s h =
     ap (λ (w : Walk Opened). w.end) (opened_same tables site there same built)
     ∙ header_unopened tables there built s h
 
-module _ (tables : TextTables) (m : ModuleTree) where
+module _ (tables : Tables) (m : ModuleTree) where
   around_top : Site
   around_top = record { path = []; around = m.name ∷ []; master = m; set = [] }
 

@@ -12,7 +12,7 @@ use Rattle.sv_num.specs.declared.faults.Place.{Place}
 use Rattle.sv_lattice.specs.Flows.{Flows, EachPair, IsKnown, IsPointCount, IsFaultOf}
 use Rattle.sv_lattice.specs.Flows.{IsFirstUnknown, IsApart, HasJoin, HasMeet, IsLattice}
 use Rattle.sv_lattice.specs.Flows.{IsFirstWithout}
-use Rattle.sv_lattice.specs.TextTables.{flow_test, FlowsTo, IsWithin, IsTableOf}
+use Rattle.sv_lattice.specs.Tables.{flow_test, FlowsTo, IsWithin, IsTableOf}
 use Rattle.sv_lattice.specs.declared.points.LatticeFault.TheVariants.{Size, Unknown, Circle, NoJoin}
 use Rattle.sv_lattice.specs.declared.points.LatticeFault.TheVariants.{NoMeet}
 use Rattle.sv_lattice.proofs.BoundLemmas.{turned_round, apart_along, join_along, meet_along}

@@ -9,7 +9,7 @@ use Rattle.std.proofs.lemmas.Bool.{eqb-true, eq-eqb, ne_eqb}
 use Rattle.std.proofs.lemmas.Iterator.Adapters.{position_from-zero}
 use Rattle.std.proofs.lemmas.Nat.{pow_pos}
 use Rattle.std.proofs.lemmas.Nat.Bits.{bit_at_ones, same_from_bits_below}
-use Rattle.sv_lattice.specs.TextTables.{FlowsTo, IsLatticeTable}
+use Rattle.sv_lattice.specs.Tables.{FlowsTo, IsLatticeTable}
 use Rattle.sv_elab_rules.specs.Lattices.{least_point}
 
 first_at : {X : Type 0} (p : X → Bool) (xs : List X) (d : X) (k i : ℕ) → i < length xs

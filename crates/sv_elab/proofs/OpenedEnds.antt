@@ -12,7 +12,7 @@ use Rattle.sv_flat.specs.Design.{SignalForm, ProcessForm}
 use Rattle.sv_elab_rules.specs.Walks.{Step}
 use Rattle.sv_elab_rules.specs.Names.{Names, names_of}
 use Rattle.sv_elab_rules.specs.Declarations.{Site, Declared, nothing_declared, declarations_walk}
-use Rattle.sv_elab_rules.specs.LabelSteps.{TextTables, labels_walk}
+use Rattle.sv_elab_rules.specs.LabelSteps.{Tables, labels_walk}
 use Rattle.sv_elab_rules.specs.InstanceSteps.{Built, ports_of}
 use Rattle.sv_elab_rules.specs.Links.{Ports, links_walk}
 use Rattle.sv_elab_rules.proofs.WalkLemmas.{end_after, end_broken}
@@ -23,7 +23,7 @@ use Rattle.sv_elab_decl.specs.Steps.{HasHeader}
 use Rattle.sv_elab_decl.proofs.NameLemmas.{bindings_same}
 use Rattle.sv_elab.specs.Instances.{opened_walk, linked_walk, ports_with}
 
-module _ (tables : TextTables) (site : Site) (built : Built) (base : ℕ)
+module _ (tables : Tables) (site : Site) (built : Built) (base : ℕ)
     (sized : length built.signals ≡ base) where
   pub bodies_broken : (s : Step)
       → (declarations_walk base tables.least site nothing_declared (all_items site.master)).end ≡

@@ -20,7 +20,7 @@ use Rattle.sv_flat.specs.Views.{invariant_form}
 use Rattle.sv_flat.specs.declared.expressions.FExpr.{FExpr}
 use Rattle.sv_elab_rules.specs.InstanceSteps.{Built}
 use Rattle.sv_elab_rules.specs.LabelMaps.{maps_walk}
-use Rattle.sv_elab_rules.specs.LabelSteps.{TextTables}
+use Rattle.sv_elab_rules.specs.LabelSteps.{Tables}
 use Rattle.sv_elab_rules.specs.Lattices.{Order, lattice_walk, least_point}
 use Rattle.sv_elab_rules.specs.Rules.{no_top}
 use Rattle.sv_elab_rules.specs.Texts.{module_names, top_walk, tables_of, design_of, walk_of}
@@ -65,7 +65,7 @@ maps_few text points ts all maps h few =
 pub tables_same : (order : Order) (maps : List (List ℕ × MapRows)) (all ms : List Module)
     (points : List (List ℕ)) (least : ℕ)
     → ms ≡ all → points ≡ order.points → least ≡ least_point order.table
-    → ◌≡◌ {A = TextTables} (record {
+    → ◌≡◌ {A = Tables} (record {
       modules = map module_tree ms;
       points = points;
       least = least;
@@ -173,7 +173,7 @@ module _ (text : Text) (top : Option (List ℕ)) (order : Order) (maps : List (L
             (modules_shaped text text.modules.items refl shaped)
             (found_some (top_of (text_tree text).modules top) no_top m at_top)
 
-        pub built_at : (tables : TextTables) → tables ≡ tables_of (text_tree text).modules order maps
+        pub built_at : (tables : Tables) → tables ≡ tables_of (text_tree text).modules order maps
             → (modules_walk (text_tree text) top order maps).end ≡ (top_walk tables m).end
         built_at tables same =
             modules_end (text_tree text) top order maps at_names m at_top

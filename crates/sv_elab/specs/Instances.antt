@@ -17,7 +17,7 @@ use Rattle.sv_flat.specs.Design.{ProcessKind, combinational, clocked, ProcessFor
 use Rattle.sv_flat.specs.Views.{signal_form, process_form}
 use Rattle.sv_elab_rules.specs.Declarations.{Site, nothing_declared, declarations_walk}
 use Rattle.sv_elab_rules.specs.InstanceSteps as walk
-use Rattle.sv_elab_rules.specs.LabelSteps.{TextTables, labels_walk}
+use Rattle.sv_elab_rules.specs.LabelSteps.{Tables, labels_walk}
 use Rattle.sv_elab_rules.specs.Links as links
 use Rattle.sv_elab_rules.specs.Names.{Names, names_of}
 use Rattle.sv_elab_rules.specs.Overrides.{overrides_walk}
@@ -91,7 +91,7 @@ abbrev pub IsLinked : Result (List ProcessForm) Step → (old new : List Process
 IsLinked end old new = (more : List ProcessForm) × (end ≡ Ok more) × (new ≡ old ++ more)
 
 -- the module of an instance, its name, whether its module is around it, and the limit
-abbrev pub master_walk : TextTables → (around taken : List (List ℕ)) → (instances : ℕ) → InstanceTree
+abbrev pub master_walk : Tables → (around taken : List (List ℕ)) → (instances : ℕ) → InstanceTree
     → Walk ModuleTree
 master_walk tables around taken instances i = do
   m ← found (module_named tables.modules i.master) (unknown_module i.place i.master)
@@ -115,7 +115,7 @@ pub record Opened : Type 0 where
   pub built : walk.Built
 
 -- the signals of an instance with their labels, before its items
-abbrev pub opened_walk : TextTables → Site → walk.Built → Walk Opened
+abbrev pub opened_walk : Tables → Site → walk.Built → Walk Opened
 opened_walk tables site built = do
   all ← declarations_walk (length built.signals) tables.least site nothing_declared
       (all_items site.master)
@@ -145,7 +145,7 @@ linked_walk outer least site base processes ls = do
   done more
 
 -- an instance whose module is known, up to its items: what it sets, its links, and its signals
-unfoldable pub set_up_walk : TextTables → (outer : Names) → (path : List (List ℕ)) → ModuleTree
+unfoldable pub set_up_walk : Tables → (outer : Names) → (path : List (List ℕ)) → ModuleTree
     → walk.Built → InstanceTree → Walk Opened
 set_up_walk tables outer path m built i = do
   set ← overrides_walk outer m i.overrides

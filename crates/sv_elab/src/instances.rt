@@ -31,7 +31,7 @@ use crate::wrong_names::add_name;
 use indexmap::{IndexMap, IndexSet};
 use std::alloc::Global;
 use sv_ast::{Instance, Item, Links, Module};
-use sv_elab_decl::{Declared, Header, Site, TextTables, body, header, labels, overrides};
+use sv_elab_decl::{Declared, Header, Site, Tables, body, header, labels, overrides};
 use sv_flat::Process;
 use sv_num::{Fault, Name, Rule};
 use sv_width::{Scope, refusal_naming};
@@ -99,7 +99,7 @@ fn master_of<'a>(
 // first, and the header's own broken rule after them.
 fn linked(
     alloc: Global,
-    tables: &TextTables,
+    tables: &Tables,
     site: &Site,
     outer: &Scope,
     links: &Links,
@@ -134,7 +134,7 @@ fn linked(
 }
 
 // What the header of an instance declares, or the first rule that it breaks.
-fn headed(alloc: Global, tables: &TextTables, site: &Site) -> Result<Declared, Fault>
+fn headed(alloc: Global, tables: &Tables, site: &Site) -> Result<Declared, Fault>
     requires few { site.now.base ≤ 4096 }
     requires shaped { IsTrue (is_shaped_module (module_tree site.now.master.now)) }
     ensures header { IfOk result
@@ -153,7 +153,7 @@ fn headed(alloc: Global, tables: &TextTables, site: &Site) -> Result<Declared, F
 // names stand for.
 fn opened(
     alloc: Global,
-    tables: &TextTables,
+    tables: &Tables,
     site: &Site,
     declared: Declared,
     built: &mut Built,

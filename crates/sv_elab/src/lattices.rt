@@ -5,7 +5,7 @@ ghost use Rattle.std.specs.Prelude.{slice_index_or, IfSome, IfOk, IfErr};
 ghost use Rattle.std.specs.List.{All};
 ghost use Rattle.sv_num.specs.Rules.{rule_number};
 ghost use Rattle.sv_lattice.specs.Flows.{IsKnown, IsPointCount};
-ghost use Rattle.sv_lattice.specs.TextTables.{IsLatticeTable};
+ghost use Rattle.sv_lattice.specs.Tables.{IsLatticeTable};
 ghost use Rattle.sv_ast.specs.Views.{lattice_tree, pair_tree, text_tree};
 ghost use Rattle.sv_elab_rules.specs.Walks.{Step};
 ghost use Rattle.sv_elab_rules.specs.Rules.{step};
@@ -34,7 +34,7 @@ pub struct Points {
 
 impl Model for Points {
     ghost use Rattle.std.specs.Prelude.{◌≡◌, length};
-    ghost use Rattle.sv_lattice.specs.TextTables.{IsLatticeTable};
+    ghost use Rattle.sv_lattice.specs.Tables.{IsLatticeTable};
     ghost use Rattle.sv_elab_rules.specs.Lattices.{Order};
 
     ghost Value = { Order };

@@ -16,7 +16,7 @@ use Rattle.sv_elab_rules.specs.Walks.{Step, Walk, ask, done, found, then_walk, �
 use Rattle.sv_elab_rules.specs.Rules.{bad_label}
 use Rattle.sv_elab_rules.specs.Names.{Names}
 use Rattle.sv_elab_rules.specs.Lattices.{point_number}
-use Rattle.sv_elab_rules.specs.LabelSteps.{TextTables, second_selector, same_number, second_fits}
+use Rattle.sv_elab_rules.specs.LabelSteps.{Tables, second_selector, same_number, second_fits}
 use Rattle.sv_elab_rules.specs.LabelSteps.{second_number, label_walk, given_label, labels_walk}
 use Rattle.sv_elab_rules.proofs.WalkLemmas.{end_after, end_broken}
 use Rattle.sv_width.specs.declared.meanings.KnownSignal.{KnownSignal}
@@ -117,7 +117,7 @@ second_end known p (Some m) (Some t) (Some v) n s w a b c is =
 
 -- ---- a point
 
-module _ (tables : TextTables) (names : Names) (n : List ℕ) (p : Place) where
+module _ (tables : Tables) (names : Names) (n : List ℕ) (p : Place) where
   pub point_found : (k : ℕ) → point_number tables.points n ≡ Some k
       → (label_walk tables names (point_label n p)).end ≡ Ok (Declared_point (record { 0 = k }))
   unfolding label_walk
@@ -130,7 +130,7 @@ module _ (tables : TextTables) (names : Names) (n : List ℕ) (p : Place) where
 
 -- ---- a row of a map
 
-module _ (tables : TextTables) (names : Names) (n first : List ℕ) (second : Option (List ℕ))
+module _ (tables : Tables) (names : Names) (n first : List ℕ) (second : Option (List ℕ))
     (p : Place) where
   made : ℕ → Walk Label
   made map = done (Table map (names.number first) (second_number names second))
@@ -253,7 +253,7 @@ module _ (tables : TextTables) (names : Names) (n first : List ℕ) (second : Op
 
 -- ---- a declaration's label
 
-module _ (tables : TextTables) (names : Names) (t : Option LabelTree) (s : SignalForm) where
+module _ (tables : Tables) (names : Names) (t : Option LabelTree) (s : SignalForm) where
   pub label_kept : t ≡ None → (given_label tables names t s).end ≡ Ok s
   unfolding given_label
   label_kept h = ap (λ (o : Option LabelTree). (given_label tables names o s).end) h
@@ -292,7 +292,7 @@ module _ (xs : List SignalForm) (first : SignalForm) (w : Walk (List SignalForm)
       by (Ok ys) = ap (λ (zs : List SignalForm). Ok zs) (sym (append_assoc xs (first ∷ []) ys))
       by (Err s) = refl
 
-module _ (tables : TextTables) (names : Names) where
+module _ (tables : Tables) (names : Names) where
   pub labels_more : (xs : List SignalForm) (d : DeclarationTree) (ds : List DeclarationTree)
       (s first : SignalForm) (ss : List SignalForm)
       → (given_label tables names d.label s).end ≡ Ok first

@@ -14,12 +14,12 @@ use Rattle.sv_elab_rules.specs.Declarations as walk
 use Rattle.sv_elab_rules.specs.LabelSteps as shared
 use Rattle.sv_width.specs.declared.meanings.Meaning.{Meaning}
 use Rattle.sv_width.specs.Scopes.{Known, number_of, binding_of, names_ahead}
-use Rattle.sv_elab_decl.specs.declared.sites.TextTables.{TextTables}
+use Rattle.sv_elab_decl.specs.declared.sites.Tables.{Tables}
 use Rattle.sv_elab_decl.specs.declared.sites.Site.{Site}
 use Rattle.sv_elab_decl.specs.declared.sites.Declared.{Declared}
 
 -- what all instances of a text share
-abbrev pub tables_of : TextTables → shared.TextTables
+abbrev pub tables_of : Tables → shared.Tables
 tables_of t = record {
   modules = map module_tree t.modules.now;
   points = t.points.now.keys;

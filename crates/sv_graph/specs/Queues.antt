@@ -1,4 +1,4 @@
--- Private: how the code goes. Signals in an order, and how many of the reads of each are still
+-- Private: how the code goes. Signals in an order, and how many of the edges to each are still
 -- open.
 use Rattle.std.specs.Prelude.{◌≡◌, ◌-◌, ◌==◌, ℕ, List, [], ◌∷◌, ◌++◌, length, filter}
 use Rattle.std.specs.Prelude.{slice_index, slice_set, if◌then◌else◌}
@@ -12,7 +12,7 @@ ordered queue = numbers queue.order.items
 abbrev pub open_at : Queue → ℕ → ℕ
 open_at queue s = slice_index queue.counts.items s
 
--- one read less of one signal is open, and with its last one it goes into the order
+-- one edge less to one signal is open, and with its last one it goes into the order
 pub record SettlesOne (old new : Queue) (reader : ℕ) : Type 0 where
   pub open_is : new.counts.items ≡ slice_set old.counts.items reader (open_at old reader - 1)
   pub order_is : ordered new ≡ ordered old ++ (if open_at old reader == 1 then reader ∷ [] else [])

@@ -14,7 +14,6 @@ ghost use Rattle.sv_design.specs.Feeds.{AreWants};
 ghost use Rattle.sv_graph.specs.Marks.{IsTable};
 ghost use Rattle.sv_design.specs.Numbers.{numbers};
 ghost use Rattle.sv_design.specs.Orders.{AreReads, IsLongestOrder, IsWholeOrder};
-ghost use Rattle.sv_design.specs.ReadForms.{AreZeros};
 ghost use Rattle.sv_design.specs.Refusals.{driving_breaches};
 ghost use Rattle.sv_design.specs.Tables.{AreTables};
 
@@ -26,7 +25,6 @@ use crate::depths::by_depth;
 use crate::design::Design;
 use crate::drivers::{Drivers, driver_numbers, drivers_of, first_extra_driver, first_undriven};
 use crate::loops::first_circle;
-use crate::names::zeros_of;
 use crate::orders::{Reads, read_order, reads_table};
 use crate::processes::kept_processes;
 use crate::reads::{ReadGraphs, reads_of};
@@ -47,9 +45,8 @@ struct Driven {
 }
 
 // The clocks and drivers of a design that breaks none of the rules 601 to 604.
-fn check_drivers(alloc: Global, flat: &Flat, zeros: &[u64]) -> Result<Driven, Fault>
-    requires sound { IsTrue (sound (design_of flat.now)) }
-    requires zeros { AreZeros (length flat.now.signals.items) zeros.now }
+fn check_drivers(alloc: Global, flat: &Flat) -> Result<Driven, Fault>
+    requires { IsTrue (sound (design_of flat.now)) }
     ensures clocks { IfOk result (λ driven. AreClocks (design_of flat.now) driven.clocks.items) }
     ensures drivers { IfOk result (λ driven. AreDriversOf (design_of flat.now) driven.drivers) }
     ensures unbroken { OnOk result (driving_breaches (design_of flat.now) ≡ []) }
@@ -58,7 +55,7 @@ fn check_drivers(alloc: Global, flat: &Flat, zeros: &[u64]) -> Result<Driven, Fa
     let assign = first_wrong_assign(alloc, flat)?;
     refuse(alloc, flat, Rule::WrongAssign, assign)?;
     let clocks = clock_table(alloc, flat)?;
-    let clock = first_wrong_clock(alloc, flat, zeros, &clocks)?;
+    let clock = first_wrong_clock(alloc, flat, &clocks)?;
     refuse(alloc, flat, Rule::Clock, clock)?;
     let drivers = drivers_of(alloc, flat, &clocks)?;
     let extra = first_extra_driver(flat, &drivers);
@@ -86,13 +83,11 @@ fn check_blocks(alloc: Global, flat: &Flat) -> Result<(), Fault>
 fn read_tables(
     alloc: Global,
     flat: &Flat,
-    zeros: &[u64],
     clocks: &[bool],
     processes: &[Process],
     registers: &[bool],
 ) -> Result<(Reads, Graph), AllocError>
     requires sound { IsTrue (sound (design_of flat.now)) }
-    requires zeros { AreZeros (length flat.now.signals.items) zeros.now }
     requires clocks { AreClocks (design_of flat.now) clocks.now }
     requires processes { map process_form processes.now ≡ processes_of (design_of flat.now) }
     requires registers { IsTable (length flat.now.signals.items) registers.now
@@ -102,7 +97,7 @@ fn read_tables(
     ensures wants { IfOk result (λ both. AreWants (design_of flat.now) both.1) }
 {
     let combs = comb_table(alloc, flat, clocks, registers)?;
-    let ReadGraphs { reads, wants } = reads_of(alloc, flat, zeros, processes, registers)?;
+    let ReadGraphs { reads, wants } = reads_of(alloc, flat, processes, registers)?;
     let tables = reads_table(alloc, combs, reads)?;
     Ok((tables, wants))
 }
@@ -154,9 +149,8 @@ fn ordered(alloc: Global, flat: &Flat, reads: &Reads) -> Result<Vec<SigId>, Faul
 
 // The tables of a design that breaks none of the rules 601 to 606, or the fault of the first
 // circle.
-fn collected(alloc: Global, flat: &Flat, zeros: &[u64], driven: Driven) -> Result<Tables, Fault>
+fn collected(alloc: Global, flat: &Flat, driven: Driven) -> Result<Tables, Fault>
     requires sound { IsTrue (sound (design_of flat.now)) }
-    requires zeros { AreZeros (length flat.now.signals.items) zeros.now }
     requires clocks { AreClocks (design_of flat.now) driven.clocks.items }
     requires drivers { AreDriversOf (design_of flat.now) driven.drivers }
     requires unbroken { breaches (design_of flat.now) ≡ [] }
@@ -167,7 +161,7 @@ fn collected(alloc: Global, flat: &Flat, zeros: &[u64], driven: Driven) -> Resul
     let Driven { clocks, drivers } = driven;
     let in_registers = register_table(alloc, flat)?;
     let processes = kept_processes(alloc, flat, &clocks)?;
-    let (reads, wants) = read_tables(alloc, flat, zeros, &clocks, &processes, &in_registers)?;
+    let (reads, wants) = read_tables(alloc, flat, &clocks, &processes, &in_registers)?;
     let order = ordered(alloc, flat, &reads)?;
     let clock = top_clock(flat, &clocks);
     let seen = seen_of(alloc, flat, &clocks)?;
@@ -199,10 +193,9 @@ fn tables_of(alloc: Global, flat: &Flat) -> Result<Tables, Fault>
     ensures admitted { OnOk result (IsAdmitted (design_of flat.now)) }
     ensures refused { IfErr result (IsFaultOf (design_of flat.now)) }
 {
-    let zeros = zeros_of(alloc, flat)?;
-    let driven = check_drivers(alloc, flat, &zeros)?;
+    let driven = check_drivers(alloc, flat)?;
     check_blocks(alloc, flat)?;
-    let tables = collected(alloc, flat, &zeros, driven)?;
+    let tables = collected(alloc, flat, driven)?;
     Ok(tables)
 }
 

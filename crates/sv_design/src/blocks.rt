@@ -14,11 +14,11 @@ ghost use Rattle.sv_graph.specs.BitSets.{is_set, in_bits, has_some};
 ghost use Rattle.sv_design.specs.First.{FindsFirst};
 ghost use Rattle.sv_design.specs.Phases.{SameBits, HasTargets, FindsReads, AddsAssigned};
 ghost use Rattle.sv_design.specs.Phases.{latches_of, latches_in, phase_faults_of, phase_faults_in};
-ghost use Rattle.sv_design.specs.ReadForms.{read_form, AreZeros};
+ghost use Rattle.sv_design.specs.ReadForms.{read_form};
 ghost use Rattle.sv_design.specs.Scopes.{in_scope};
 
 use crate::found::{Found, first_of, found_if};
-use crate::names::{Read, names_in, zeros_of};
+use crate::names::{Read, names_in};
 use crate::pieces::add_pieces;
 use crate::scopes::Scope;
 use std::alloc::{AllocError, Global};
@@ -59,19 +59,17 @@ fn is_wrong(flat: &Flat, targets: &BitSet, read: &Read, assigned: &Scope) -> boo
 fn wrong_in(
     alloc: Global,
     flat: &Flat,
-    zeros: &[u64],
     targets: &BitSet,
     expr: &FExpr,
     assigned: &Scope,
 ) -> Result<Option<Found>, AllocError>
     requires sound { IsTrue (sound (design_of flat.now)) }
-    requires zeros { AreZeros (length flat.now.signals.items) zeros.now }
     requires formed { IsTrue (well_formed (design_of flat.now).signals (typed_tree expr.now)) }
     ensures { IfOk result (λ found. (serves : ℕ → Bool)
         → FindsReads (design_of flat.now).signals targets.now (in_scope assigned.now)
         (readings_of (design_of flat.now).signals (typed_tree expr.now) serves) found) }
 {
-    let names = names_in(alloc, flat.signals.as_slice(), zeros, expr)?;
+    let names = names_in(alloc, flat.signals.as_slice(), expr)?;
     let mut found = None;
     for read in &names {
         let wrong = is_wrong(flat, targets, read, assigned);
@@ -98,13 +96,11 @@ fn common_with(alloc: Global, before: Option<BitSet>, arm: BitSet) -> Result<Bit
 fn forward(
     alloc: Global,
     flat: &Flat,
-    zeros: &[u64],
     targets: &BitSet,
     stmt: &FStmt,
     assigned: &Scope,
 ) -> Result<(Option<Found>, BitSet), AllocError>
     requires sound { IsTrue (sound (design_of flat.now)) }
-    requires zeros { AreZeros (length flat.now.signals.items) zeros.now }
     requires stmt { IsTrue
         (statement_sound (design_of flat.now).signals (flat_statement stmt.now)) }
     ensures { IfOk result (λ both.
@@ -116,15 +112,15 @@ fn forward(
     let mut common = None;
     let mut rest = stmt;
     while let FStmt::If { cond, yes, no, .. } = rest {
-        let in_cond = wrong_in(alloc, flat, zeros, targets, cond, assigned)?;
-        let (in_yes, by_yes) = forward(alloc, flat, zeros, targets, yes, assigned)?;
+        let in_cond = wrong_in(alloc, flat, targets, cond, assigned)?;
+        let (in_yes, by_yes) = forward(alloc, flat, targets, yes, assigned)?;
         let in_arm = first_of(in_cond, in_yes);
         found = first_of(found, in_arm);
         let more = common_with(alloc, common, by_yes)?;
         common = Some(more);
         rest = no;
     }
-    let (in_last, by_last) = forward_plain(alloc, flat, zeros, targets, rest, assigned)?;
+    let (in_last, by_last) = forward_plain(alloc, flat, targets, rest, assigned)?;
     let always = common_with(alloc, common, by_last)?;
     Ok((first_of(found, in_last), always))
 }
@@ -134,14 +130,12 @@ fn forward(
 fn forward_plain(
     alloc: Global,
     flat: &Flat,
-    zeros: &[u64],
     targets: &BitSet,
     stmt: &FStmt,
     assigned: &Scope,
 ) -> Result<(Option<Found>, BitSet), AllocError>
     requires plain { IsFalse (is_branch (flat_statement stmt.now)) }
     requires sound { IsTrue (sound (design_of flat.now)) }
-    requires zeros { AreZeros (length flat.now.signals.items) zeros.now }
     requires stmt { IsTrue
         (statement_sound (design_of flat.now).signals (flat_statement stmt.now)) }
     ensures { IfOk result (λ both.
@@ -151,12 +145,12 @@ fn forward_plain(
 {
     match stmt {
         FStmt::Assign { pieces, value, .. } => {
-            let found = wrong_in(alloc, flat, zeros, targets, value, assigned)?;
+            let found = wrong_in(alloc, flat, targets, value, assigned)?;
             let mut bits = BitSet::new(alloc);
             add_pieces(&mut bits, pieces)?;
             Ok((found, bits))
         }
-        FStmt::Block(stmts) => forward_all(alloc, flat, zeros, targets, stmts, assigned),
+        FStmt::Block(stmts) => forward_all(alloc, flat, targets, stmts, assigned),
         FStmt::If { .. } => unreachable!(),
     }
 }
@@ -166,13 +160,11 @@ fn forward_plain(
 fn forward_all(
     alloc: Global,
     flat: &Flat,
-    zeros: &[u64],
     targets: &BitSet,
     stmts: &[FStmt],
     assigned: &Scope,
 ) -> Result<(Option<Found>, BitSet), AllocError>
     requires sound { IsTrue (sound (design_of flat.now)) }
-    requires zeros { AreZeros (length flat.now.signals.items) zeros.now }
     requires stmts { IsTrue
         (statement_sound (design_of flat.now).signals (chain_of (flat_statements stmts.now))) }
     ensures { IfOk result (λ both.
@@ -184,7 +176,7 @@ fn forward_all(
     let mut here = BitSet::new(alloc);
     for stmt in stmts {
         let before = Scope::Inside(&here, &*assigned);
-        let (other, bits) = forward(alloc, flat, zeros, targets, stmt, &before)?;
+        let (other, bits) = forward(alloc, flat, targets, stmt, &before)?;
         found = first_of(found, other);
         here.add_all(&bits)?;
     }
@@ -295,11 +287,9 @@ pub struct BlockFaults {
 fn block_faults(
     alloc: Global,
     flat: &Flat,
-    zeros: &[u64],
     process: &Process,
 ) -> Result<BlockFaults, AllocError>
     requires sound { IsTrue (sound (design_of flat.now)) }
-    requires zeros { AreZeros (length flat.now.signals.items) zeros.now }
     requires body { IsTrue
         (statement_sound (design_of flat.now).signals (flat_statement process.now.body)) }
     ensures { IfOk result (λ faults.
@@ -310,7 +300,7 @@ fn block_faults(
 {
     let nothing = Scope::Nothing;
     let assigned = assigned_bits(alloc, flat, &process.body)?;
-    let (phase, always) = forward(alloc, flat, zeros, &assigned, &process.body, &nothing)?;
+    let (phase, always) = forward(alloc, flat, &assigned, &process.body, &nothing)?;
     let latch = first_latch(flat, process.place, &assigned, &always);
     Ok(BlockFaults { latch, phase })
 }
@@ -319,11 +309,9 @@ fn block_faults(
 fn process_faults(
     alloc: Global,
     flat: &Flat,
-    zeros: &[u64],
     process: &Process,
 ) -> Result<BlockFaults, AllocError>
     requires sound { IsTrue (sound (design_of flat.now)) }
-    requires zeros { AreZeros (length flat.now.signals.items) zeros.now }
     requires body { IsTrue
         (statement_sound (design_of flat.now).signals (flat_statement process.now.body)) }
     ensures { IfOk result (λ faults.
@@ -333,7 +321,7 @@ fn process_faults(
         faults.phase) }
 {
     if process.kind == ProcKind::Comb {
-        block_faults(alloc, flat, zeros, process)
+        block_faults(alloc, flat, process)
     } else {
         Ok(BlockFaults {
             latch: None,
@@ -349,11 +337,10 @@ pub fn first_block_faults(alloc: Global, flat: &Flat) -> Result<BlockFaults, All
         FindsFirst 605 (latches (design_of flat.now)) faults.latch
         × FindsFirst 606 (phase_faults (design_of flat.now)) faults.phase) }
 {
-    let zeros = zeros_of(alloc, flat)?;
     let mut latch = None;
     let mut phase = None;
     for process in &flat.processes {
-        let faults = process_faults(alloc, flat, &zeros, process)?;
+        let faults = process_faults(alloc, flat, process)?;
         latch = first_of(latch, faults.latch);
         phase = first_of(phase, faults.phase);
     }

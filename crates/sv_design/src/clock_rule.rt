@@ -9,7 +9,6 @@ ghost use Rattle.sv_design.specs.ClockTables.{AreClockTables, is_whole_port, is_
 ghost use Rattle.sv_design.specs.DriverTables.{AreClocks};
 ghost use Rattle.sv_design.specs.First.{FindsFirst};
 ghost use Rattle.sv_graph.specs.Marks.{Marks, IsTable};
-ghost use Rattle.sv_design.specs.ReadForms.{AreZeros};
 
 use crate::clocks::is_top;
 use crate::found::{Found, first_of, found_if};
@@ -24,29 +23,26 @@ use sv_lattice::{Label, Lattice};
 fn mark_used(
     alloc: Global,
     flat: &Flat,
-    zeros: &[u64],
     table: &mut [bool],
 ) -> Result<(), AllocError>
     requires sound { IsTrue (sound (design_of flat.now)) }
-    requires zeros { AreZeros (length flat.now.signals.items) zeros.now }
     requires size { length table.old ≡ length flat.now.signals.items }
     ensures { OnOk result (Marks table.old table.new (is_used (design_of flat.now))) }
 {
-    mark_process_uses(alloc, flat, zeros, table)?;
+    mark_process_uses(alloc, flat, table)?;
     mark_label_uses(flat, table);
-    mark_invariant_uses(alloc, flat, zeros, table)?;
+    mark_invariant_uses(alloc, flat, table)?;
     Ok(())
 }
 
 // For each signal, whether it is used as something else than a clock.
-fn use_table(alloc: Global, flat: &Flat, zeros: &[u64]) -> Result<Vec<bool>, AllocError>
-    requires sound { IsTrue (sound (design_of flat.now)) }
-    requires zeros { AreZeros (length flat.now.signals.items) zeros.now }
+fn use_table(alloc: Global, flat: &Flat) -> Result<Vec<bool>, AllocError>
+    requires { IsTrue (sound (design_of flat.now)) }
     ensures { IfOk result (λ table.
         IsTable (length flat.now.signals.items) table.items (is_used (design_of flat.now))) }
 {
     let mut table = unmarked(alloc, flat)?;
-    mark_used(alloc, flat, zeros, &mut table)?;
+    mark_used(alloc, flat, &mut table)?;
     Ok(table)
 }
 
@@ -75,16 +71,14 @@ pub struct ClockTables {
 fn clock_tables(
     alloc: Global,
     flat: &Flat,
-    zeros: &[u64],
     clocks: &[bool],
 ) -> Result<ClockTables, AllocError>
     requires sound { IsTrue (sound (design_of flat.now)) }
-    requires zeros { AreZeros (length flat.now.signals.items) zeros.now }
     requires clocks { AreClocks (design_of flat.now) clocks.now }
     ensures { IfOk result (AreClockTables (design_of flat.now)) }
 {
     let linked = link_table(alloc, flat)?;
-    let used = use_table(alloc, flat, zeros)?;
+    let used = use_table(alloc, flat)?;
     let agrees = agreeing(alloc, flat, clocks)?;
     Ok(ClockTables {
         linked,
@@ -152,15 +146,13 @@ fn wrong_clock_by(flat: &Flat, clocks: &[bool], tables: &ClockTables) -> Option<
 pub fn first_wrong_clock(
     alloc: Global,
     flat: &Flat,
-    zeros: &[u64],
     clocks: &[bool],
 ) -> Result<Option<Found>, AllocError>
     requires sound { IsTrue (sound (design_of flat.now)) }
-    requires zeros { AreZeros (length flat.now.signals.items) zeros.now }
     requires clocks { AreClocks (design_of flat.now) clocks.now }
     ensures { IfOk result (FindsFirst 602 (clock_faults (design_of flat.now))) }
 {
-    let tables = clock_tables(alloc, flat, zeros, clocks)?;
+    let tables = clock_tables(alloc, flat, clocks)?;
     let found = wrong_clock_by(flat, clocks, &tables);
     Ok(found)
 }

@@ -9,7 +9,6 @@ ghost use Rattle.sv_design.specs.Pieces.{piece_forms};
 ghost use Rattle.sv_design.specs.DriverTables.{AreTargets, IsSoundOver, assigned_in};
 ghost use Rattle.sv_graph.specs.Marks.{Marks};
 ghost use Rattle.sv_design.specs.ReadMarks.{reads_in};
-ghost use Rattle.sv_design.specs.ReadForms.{AreZeros};
 
 use crate::names::names_in;
 use std::alloc::{AllocError, Global};
@@ -63,18 +62,16 @@ fn mark_all_targets(table: &mut [bool], stmts: &[FStmt])
 pub fn mark_names(
     alloc: Global,
     flat: &Flat,
-    zeros: &[u64],
     table: &mut [bool],
     expr: &FExpr,
 ) -> Result<(), AllocError>
-    requires zeros { AreZeros (length flat.now.signals.items) zeros.now }
     requires formed { IsTrue (well_formed (design_of flat.now).signals (typed_tree expr.now)) }
     requires size { length table.old ≡ length flat.now.signals.items }
     ensures { OnOk result
         (Marks table.old table.new
         (names_signal (design_of flat.now).signals (typed_tree expr.now))) }
 {
-    let names = names_in(alloc, flat.signals.as_slice(), zeros, expr)?;
+    let names = names_in(alloc, flat.signals.as_slice(), expr)?;
     for name in &names {
         mark(table, name.signal);
     }
@@ -86,11 +83,9 @@ pub fn mark_names(
 pub fn mark_reads(
     alloc: Global,
     flat: &Flat,
-    zeros: &[u64],
     table: &mut [bool],
     stmt: &FStmt,
 ) -> Result<(), AllocError>
-    requires zeros { AreZeros (length flat.now.signals.items) zeros.now }
     requires stmt { IsTrue
         (statement_sound (design_of flat.now).signals (flat_statement stmt.now)) }
     requires size { length table.old ≡ length flat.now.signals.items }
@@ -99,12 +94,12 @@ pub fn mark_reads(
         (reads_in (design_of flat.now).signals (flat_statement stmt.now))) }
 {
     match stmt {
-        FStmt::Assign { value, .. } => mark_names(alloc, flat, zeros, table, value),
-        FStmt::Block(stmts) => mark_all_reads(alloc, flat, zeros, table, stmts),
+        FStmt::Assign { value, .. } => mark_names(alloc, flat, table, value),
+        FStmt::Block(stmts) => mark_all_reads(alloc, flat, table, stmts),
         FStmt::If { cond, yes, no, .. } => {
-            mark_names(alloc, flat, zeros, table, cond)?;
-            mark_reads(alloc, flat, zeros, table, yes)?;
-            mark_reads(alloc, flat, zeros, table, no)
+            mark_names(alloc, flat, table, cond)?;
+            mark_reads(alloc, flat, table, yes)?;
+            mark_reads(alloc, flat, table, no)
         }
     }
 }
@@ -113,11 +108,9 @@ pub fn mark_reads(
 fn mark_all_reads(
     alloc: Global,
     flat: &Flat,
-    zeros: &[u64],
     table: &mut [bool],
     stmts: &[FStmt],
 ) -> Result<(), AllocError>
-    requires zeros { AreZeros (length flat.now.signals.items) zeros.now }
     requires stmts { IsTrue
         (statement_sound (design_of flat.now).signals (chain_of (flat_statements stmts.now))) }
     requires size { length table.old ≡ length flat.now.signals.items }
@@ -126,7 +119,7 @@ fn mark_all_reads(
         (reads_in (design_of flat.now).signals (chain_of (flat_statements stmts.now)))) }
 {
     for stmt in stmts {
-        mark_reads(alloc, flat, zeros, table, stmt)?;
+        mark_reads(alloc, flat, table, stmt)?;
     }
     Ok(())
 }

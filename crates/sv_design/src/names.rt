@@ -2,14 +2,13 @@
 ghost use Rattle.std.specs.Prelude.{◌≡◌, ◌<◌, ◌≤◌, ◌^◌, ◌++◌, [], ◌∷◌, length, IsTrue, IfOk, OnOk};
 ghost use Rattle.sv_num.specs.Vectors.{as_number, is_negative};
 ghost use Rattle.sv_flat.specs.ByNumber.{signal_forms};
-ghost use Rattle.sv_flat.specs.Readings.{whole_read, bit_read, indexed_read, is_constant};
-ghost use Rattle.sv_flat.specs.Readings.{are_constant, reads, parts_reads};
+ghost use Rattle.sv_flat.specs.Readings.{whole_read, bit_read, indexed_read, reads, parts_reads};
 ghost use Rattle.sv_flat.specs.Soundness.{well_formed, parts_well_formed};
 ghost use Rattle.sv_flat.specs.Views.{typed_tree, typed_trees, parts_of};
-ghost use Rattle.sv_design.specs.ReadForms.{read_form, read_forms, AreZeros};
+ghost use Rattle.sv_design.specs.ReadForms.{read_form, read_forms};
 
 use std::alloc::{AllocError, Global};
-use sv_flat::{FExpr, FNode, Flat, SigId, Signal, value_of};
+use sv_flat::{FExpr, FNode, SigId, Signal, constant_value};
 use sv_num::Place;
 
 /// A name in an expression: its signal, its place, and from which bit down to which it is read;
@@ -34,37 +33,6 @@ fn whole(signals: &[Signal], signal: SigId, place: Place) -> Read
         high: width.saturating_sub(1),
         low: 0,
     }
-}
-
-// Whether the expression names no signal.
-#[cycle(is_constant)]
-fn is_constant(expr: &FExpr) -> bool
-    ensures { result ≡ is_constant (typed_tree expr.now) }
-{
-    match &expr.node {
-        FNode::Number(_) => true,
-        FNode::Unary(_, operand) => is_constant(operand),
-        FNode::Binary(_, left, right) => is_constant(left) && is_constant(right),
-        FNode::Choice(_, cond, yes, no) => {
-            is_constant(cond) && is_constant(yes) && is_constant(no)
-        }
-        FNode::Join(parts) => are_constant(parts),
-        FNode::Repeat(_, parts) => are_constant(parts),
-        FNode::Slice(value, _, _) => is_constant(value),
-        _ => false,
-    }
-}
-
-#[cycle(is_constant)]
-fn are_constant(exprs: &[FExpr]) -> bool
-    ensures { result ≡ are_constant (parts_of (typed_trees exprs.now)) }
-{
-    for expr in exprs {
-        if !is_constant(expr) {
-            return false;
-        }
-    }
-    true
 }
 
 // Whether the number of a length stands for one below 0.
@@ -102,18 +70,15 @@ fn one_bit(signal: SigId, place: Place, number: u64, length: u8, signed: bool) -
 }
 
 // The bit at an index.
-fn indexed(signals: &[Signal], zeros: &[u64], signal: SigId, place: Place, index: &FExpr) -> Read
+fn indexed(signals: &[Signal], signal: SigId, place: Place, index: &FExpr) -> Read
     requires known { signal.0 < length signals.now }
-    requires zeros { AreZeros (length signals.now) zeros.now }
     requires formed { IsTrue (well_formed (signal_forms signals.now) (typed_tree index.now)) }
     ensures { read_form result ≡
         indexed_read (signal_forms signals.now) signal.0 place (typed_tree index.now) }
 {
-    if is_constant(index) {
-        let number = value_of(index, signals, zeros);
-        one_bit(signal, place, number, index.width, index.signed)
-    } else {
-        whole(signals, signal, place)
+    match constant_value(index) {
+        Some(number) => one_bit(signal, place, number, index.width, index.signed),
+        None => whole(signals, signal, place),
     }
 }
 
@@ -130,17 +95,14 @@ fn part(signal: SigId, place: Place, high: u8, low: u8) -> Read
     }
 }
 
-/// Adds the names in an expression, in textual order. A constant index has its value where each
-/// signal is 0.
+/// Adds the names in an expression, in textual order.
 #[cycle(add_names)]
 pub fn add_names(
     signals: &[Signal],
-    zeros: &[u64],
     expr: &FExpr,
     names: &mut Vec<Read>,
 ) -> Result<(), AllocError>
-    requires zeros { AreZeros (length signals.now) zeros.now }
-    requires formed { IsTrue (well_formed (signal_forms signals.now) (typed_tree expr.now)) }
+    requires { IsTrue (well_formed (signal_forms signals.now) (typed_tree expr.now)) }
     ensures { OnOk result (read_forms names.new.items ≡
         read_forms names.old.items ++ reads (signal_forms signals.now) (typed_tree expr.now)) }
 {
@@ -151,8 +113,8 @@ pub fn add_names(
             Ok(())
         }
         FNode::Bit(signal, place, index) => {
-            names.push(indexed(signals, zeros, *signal, *place, index))?;
-            add_names(signals, zeros, index, names)
+            names.push(indexed(signals, *signal, *place, index))?;
+            add_names(signals, index, names)
         }
         FNode::Part(signal, place, high, low) => {
             names.push(part(*signal, *place, *high, *low))?;
@@ -161,20 +123,20 @@ pub fn add_names(
         FNode::Unary(_, value)
         | FNode::Held(_, value)
         | FNode::HeldPart(_, _, value, _, _)
-        | FNode::Slice(value, _, _) => add_names(signals, zeros, value, names),
+        | FNode::Slice(value, _, _) => add_names(signals, value, names),
         FNode::Binary(_, first, second)
         | FNode::HeldBit(_, _, first, second)
         | FNode::Mend(_, first, _, _, second) => {
-            add_names(signals, zeros, first, names)?;
-            add_names(signals, zeros, second, names)
+            add_names(signals, first, names)?;
+            add_names(signals, second, names)
         }
         FNode::Choice(_, cond, yes, no) => {
-            add_names(signals, zeros, cond, names)?;
-            add_names(signals, zeros, yes, names)?;
-            add_names(signals, zeros, no, names)
+            add_names(signals, cond, names)?;
+            add_names(signals, yes, names)?;
+            add_names(signals, no, names)
         }
-        FNode::Join(parts) => add_all_names(signals, zeros, parts, names),
-        FNode::Repeat(_, parts) => add_all_names(signals, zeros, parts, names),
+        FNode::Join(parts) => add_all_names(signals, parts, names),
+        FNode::Repeat(_, parts) => add_all_names(signals, parts, names),
     }
 }
 
@@ -182,19 +144,17 @@ pub fn add_names(
 #[cycle(add_names)]
 fn add_all_names(
     signals: &[Signal],
-    zeros: &[u64],
     exprs: &[FExpr],
     names: &mut Vec<Read>,
 ) -> Result<(), AllocError>
-    requires zeros { AreZeros (length signals.now) zeros.now }
-    requires formed { IsTrue
+    requires { IsTrue
         (parts_well_formed (signal_forms signals.now) (parts_of (typed_trees exprs.now))) }
     ensures { OnOk result (read_forms names.new.items ≡
         read_forms names.old.items ++ parts_reads (signal_forms signals.now)
         (parts_of (typed_trees exprs.now))) }
 {
     for expr in exprs {
-        add_names(signals, zeros, expr, names)?;
+        add_names(signals, expr, names)?;
     }
     Ok(())
 }
@@ -203,22 +163,13 @@ fn add_all_names(
 pub fn names_in(
     alloc: Global,
     signals: &[Signal],
-    zeros: &[u64],
     expr: &FExpr,
 ) -> Result<Vec<Read>, AllocError>
-    requires zeros { AreZeros (length signals.now) zeros.now }
-    requires formed { IsTrue (well_formed (signal_forms signals.now) (typed_tree expr.now)) }
+    requires { IsTrue (well_formed (signal_forms signals.now) (typed_tree expr.now)) }
     ensures { IfOk result (λ names.
         read_forms names.items ≡ reads (signal_forms signals.now) (typed_tree expr.now)) }
 {
     let mut names = Vec::new(alloc);
-    add_names(signals, zeros, expr, &mut names)?;
+    add_names(signals, expr, &mut names)?;
     Ok(names)
-}
-
-/// A value 0 for each signal. It fails where memory runs out.
-pub fn zeros_of(alloc: Global, flat: &Flat) -> Result<Vec<u64>, AllocError>
-    ensures { IfOk result (λ zeros. AreZeros (length flat.now.signals.items) zeros.items) }
-{
-    vec![in alloc; 0; flat.signals.len()]
 }

@@ -18,7 +18,7 @@ ghost use Rattle.sv_design.specs.Feeds.{AreWants};
 ghost use Rattle.sv_graph.specs.Graphs.{rows_of};
 ghost use Rattle.sv_graph.specs.Marks.{is_marked, IsTable};
 ghost use Rattle.sv_design.specs.Phases.{SameBits};
-ghost use Rattle.sv_design.specs.ReadForms.{read_form, AreZeros};
+ghost use Rattle.sv_design.specs.ReadForms.{read_form};
 ghost use Rattle.sv_design.specs.Scopes.{in_scope};
 
 use crate::blocks::bits_read;
@@ -76,31 +76,36 @@ fn add_name(
     }
 }
 
-// Adds edges from the names in an expression that are sought to each signal of a set.
+// What an expression is read for: the signals with a bit in `targets`, where the bits in `later` can
+// be assigned after it.
+#[derive(Clone, Copy)]
+struct Served<'a> {
+    targets: &'a BitSet,
+    later: &'a Scope<'a>,
+}
+
+// Adds edges from the names in an expression that are sought to each signal that it is read for.
 fn add_reads(
     alloc: Global,
     flat: &Flat,
-    zeros: &[u64],
     graph: &mut BitGraph,
     sought: Sought,
     expr: &FExpr,
-    later: &Scope,
-    targets: &BitSet,
+    served: Served,
 ) -> Result<(), AllocError>
     requires sound { IsTrue (sound (design_of flat.now)) }
-    requires zeros { AreZeros (length flat.now.signals.items) zeros.now }
     requires formed { IsTrue (well_formed (design_of flat.now).signals (typed_tree expr.now)) }
     requires over { IsOver (length flat.now.signals.items) graph.old }
-    requires targets { HasTargetsBelow (length flat.now.signals.items) targets.now }
+    requires targets { HasTargetsBelow (length flat.now.signals.items) served.targets.now }
     ensures over { IsOver (length flat.now.signals.items) graph.new }
     ensures gains { OnOk result (GainsEdges graph.old graph.new (λ a b.
-        names_sought (design_of flat.now).signals sought (in_scope later.now)
-        (typed_tree expr.now) a && has_some targets.now b)) }
+        names_sought (design_of flat.now).signals sought (in_scope served.later.now)
+        (typed_tree expr.now) a && has_some served.targets.now b)) }
 {
-    let names = names_in(alloc, flat.signals.as_slice(), zeros, expr)?;
-    let row = row_of(alloc, flat.signals.len(), targets)?;
+    let names = names_in(alloc, flat.signals.as_slice(), expr)?;
+    let row = row_of(alloc, flat.signals.len(), served.targets)?;
     for name in &names {
-        add_name(flat, graph, sought, name, later, &row);
+        add_name(flat, graph, sought, name, served.later, &row);
     }
     Ok(())
 }
@@ -111,14 +116,12 @@ fn add_reads(
 fn follow(
     alloc: Global,
     flat: &Flat,
-    zeros: &[u64],
     graph: &mut BitGraph,
     sought: Sought,
     stmt: &FStmt,
     later: &Scope,
 ) -> Result<BitSet, AllocError>
     requires sound { IsTrue (sound (design_of flat.now)) }
-    requires zeros { AreZeros (length flat.now.signals.items) zeros.now }
     requires body { IsTrue
         (statement_sound (design_of flat.now).signals (flat_statement stmt.now)) }
     requires over { IsOver (length flat.now.signals.items) graph.old }
@@ -135,16 +138,24 @@ fn follow(
             let mut bits = BitSet::new(alloc);
             add_pieces(&mut bits, pieces)?;
             let inside = Scope::Inside(&bits, &*later);
-            add_reads(alloc, flat, zeros, graph, sought, value, &inside, &bits)?;
+            let served = Served {
+                targets: &bits,
+                later: &inside,
+            };
+            add_reads(alloc, flat, graph, sought, value, served)?;
             Ok(bits)
         }
-        FStmt::Block(stmts) => follow_all(alloc, flat, zeros, graph, sought, stmts, later),
+        FStmt::Block(stmts) => follow_all(alloc, flat, graph, sought, stmts, later),
         FStmt::If { cond, yes, no, .. } => {
-            let by_yes = follow(alloc, flat, zeros, graph, sought, yes, later)?;
-            let mut bits = follow(alloc, flat, zeros, graph, sought, no, later)?;
+            let by_yes = follow(alloc, flat, graph, sought, yes, later)?;
+            let mut bits = follow(alloc, flat, graph, sought, no, later)?;
             bits.add_all(&by_yes)?;
             let inside = Scope::Inside(&bits, &*later);
-            add_reads(alloc, flat, zeros, graph, sought, cond, &inside, &bits)?;
+            let served = Served {
+                targets: &bits,
+                later: &inside,
+            };
+            add_reads(alloc, flat, graph, sought, cond, served)?;
             Ok(bits)
         }
     }
@@ -155,14 +166,12 @@ fn follow(
 fn follow_all(
     alloc: Global,
     flat: &Flat,
-    zeros: &[u64],
     graph: &mut BitGraph,
     sought: Sought,
     stmts: &[FStmt],
     later: &Scope,
 ) -> Result<BitSet, AllocError>
     requires sound { IsTrue (sound (design_of flat.now)) }
-    requires zeros { AreZeros (length flat.now.signals.items) zeros.now }
     requires body { IsTrue
         (statement_sound (design_of flat.now).signals (chain_of (flat_statements stmts.now))) }
     requires over { IsOver (length flat.now.signals.items) graph.old }
@@ -178,7 +187,7 @@ fn follow_all(
     for i in 0..stmts.len() {
         let stmt = &stmts[stmts.len() - 1 - i];
         let inside = Scope::Inside(&here, &*later);
-        let bits = follow(alloc, flat, zeros, graph, sought, stmt, &inside)?;
+        let bits = follow(alloc, flat, graph, sought, stmt, &inside)?;
         here.add_all(&bits)?;
     }
     Ok(here)
@@ -209,13 +218,11 @@ fn is_block(kind: ProcKind) -> bool
 fn follow_process(
     alloc: Global,
     flat: &Flat,
-    zeros: &[u64],
     graph: &mut BitGraph,
     process: &Process,
     earlier: bool,
 ) -> Result<(), AllocError>
     requires sound { IsTrue (sound (design_of flat.now)) }
-    requires zeros { AreZeros (length flat.now.signals.items) zeros.now }
     requires body { IsTrue
         (statement_sound (design_of flat.now).signals (flat_statement process.now.body)) }
     requires over { IsOver (length flat.now.signals.items) graph.old }
@@ -232,7 +239,7 @@ fn follow_process(
     }
     let nothing = Scope::Nothing;
     let sought = Sought { in_block, earlier };
-    follow(alloc, flat, zeros, graph, sought, &process.body, &nothing)?;
+    follow(alloc, flat, graph, sought, &process.body, &nothing)?;
     Ok(())
 }
 
@@ -242,12 +249,10 @@ fn follow_process(
 fn readers_of(
     alloc: Global,
     flat: &Flat,
-    zeros: &[u64],
     processes: &[Process],
     earlier: bool,
 ) -> Result<BitGraph, AllocError>
     requires sound { IsTrue (sound (design_of flat.now)) }
-    requires zeros { AreZeros (length flat.now.signals.items) zeros.now }
     requires processes { map process_form processes.now ≡ processes_of (design_of flat.now) }
     ensures over { IfOk result (IsOver (length flat.now.signals.items)) }
     ensures edges { IfOk result (λ graph.
@@ -256,7 +261,7 @@ fn readers_of(
 {
     let mut graph = BitGraph::new(alloc, flat.signals.len())?;
     for process in processes {
-        follow_process(alloc, flat, zeros, &mut graph, process, earlier)?;
+        follow_process(alloc, flat, &mut graph, process, earlier)?;
     }
     Ok(graph)
 }
@@ -314,12 +319,10 @@ pub struct ReadGraphs {
 pub fn reads_of(
     alloc: Global,
     flat: &Flat,
-    zeros: &[u64],
     processes: &[Process],
     registers: &[bool],
 ) -> Result<ReadGraphs, AllocError>
     requires sound { IsTrue (sound (design_of flat.now)) }
-    requires zeros { AreZeros (length flat.now.signals.items) zeros.now }
     requires processes { map process_form processes.now ≡ processes_of (design_of flat.now) }
     requires registers { IsTable (length flat.now.signals.items) registers.now
         (is_register (design_of flat.now)) }
@@ -329,8 +332,8 @@ pub fn reads_of(
         (signal_numbers (design_of flat.now))) }
     ensures wants { IfOk result (λ graphs. AreWants (design_of flat.now) graphs.wants) }
 {
-    let mut readers = readers_of(alloc, flat, zeros, processes, false)?;
-    let earlier = readers_of(alloc, flat, zeros, processes, true)?;
+    let mut readers = readers_of(alloc, flat, processes, false)?;
+    let earlier = readers_of(alloc, flat, processes, true)?;
     let wants = earlier.turned(alloc)?;
     follow_earlier(alloc, &mut readers, earlier)?;
     add_registers(&mut readers, registers);

@@ -9,7 +9,6 @@ ghost use Rattle.sv_flat.specs.Views.{design_of, process_form};
 ghost use Rattle.sv_design.specs.Links.{link_of, IsBelow};
 ghost use Rattle.sv_graph.specs.Marks.{Marks};
 ghost use Rattle.sv_design.specs.Selectors.{SelectsBelow, is_port};
-ghost use Rattle.sv_design.specs.ReadForms.{AreZeros};
 
 use crate::links::{Link, link_in};
 use crate::marks::{mark_names, mark_reads, mark_targets};
@@ -22,11 +21,9 @@ use sv_lattice::Label;
 fn mark_uses(
     alloc: Global,
     flat: &Flat,
-    zeros: &[u64],
     table: &mut [bool],
     process: &Process,
 ) -> Result<(), AllocError>
-    requires zeros { AreZeros (length flat.now.signals.items) zeros.now }
     requires process { IsTrue (process_sound (design_of flat.now) (process_form process.now)) }
     requires size { length table.old ≡ length flat.now.signals.items }
     ensures { OnOk result (Marks table.old table.new (λ s.
@@ -36,7 +33,7 @@ fn mark_uses(
         Some(_) => Ok(()),
         None => {
             mark_targets(table, &process.body);
-            mark_reads(alloc, flat, zeros, table, &process.body)?;
+            mark_reads(alloc, flat, table, &process.body)?;
             Ok(())
         }
     }
@@ -47,17 +44,15 @@ fn mark_uses(
 pub fn mark_process_uses(
     alloc: Global,
     flat: &Flat,
-    zeros: &[u64],
     table: &mut [bool],
 ) -> Result<(), AllocError>
     requires sound { IsTrue (sound (design_of flat.now)) }
-    requires zeros { AreZeros (length flat.now.signals.items) zeros.now }
     requires size { length table.old ≡ length flat.now.signals.items }
     ensures { OnOk result (Marks table.old table.new (λ s.
         list_any (uses_as_signal (design_of flat.now) s) (design_of flat.now).processes)) }
 {
     for process in &flat.processes {
-        mark_uses(alloc, flat, zeros, table, process)?;
+        mark_uses(alloc, flat, table, process)?;
     }
     Ok(())
 }
@@ -123,18 +118,16 @@ pub fn mark_linked(flat: &Flat, table: &mut [bool])
 pub fn mark_invariant_uses(
     alloc: Global,
     flat: &Flat,
-    zeros: &[u64],
     table: &mut [bool],
 ) -> Result<(), AllocError>
     requires sound { IsTrue (sound (design_of flat.now)) }
-    requires zeros { AreZeros (length flat.now.signals.items) zeros.now }
     requires size { length table.old ≡ length flat.now.signals.items }
     ensures { OnOk result (Marks table.old table.new (λ s. list_any (λ (i : InvariantForm).
         names_signal (design_of flat.now).signals i.expression s)
         (design_of flat.now).invariants)) }
 {
     for invariant in &flat.invariants {
-        mark_names(alloc, flat, zeros, table, &invariant.1)?;
+        mark_names(alloc, flat, table, &invariant.1)?;
     }
     Ok(())
 }

@@ -16,6 +16,7 @@ pub mod Members
 pub mod SameValues
 pub mod SameRuns
 pub mod AdmittedFacts
+pub mod Constants
 pub mod ReadSignals
 pub mod ClockFacts
 pub mod RunReads

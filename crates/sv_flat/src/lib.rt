@@ -19,6 +19,7 @@
 #![tactic(auto)]
 
 mod bits;
+mod constants;
 mod copies;
 mod designs;
 mod expressions;
@@ -30,6 +31,7 @@ mod statements;
 mod typing;
 mod values;
 
+pub use constants::{constant_value, is_constant};
 pub use designs::{Flat, ProcKind, Process};
 pub use expressions::{FExpr, FNode};
 pub use laws::{admitted_designs_are_scheduled, clocks_lead_up_to_a_top_clock};

@@ -1,6 +1,7 @@
 -- Private: how the code goes. Bits that can be assigned behind a place, and how names are read
 -- there.
-use Rattle.std.specs.Prelude.{◌≡◌, ℕ, false, ◌||◌, List, unwrap_or, if◌then◌else◌}
+use Rattle.std.specs.Prelude.{◌≡◌, ℕ, false, ◌||◌, List, length, slice_index, unwrap_or}
+use Rattle.std.specs.Prelude.{if◌then◌else◌}
 use Rattle.std.specs.BTreeMap as tree
 use Rattle.std.specs.Ordering.{nat_cmp}
 use Rattle.sv_flat.specs.Design.{SignalForm}
@@ -40,3 +41,7 @@ read_form r = record { signal = r.signal.0; place = r.place; high = r.high; low 
 abbrev pub marked_name : List SignalForm → (follows : BitSet) → ReadForm → ℕ
 marked_name signals follows r =
     if some_bit_read signals r (follows r.signal) then copy_of signals r.signal else r.signal
+
+-- a value 0 for each of n signals
+abbrev pub AreZeros : (n : ℕ) → List ℕ → Type 0
+AreZeros n values = (length values ≡ n) × ((s : ℕ) → slice_index values s ≡ 0)

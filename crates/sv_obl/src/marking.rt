@@ -3,9 +3,8 @@ ghost use Rattle.std.specs.Prelude.{◌≡◌, ◌<◌, ◌≤◌, length, map, 
 ghost use Rattle.sv_flat.specs.ByNumber.{signal_forms, AreWords};
 ghost use Rattle.sv_flat.specs.Soundness.{well_formed, parts_well_formed};
 ghost use Rattle.sv_flat.specs.Views.{typed_tree, typed_trees, node_tree, parts_of};
-ghost use Rattle.sv_design.specs.ReadForms.{AreZeros};
 ghost use Rattle.sv_obl.specs.Exchange.{exchanged_node};
-ghost use Rattle.sv_obl.specs.Later.{in_scope, read_form, marked_name};
+ghost use Rattle.sv_obl.specs.Later.{in_scope, read_form, marked_name, AreZeros};
 ghost use Rattle.sv_obl.specs.Wanted.{mark, marked_tree};
 
 use crate::later::{Scope, share};

@@ -7,8 +7,7 @@ ghost use Rattle.sv_flat.specs.Readings.{are_constant};
 ghost use Rattle.sv_flat.specs.Soundness.{well_formed};
 ghost use Rattle.sv_flat.specs.Views.{typed_tree, typed_trees, parts_of};
 ghost use Rattle.sv_graph.specs.BitSets.{is_set};
-ghost use Rattle.sv_design.specs.ReadForms.{AreZeros};
-ghost use Rattle.sv_obl.specs.Later.{read_form};
+ghost use Rattle.sv_obl.specs.Later.{read_form, AreZeros};
 
 use crate::later::mask;
 use sv_flat::{FExpr, FNode, SigId, Signal, value_of};

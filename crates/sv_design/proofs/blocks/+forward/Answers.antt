@@ -33,12 +33,9 @@ forward-forward-requires t c =
       search (rules, the_lemmas),
       (
         c.requires.sound,
-        (
-          c.requires.zeros,
-          sound_as signals (sym c.deref.ensures)
-              (and_parts _ _ (and_parts _ _
-              (sound_as signals c.in-If.is c.loop-rest.invariant.0.is_sound)).0).1,
-        ),
+        sound_as signals (sym c.deref.ensures)
+            (and_parts _ _ (and_parts _ _
+            (sound_as signals c.in-If.is c.loop-rest.invariant.0.is_sound)).0).1,
       ),
     )
 
@@ -72,7 +69,7 @@ forward-forward_plain-requires t c = (
   search (rules, the_lemmas),
   (
     no_branch c.loop-rest.rest.now c.in_default.not-If,
-    (c.requires.sound, (c.requires.zeros, c.loop-rest.invariant.0.is_sound)),
+    (c.requires.sound, c.loop-rest.invariant.0.is_sound),
   ),
 )
 
@@ -95,12 +92,9 @@ forward_plain-forward_all-requires t c =
       search (rules, the_lemmas),
       (
         c.requires.sound,
-        (
-          c.requires.zeros,
-          subst (λ b. IsTrue (statement_sound signals b))
-              (block_is _ c.in-Block.stmts _ c.in-Block.is c.deref-in-Block.ensures.value)
-              c.requires.stmt,
-        ),
+        subst (λ b. IsTrue (statement_sound signals b))
+            (block_is _ c.in-Block.stmts _ c.in-Block.is c.deref-in-Block.ensures.value)
+            c.requires.stmt,
       ),
     )
 
@@ -124,11 +118,8 @@ forward_all-forward-requires t c = (
   search (rules, the_lemmas),
   (
     c.requires.sound,
-    (
-      c.requires.zeros,
-      sound_at (design_of c.args.flat.now).signals c.args.stmts.now c.loop-stmt.stmt-index
-          c.stmt-item.result c.loop-stmt-test.true c.stmt-item.is c.requires.stmts,
-    ),
+    sound_at (design_of c.args.flat.now).signals c.args.stmts.now c.loop-stmt.stmt-index
+        c.stmt-item.result c.loop-stmt-test.true c.stmt-item.is c.requires.stmts,
   ),
 )
 

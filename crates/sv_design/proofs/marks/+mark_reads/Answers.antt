@@ -23,12 +23,9 @@ mark_all_reads-mark_reads-requires t c =
     let next = next_statement stmts i c.stmt-item.result c.loop-stmt-test.true c.stmt-item.is in (
       search (rules, the_lemmas),
       (
-        c.requires.zeros,
-        (
-          sound_first signals this rest
-              (subst (λ b. IsTrue (statement_sound signals b)) next c.loop-stmt.invariant.0),
-          c.loop-stmt.auto.table ∙ c.requires.size,
-        ),
+        sound_first signals this rest
+            (subst (λ b. IsTrue (statement_sound signals b)) next c.loop-stmt.invariant.0),
+        c.loop-stmt.auto.table ∙ c.requires.size,
       ),
     )
 
@@ -66,13 +63,10 @@ mark_reads-mark_all_reads-requires t c =
     let signals = (design_of c.args.flat.now).signals in (
       search (rules, the_lemmas),
       (
-        c.requires.zeros,
-        (
-          subst (λ b. IsTrue (statement_sound signals b))
-              (block_is c.args.stmt.now c.in-Block.stmts c.deref.result.now c.in-Block.is
-              c.deref.ensures.value) c.requires.stmt,
-          c.requires.size,
-        ),
+        subst (λ b. IsTrue (statement_sound signals b))
+            (block_is c.args.stmt.now c.in-Block.stmts c.deref.result.now c.in-Block.is
+            c.deref.ensures.value) c.requires.stmt,
+        c.requires.size,
       ),
     )
 

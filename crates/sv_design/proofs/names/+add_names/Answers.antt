@@ -16,11 +16,8 @@ use Rattle.sv_design.proofs.names.+add_names.Goals as goal
 pub add_all_names-add_names-requires : goal.add_all_names-add_names-requires
 add_all_names-add_names-requires t c = (
   search (rules, the_lemmas),
-  (
-    c.requires.zeros,
-    formed_at (signal_forms c.args.signals.now) c.args.exprs.now c.loop-expr.expr-index
-        c.expr-item.result c.loop-expr-test.true c.expr-item.is c.requires.formed,
-  ),
+  formed_at (signal_forms c.args.signals.now) c.args.exprs.now c.loop-expr.expr-index
+      c.expr-item.result c.loop-expr-test.true c.expr-item.is c.requires,
 )
 
 pub add_all_names-loop-expr-preserved : goal.add_all_names-loop-expr-preserved
@@ -37,20 +34,20 @@ add_names-add_all_names-requires t c =
     let signals = signal_forms c.args.signals.now in
     let e = c.args.expr.now in
     let formed = second_of (is_one_to 64 e.width)
-    (node_well_formed signals e.width e.signed (node_tree e.node)) c.requires.formed in
+    (node_well_formed signals e.width e.signed (node_tree e.node)) c.requires in
     let form = join_few signals e.width e.signed (node_tree e.node) c.in-Join.parts
     (ap node_tree c.in-Join.is) formed in
-    (search (rules, the_lemmas), (c.requires.zeros, rw c.deref-in-Join.ensures.value form.1))
+    (search (rules, the_lemmas), rw c.deref-in-Join.ensures.value form.1)
 
 pub add_names-add_all_names-requires-in-Repeat : goal.add_names-add_all_names-requires-in-Repeat
 add_names-add_all_names-requires-in-Repeat t c =
     let signals = signal_forms c.args.signals.now in
     let e = c.args.expr.now in
     let formed = second_of (is_one_to 64 e.width)
-    (node_well_formed signals e.width e.signed (node_tree e.node)) c.requires.formed in
+    (node_well_formed signals e.width e.signed (node_tree e.node)) c.requires in
     let form = repeat_few signals e.width e.signed (node_tree e.node) c.in-Repeat.field-0
     c.in-Repeat.parts (ap node_tree c.in-Repeat.is) formed in
-    (search (rules, the_lemmas), (c.requires.zeros, rw c.deref-in-Repeat.ensures.value form.2))
+    (search (rules, the_lemmas), rw c.deref-in-Repeat.ensures.value form.2)
 
 pub add_names-returns-in-Join : goal.add_names-returns-in-Join
 add_names-returns-in-Join t c =

@@ -49,12 +49,9 @@ follow-follow-requires-in-If t c =
       (
         c.requires.sound,
         (
-          c.requires.zeros,
-          (
-            sound_as signals (sym c.deref-in-If-2.ensures)
-                (and_parts _ _ (sound_as signals c.in-If.is c.requires.body)).1,
-            c.in_ok-by_yes-in-If.ensures.over,
-          ),
+          sound_as signals (sym c.deref-in-If-2.ensures)
+              (and_parts _ _ (sound_as signals c.in-If.is c.requires.body)).1,
+          c.in_ok-by_yes-in-If.ensures.over,
         ),
       ),
     )
@@ -90,13 +87,10 @@ follow-follow_all-requires t c =
       (
         c.requires.sound,
         (
-          c.requires.zeros,
-          (
-            subst (λ b. IsTrue (statement_sound signals b))
-                (block_is _ c.in-Block.stmts _ c.in-Block.is c.deref-in-Block.ensures.value)
-                c.requires.body,
-            c.requires.over,
-          ),
+          subst (λ b. IsTrue (statement_sound signals b))
+              (block_is _ c.in-Block.stmts _ c.in-Block.is c.deref-in-Block.ensures.value)
+              c.requires.body,
+          c.requires.over,
         ),
       ),
     )
@@ -185,12 +179,9 @@ follow_all-follow-requires t c =
       (
         c.requires.sound,
         (
-          c.requires.zeros,
-          (
-            sound_at (design_of c.args.flat.now).signals stmts j c.index-stmts-stmts.result inside
-                c.index-stmts-stmts.is c.requires.body,
-            c.loop-i.invariant.0,
-          ),
+          sound_at (design_of c.args.flat.now).signals stmts j c.index-stmts-stmts.result inside
+              c.index-stmts-stmts.is c.requires.body,
+          c.loop-i.invariant.0,
         ),
       ),
     )

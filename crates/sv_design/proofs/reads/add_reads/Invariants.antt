@@ -14,11 +14,11 @@ use Rattle.sv_design.proofs.reads.add_reads.Given as goal
 abbrev pub invariant-loop-name : goal.invariant-loop-name
 invariant-loop-name l =
     let signals = (design_of l.flat).signals in
-    let later = in_scope l.later in
+    let later = in_scope l.served.later.now in
     IsOver (length l.flat.signals.items) l.graph
     × EdgesSoFar (has_edge l.initial.graph) (has_edge l.graph) (λ a b.
-    names_sought signals l.sought later (typed_tree l.expr) a && has_some l.targets b)
+    names_sought signals l.sought later (typed_tree l.expr) a && has_some l.served.targets.now b)
     (λ a b. list_any (λ (r : Read).
     (r.signal.0 == a) && is_sought signals l.sought later (read_form r))
     (drop l.name-index l.name-items)
-    && has_some l.targets b)
+    && has_some l.served.targets.now b)

@@ -3,7 +3,7 @@ use Rattle.sv_flat.specs.Readings.{is_constant_node, are_constant}
 use Rattle.sv_flat.specs.Views.{node_tree}
 use Rattle.sv_flat.proofs.Parts.{trees}
 use Rattle.sv_flat.proofs.Rows.{row_parts-hidden}
-use Rattle.sv_design.proofs.names.+is_constant.Goals as goal
+use Rattle.sv_flat.proofs.constants.+is_constant.Goals as goal
 
 pub is_constant-returns-in-Join : goal.is_constant-returns-in-Join
 is_constant-returns-in-Join t c =

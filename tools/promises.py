@@ -24,7 +24,7 @@ GROUPS = {
     "outside": ("The outside, numbers and lattices", ["sv_num", "sv_io", "sv_lattice", "sv_system"]),
     "texts": ("Reading a text", ["sv_token", "sv_ast", "sv_parse_machine", "sv_parse_expr", "sv_parse_stmt", "sv_parse"]),
     "elaboration": ("Elaboration", ["sv_elab_rules", "sv_width", "sv_elab_stmt", "sv_elab_decl", "sv_elab", "sv_elab_laws", "sv_run_laws"]),
-    "designs": ("Flat designs, runs and traces", ["sv_flat", "sv_graph", "sv_design", "sv_sim", "sv_event", "sv_trace", "sv_sim_run", "sv_tworun", "sv_compare"]),
+    "designs": ("Flat designs, runs and traces", ["sv_flat", "sv_graph", "sv_rules", "sv_design", "sv_sim", "sv_event", "sv_trace", "sv_sim_run", "sv_tworun", "sv_compare"]),
     "obligations": ("Obligations, their clauses and proofs",
                     ["sv_obl", "sv_clause", "sv_gates", "sv_circuits", "sv_encoding", "sv_encoding_laws", "sv_blast", "sv_proof", "sv_solve", "sv_decide",
                      "sv_accept", "sv_judge"]),
@@ -40,15 +40,16 @@ TOLD = {
                  ("Row::of_points",), ("Row::add", SELF), ("Row::finish",), ("words_of",)],
     "sv_messages": [("message",), ("spent_message",)],
 }
-# What is lent to a call of graphs, which its caller drops where memory runs out.
-LENT = [("BitSet::add", SELF), ("BitSet::add_all", SELF), ("push_if", "what it leaves in signals"), ("Queue::settle_all", SELF),
-        ("Search::add_way_back", "what it leaves in way")]
+# What is lent to a call of graphs or rules, which its caller drops where memory runs out.
+LENT = [("sv_graph", "BitSet::add", SELF), ("sv_graph", "BitSet::add_all", SELF), ("sv_graph", "push_if", "what it leaves in signals"),
+        ("sv_graph", "Queue::settle_all", SELF), ("sv_graph", "Search::add_way_back", "what it leaves in way"),
+        ("sv_rules", "add_pieces", "what it leaves in set")]
 # What no clause says, and why that stands.
 OPEN = {
     ("sv_words", "help_text", "what it gives"): "the text is that of `clap`, and is only tested",
     **{(crate, name, what): "what a person is told is only tested" for crate, names in TOLD.items() for name, *more in names
        for what in ("what it gives", *more)},
-    **{("sv_graph", name, what): "admission ends where memory runs out, and drops it" for name, what in LENT},
+    **{lent: "admission ends where memory runs out, and drops it" for lent in LENT},
 }
 HANDLES = re.compile(r"\b(Abort|Wait|Threads|Net|Processes)\b")
 MEMORY = {"OutOfMemory", "AllocError", "AllocFailed"}

@@ -19,7 +19,7 @@ use Rattle.sv_flat.specs.FlatSystem.{flat_system}
 use Rattle.sv_flat.specs.SignalLists.{registers, inputs}
 use Rattle.sv_flat.proofs.Depths.{first_of}
 use Rattle.sv_flat.proofs.LeastSets.{those_pass}
-use Rattle.sv_design.proofs.Sound.{few_bits}
+use Rattle.sv_rules.proofs.Sound.{few_bits}
 use Rattle.sv_obl.specs.declared.valuations.Valuation.{Valuation as Listed}
 use Rattle.sv_obl.specs.Valuations.{FitsDesign}
 use Rattle.sv_encoding.specs.Encoding.{BitPlace, Encoding}

@@ -27,7 +27,7 @@ use Rattle.sv_flat.specs.declared.designs.Flat.{Flat}
 use Rattle.sv_flat.specs.Admission.{IsRefused, IsAdmitted}
 use Rattle.sv_flat.specs.Design.{FlatDesign}
 use Rattle.sv_flat.specs.Views.{design_of}
-use Rattle.sv_design.specs.Faults.{IsFaultOf}
+use Rattle.sv_rules.specs.Faults.{IsFaultOf}
 use Rattle.sv_elab_rules.specs.Texts.{walk_of, value_in}
 use Rattle.sv_width.specs.Answers.{IsBreach}
 use Rattle.sv_elab_laws.specs.FlattenedTexts.{ReleasesNothing, EachItem}

@@ -11,7 +11,7 @@ use Rattle.sv_flat.specs.Processes.{signals_that}
 use Rattle.sv_flat.specs.Sets.{holds, those, with_all_brought}
 use Rattle.sv_flat.proofs.LeastSets.{in_those, those_pass, holds-from_Contains}
 use Rattle.sv_flat.proofs.LeastSets.{Contains-from_holds}
-use Rattle.sv_design.proofs.TableFacts.{filter_within}
+use Rattle.sv_rules.proofs.TableFacts.{filter_within}
 
 -- ---- sets in order
 

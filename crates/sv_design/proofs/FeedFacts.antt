@@ -45,8 +45,8 @@ use Rattle.sv_graph.specs.Graphs.{rows_of}
 use Rattle.sv_graph.specs.Graphs as graphs
 use Rattle.sv_graph.specs.Marks.{is_marked, IsTable}
 use Rattle.sv_design.specs.Numbers.{numbers}
-use Rattle.sv_design.proofs.Passes.{or_turned}
-use Rattle.sv_design.proofs.TableFacts.{filter_within}
+use Rattle.sv_rules.proofs.Passes.{or_turned}
+use Rattle.sv_rules.proofs.TableFacts.{filter_within}
 use Rattle.sv_graph.proofs.BitFacts.{same_answer}
 use Rattle.sv_graph.proofs.MarkFacts.{any_append, any_map}
 

@@ -19,12 +19,12 @@ use Rattle.sv_design.specs.Orders.{AreReads}
 use Rattle.sv_design.specs.declared.orders.Reads.{Reads}
 use Rattle.sv_flat.proofs.AdmittedFacts.{and_true}
 use Rattle.sv_flat.proofs.LeastSets.{either_way}
-use Rattle.sv_design.specs.First.{breach_of, found_before}
+use Rattle.sv_rules.specs.First.{breach_of, found_before}
 use Rattle.sv_design.specs.Numbers.{numbers}
-use Rattle.sv_design.specs.declared.found.Found.{Found}
+use Rattle.sv_rules.specs.declared.found.Found.{Found}
 use Rattle.sv_design.specs.declared.loops.Circle.{Circle}
 use Rattle.sv_design.proofs.CircleFacts.{circle_is_combinational, no_candidate}
-use Rattle.sv_design.proofs.Firsts.{one_rule, itself, not_before}
+use Rattle.sv_rules.proofs.Firsts.{one_rule, itself, not_before}
 use Rattle.sv_graph.proofs.SearchFacts.{below_or_at}
 
 -- a circle comes where its first signal does

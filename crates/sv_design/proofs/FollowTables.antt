@@ -19,9 +19,9 @@ use Rattle.sv_graph.proofs.BitFacts.{same_answer}
 use Rattle.sv_graph.proofs.Differing.{filter_same}
 use Rattle.sv_design.proofs.FeedFacts.{followed_is, one_driver, drivers_unbroken}
 use Rattle.sv_graph.proofs.FollowFacts.{only_one}
-use Rattle.sv_design.proofs.PhaseFacts.{in_range}
+use Rattle.sv_rules.proofs.PhaseFacts.{in_range}
 use Rattle.sv_graph.proofs.FoundTables.{if_ok}
-use Rattle.sv_design.proofs.TopTables.{all_brought}
+use Rattle.sv_rules.proofs.TopTables.{all_brought}
 
 -- a least set over some signals lists what it holds
 least_listed : (n : ℕ) (brings : ℕ → ℕ → Bool) (first : List ℕ) (s : ℕ) → s < n →

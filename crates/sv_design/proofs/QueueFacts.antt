@@ -35,7 +35,7 @@ use Rattle.sv_design.proofs.ReadOrders.{is_open, pending, Queued, queued_comb, q
 use Rattle.sv_design.proofs.ReadOrders.{queue_more, some_open}
 use Rattle.sv_graph.proofs.SearchFacts.{below_or_at}
 use Rattle.sv_graph.proofs.QueueFacts.{number_at, held_last}
-use Rattle.sv_design.proofs.TableFacts.{filter_within}
+use Rattle.sv_rules.proofs.TableFacts.{filter_within}
 
 -- ---- the tables
 

@@ -17,16 +17,16 @@ use Rattle.sv_graph.specs.declared.bit_graphs.BitGraph.{BitGraph}
 use Rattle.sv_graph.specs.BitSets.{mask_in, has_some, in_bits, HasTargetsBelow}
 use Rattle.sv_design.specs.Feeds.{names_sought, feeds}
 use Rattle.sv_graph.specs.BitGraphs.{has_edge, GainsEdges}
-use Rattle.sv_design.specs.Phases.{SameBits}
-use Rattle.sv_design.proofs.BlockPasses.{targets_are}
-use Rattle.sv_design.specs.Scopes.{in_scope}
+use Rattle.sv_rules.specs.Phases.{SameBits}
+use Rattle.sv_rules.proofs.BlockPasses.{targets_are}
+use Rattle.sv_rules.specs.Scopes.{in_scope}
 use Rattle.sv_design.specs.declared.reads.Sought.{Sought}
-use Rattle.sv_design.specs.declared.scopes.Scope.{Scope, Inside}
+use Rattle.sv_rules.specs.declared.scopes.Scope.{Scope, Inside}
 use Rattle.sv_graph.proofs.EntryFacts.{nothing_in}
 use Rattle.sv_graph.proofs.MarkFacts.{or_no, or_three}
-use Rattle.sv_design.proofs.Passes.{or_turned}
-use Rattle.sv_design.proofs.PieceFacts.{in_scope-inside}
-use Rattle.sv_design.proofs.Sound.{process_is_sound}
+use Rattle.sv_rules.proofs.Passes.{or_turned}
+use Rattle.sv_rules.proofs.PieceFacts.{in_scope-inside}
+use Rattle.sv_rules.proofs.Sound.{process_is_sound}
 
 -- ---- names
 

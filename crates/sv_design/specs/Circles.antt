@@ -7,9 +7,9 @@ use Rattle.sv_flat.specs.declared.signals.SigId.{SigId}
 use Rattle.sv_flat.specs.Design.{FlatDesign}
 use Rattle.sv_flat.specs.Breaches.{Breach, comes_before, first_signal}
 use Rattle.sv_flat.specs.Loops.{is_circle, IsLoop}
-use Rattle.sv_design.specs.declared.found.Found.{Found}
+use Rattle.sv_rules.specs.declared.found.Found.{Found}
 use Rattle.sv_design.specs.declared.loops.Circle.{Circle}
-use Rattle.sv_design.specs.First.{found_before}
+use Rattle.sv_rules.specs.First.{found_before}
 use Rattle.sv_flat.specs.Processes.{declared_at}
 use Rattle.sv_graph.specs.Marks.{is_marked}
 use Rattle.sv_design.specs.Numbers.{numbers}

@@ -8,27 +8,20 @@ ghost use Rattle.sv_flat.specs.Processes.{is_register};
 ghost use Rattle.sv_flat.specs.Reads.{order as order_of};
 ghost use Rattle.sv_flat.specs.Soundness.{sound};
 ghost use Rattle.sv_flat.specs.Views.{design_of, process_form};
-ghost use Rattle.sv_design.specs.DriverTables.{AreClocks, AreDriversOf};
-ghost use Rattle.sv_design.specs.Faults.{IsFaultOf};
+ghost use Rattle.sv_rules.specs.DriverTables.{AreClocks, AreDriversOf};
+ghost use Rattle.sv_rules.specs.Faults.{IsFaultOf};
 ghost use Rattle.sv_design.specs.Feeds.{AreWants};
 ghost use Rattle.sv_graph.specs.Marks.{IsTable};
 ghost use Rattle.sv_design.specs.Numbers.{numbers};
 ghost use Rattle.sv_design.specs.Orders.{AreReads, IsLongestOrder, IsWholeOrder};
-ghost use Rattle.sv_design.specs.Refusals.{driving_breaches};
 ghost use Rattle.sv_design.specs.Tables.{AreTables};
 
-use crate::assignments::first_wrong_assign;
-use crate::blocks::first_block_faults;
-use crate::clock_rule::first_wrong_clock;
-use crate::clocks::clock_table;
 use crate::depths::by_depth;
 use crate::design::Design;
-use crate::drivers::{Drivers, driver_numbers, drivers_of, first_extra_driver, first_undriven};
 use crate::loops::first_circle;
 use crate::orders::{Reads, read_order, reads_table};
 use crate::processes::kept_processes;
 use crate::reads::{ReadGraphs, reads_of};
-use crate::refusals::{refusal, refuse};
 use crate::registers::{clocked_count, comb_table, register_table};
 use crate::signal_lists::{inputs_of, registers_of, seen_of, top_clock};
 use crate::tables::Tables;
@@ -36,47 +29,7 @@ use std::alloc::{AllocError, Global};
 use sv_flat::{Flat, Process, SigId};
 use sv_graph::Graph;
 use sv_num::{Fault, Rule};
-
-// The clocks and drivers of a design with one driver for each signal.
-#[derive(Drop)]
-struct Driven {
-    clocks: Vec<bool>,
-    drivers: Drivers,
-}
-
-// The clocks and drivers of a design that breaks none of the rules 601 to 604.
-fn check_drivers(alloc: Global, flat: &Flat) -> Result<Driven, Fault>
-    requires { IsTrue (sound (design_of flat.now)) }
-    ensures clocks { IfOk result (λ driven. AreClocks (design_of flat.now) driven.clocks.items) }
-    ensures drivers { IfOk result (λ driven. AreDriversOf (design_of flat.now) driven.drivers) }
-    ensures unbroken { OnOk result (driving_breaches (design_of flat.now) ≡ []) }
-    ensures refused { IfErr result (IsFaultOf (design_of flat.now)) }
-{
-    let assign = first_wrong_assign(alloc, flat)?;
-    refuse(alloc, flat, Rule::WrongAssign, assign)?;
-    let clocks = clock_table(alloc, flat)?;
-    let clock = first_wrong_clock(alloc, flat, &clocks)?;
-    refuse(alloc, flat, Rule::Clock, clock)?;
-    let drivers = drivers_of(alloc, flat, &clocks)?;
-    let extra = first_extra_driver(flat, &drivers);
-    let lacking = first_undriven(flat, &clocks, &drivers);
-    refuse(alloc, flat, Rule::Drivers, extra)?;
-    refuse(alloc, flat, Rule::Undriven, lacking)?;
-    Ok(Driven { clocks, drivers })
-}
-
-// Whether the blocks keep nothing: the rules 605 and 606.
-fn check_blocks(alloc: Global, flat: &Flat) -> Result<(), Fault>
-    requires sound { IsTrue (sound (design_of flat.now)) }
-    requires unbroken { driving_breaches (design_of flat.now) ≡ [] }
-    ensures unbroken { OnOk result (breaches (design_of flat.now) ≡ []) }
-    ensures refused { IfErr result (IsFaultOf (design_of flat.now)) }
-{
-    let faults = first_block_faults(alloc, flat)?;
-    refuse(alloc, flat, Rule::Latch, faults.latch)?;
-    refuse(alloc, flat, Rule::Phase, faults.phase)?;
-    Ok(())
-}
+use sv_rules::{Driven, check_blocks, check_drivers, driver_numbers, refusal};
 
 // What is read for each signal of a design whose signals have one driver each, and of which an
 // earlier value.

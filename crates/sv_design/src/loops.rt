@@ -11,11 +11,11 @@ ghost use Rattle.sv_design.specs.Numbers.{numbers};
 ghost use Rattle.sv_design.specs.Orders.{AreReads, HasDesign, HasBegins};
 ghost use Rattle.sv_graph.specs.Searches.{found_by, LeadsDown, IsWayBack};
 
-use crate::found::{Found, first_of, is_before};
 use crate::orders::Reads;
 use std::alloc::{AllocError, Global};
 use sv_flat::{Flat, SigId};
 use sv_graph::{Search, begins_of, has_mark, search_from};
+use sv_rules::{Found, first_of, is_before};
 
 /// A circle of reads: its least signal with the place of its declaration, and its signals from that
 /// one on.

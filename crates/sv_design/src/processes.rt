@@ -3,11 +3,11 @@ ghost use Rattle.std.specs.Prelude.{◌≡◌, [], ◌∷◌, ◌++◌, map, OnO
 ghost use Rattle.sv_flat.specs.Clocks.{processes_of};
 ghost use Rattle.sv_flat.specs.Soundness.{sound, process_sound};
 ghost use Rattle.sv_flat.specs.Views.{design_of, process_form};
-ghost use Rattle.sv_design.specs.DriverTables.{AreClocks, kept_of};
+ghost use Rattle.sv_rules.specs.DriverTables.{AreClocks, kept_of};
 
-use crate::clocks::is_clock_link;
 use std::alloc::{AllocError, Global};
 use sv_flat::{Flat, Process};
+use sv_rules::is_clock_link;
 
 // Adds a copy of a process that is no link to a clock.
 fn push_kept(

@@ -17,17 +17,14 @@ ghost use Rattle.sv_graph.specs.BitGraphs.{leads_through};
 ghost use Rattle.sv_design.specs.Feeds.{AreWants};
 ghost use Rattle.sv_graph.specs.Graphs.{rows_of};
 ghost use Rattle.sv_graph.specs.Marks.{is_marked, IsTable};
-ghost use Rattle.sv_design.specs.Phases.{SameBits};
-ghost use Rattle.sv_design.specs.ReadForms.{read_form};
-ghost use Rattle.sv_design.specs.Scopes.{in_scope};
+ghost use Rattle.sv_rules.specs.Phases.{SameBits};
+ghost use Rattle.sv_rules.specs.ReadForms.{read_form};
+ghost use Rattle.sv_rules.specs.Scopes.{in_scope};
 
-use crate::blocks::bits_read;
-use crate::names::{Read, names_in};
-use crate::pieces::add_pieces;
-use crate::scopes::Scope;
 use std::alloc::{AllocError, Global};
 use sv_flat::{FExpr, FStmt, Flat, ProcKind, Process, SigId};
 use sv_graph::{BitGraph, BitSet, Graph, row_of, share};
+use sv_rules::{Read, Scope, add_pieces, bits_read, names_in};
 
 /// Which reads of a process are sought: the earlier ones of an `always @*`, where an assignment to
 /// a bit that is read can follow the read, or all others.
@@ -76,8 +73,8 @@ fn add_name(
     }
 }
 
-// What an expression is read for: the signals with a bit in `targets`, where the bits in `later` can
-// be assigned after it.
+// What an expression is read for: the signals with a bit in `targets`, where the bits in `later`
+// can be assigned after it.
 #[derive(Clone, Copy)]
 struct Served<'a> {
     targets: &'a BitSet,

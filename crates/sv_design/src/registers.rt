@@ -6,13 +6,12 @@ ghost use Rattle.sv_flat.specs.Processes.{is_clocked, is_register};
 ghost use Rattle.sv_flat.specs.Reads.{is_combinational};
 ghost use Rattle.sv_flat.specs.Soundness.{sound};
 ghost use Rattle.sv_flat.specs.Views.{design_of, process_kind, process_form, flat_statement};
-ghost use Rattle.sv_design.specs.DriverTables.{AreClocks, IsSoundOver};
+ghost use Rattle.sv_rules.specs.DriverTables.{AreClocks, IsSoundOver};
 ghost use Rattle.sv_graph.specs.Marks.{Marks, IsTable};
 
-use crate::clocks::is_top;
-use crate::marks::{mark_targets, unmarked};
 use std::alloc::{AllocError, Global};
 use sv_flat::{Flat, ProcKind, Process};
+use sv_rules::{is_top, mark_targets, unmarked};
 
 // Whether the process is a clocked one.
 fn is_clocked(kind: ProcKind) -> bool

@@ -4,14 +4,14 @@ ghost use Rattle.sv_flat.specs.Processes.{is_register};
 ghost use Rattle.sv_flat.specs.SignalLists.{system_signals, inputs, registers, top_clock};
 ghost use Rattle.sv_flat.specs.Soundness.{sound};
 ghost use Rattle.sv_flat.specs.Views.{design_of};
-ghost use Rattle.sv_design.specs.DriverTables.{AreClocks};
+ghost use Rattle.sv_rules.specs.DriverTables.{AreClocks};
 ghost use Rattle.sv_graph.specs.Marks.{IsTable};
 ghost use Rattle.sv_design.specs.Numbers.{numbers, number_if_any};
 
-use crate::clocks::is_top;
 use std::alloc::{AllocError, Global};
 use sv_flat::{Flat, SigId};
 use sv_graph::listed;
+use sv_rules::is_top;
 
 /// The signals that are no clocks, in order. It fails where memory runs out.
 pub fn seen_of(alloc: Global, flat: &Flat, clocks: &[bool]) -> Result<Vec<SigId>, AllocError>

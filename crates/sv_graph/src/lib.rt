@@ -8,8 +8,8 @@
 //! Promises that a search finds the least set with its starts that edges do not lead out of
 //! (`Sets.antt` of `sv_flat`), that a graph that is led on has an edge for each way, and that each
 //! set, table and list has what its definition says and no more. Nothing here knows of a design:
-//! `sv_design` and `sv_sim` say what its numbers and edges stand for. `Numbers.antt` has the words
-//! for signals by their numbers.
+//! the layers above say what its numbers and edges stand for. `Numbers.antt` has the words for
+//! signals by their numbers.
 //!
 //! `BitGraphs.antt`, `BitSets.antt`, `Graphs.antt`, `Marks.antt`, `Nests.antt`, `Queues.antt` and
 //! `Searches.antt` are private: they say how the code goes; the meaning stands in the definitions

@@ -27,7 +27,7 @@ use Rattle.sv_flat.proofs.LeastSets.{Contains-from_filter}
 use Rattle.sv_flat.proofs.ReadSignals.{reads_signals}
 use Rattle.sv_flat.proofs.AdmittedFacts.{and_true, is_process, body_is_sound, assigns_no_clock}
 use Rattle.sv_flat.proofs.AdmittedFacts.{targets_are_combinational}
-use Rattle.sv_design.proofs.Sound.{width_is_sound}
+use Rattle.sv_rules.proofs.Sound.{width_is_sound}
 use Rattle.sv_obl.specs.declared.frames.Frame.{Frame}
 use Rattle.sv_obl.specs.declared.frames.Frame.TheVariants.{Now, Next}
 use Rattle.sv_obl.specs.Paths.{StepForm, Path, path_names, paths}

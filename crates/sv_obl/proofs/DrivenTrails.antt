@@ -25,7 +25,7 @@ use Rattle.sv_system.proofs.Lists.{Contains-nil, Contains-filter}
 use Rattle.sv_flat.proofs.AdmittedFacts.{body_is_sound}
 use Rattle.sv_flat.proofs.Members.{only}
 use Rattle.sv_design.specs.Designs.{IsDesign}
-use Rattle.sv_design.proofs.Sound.{few_bits}
+use Rattle.sv_rules.proofs.Sound.{few_bits}
 use Rattle.sv_obl.specs.declared.body_slices.Bodies.{Bodies}
 use Rattle.sv_obl.specs.declared.marked.Marked.{Marked}
 use Rattle.sv_obl.specs.declared.targets.Paths.{Paths}

@@ -14,7 +14,7 @@ use Rattle.sv_flat.specs.Values.{signal_of, signal_width}
 use Rattle.sv_flat.specs.Views.{signal_form, typed_trees, parts_of, row_parts}
 use Rattle.sv_flat.proofs.Rows.{row_parts-hidden}
 use Rattle.sv_graph.specs.BitSets.{is_set, SharesBit}
-use Rattle.sv_design.proofs.PhaseFacts.{read_shares}
+use Rattle.sv_rules.proofs.PhaseFacts.{read_shares}
 use Rattle.sv_obl.specs.Exchange.{Instead, exchanged, exchanged_parts}
 use Rattle.sv_obl.specs.Later.{marked_name}
 use Rattle.sv_obl.specs.Wanted.{copy_of}

@@ -4,7 +4,7 @@ ghost use Rattle.std.specs.Prelude.{OnOk};
 ghost use Rattle.std.specs.List.{list_any};
 ghost use Rattle.sv_flat.specs.Assigned.{has_bit};
 ghost use Rattle.sv_graph.specs.BitSets.{is_set, SharesBit};
-ghost use Rattle.sv_design.specs.Pieces.{AreOrdered};
+ghost use Rattle.sv_rules.specs.Pieces.{AreOrdered};
 ghost use Rattle.sv_obl.specs.Later.{mask_in, in_bits, in_scope};
 ghost use Rattle.sv_obl.specs.RouteViews.{piece_forms};
 

@@ -6,8 +6,8 @@ use Rattle.sv_flat.specs.Admission.{IsFirstBreach}
 use Rattle.sv_flat.specs.Views.{design_of}
 use Rattle.sv_design.specs.Circles.{FindsCircle, circle_breach}
 use Rattle.sv_design.specs.Numbers.{numbers}
-use Rattle.sv_design.specs.Refusals.{breach_with}
-use Rattle.sv_design.proofs.FirstBreaches.{first_loop}
+use Rattle.sv_rules.specs.Refusals.{breach_with}
+use Rattle.sv_design.proofs.FirstLoops.{first_loop}
 use Rattle.sv_design.proofs.OrderFacts.{no_circle_has_order}
 use Rattle.sv_design.proofs.WholeOrders.{whole_of_longest, whole_by_count}
 use Rattle.sv_design.proofs.admit.check_order.Goals as goal
@@ -30,7 +30,7 @@ refusal-requires-clause-first c =
     let found = c.in-Some.found in
     subst (λ ss. IsFirstBreach design (breach_with 607 found.first.place ss))
     (sym c.as_slice-signals.ensures.value)
-    (first_loop design c.requires.sound (circle_breach found) c.requires.unbroken
+    (first_loop design (circle_breach found) c.requires.unbroken
     (subst (FindsCircle design) c.in-Some.is c.in_ok-circle.ensures))
 
 pub returns-in-None-clause-whole : goal.returns-in-None-clause-whole

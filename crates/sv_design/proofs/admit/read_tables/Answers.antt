@@ -4,7 +4,7 @@ use Rattle.sv_flat.specs.Reads.{is_combinational}
 use Rattle.sv_flat.specs.Views.{design_of, signal_form}
 use Rattle.sv_graph.specs.Marks.{IsTable}
 use Rattle.sv_design.proofs.ReadTables.{reads_size, reads_whole}
-use Rattle.sv_design.proofs.TableFacts.{few_signals}
+use Rattle.sv_rules.proofs.TableFacts.{few_signals}
 use Rattle.sv_design.proofs.admit.read_tables.Goals as goal
 
 pub reads_table-requires-clause-size : goal.reads_table-requires-clause-size

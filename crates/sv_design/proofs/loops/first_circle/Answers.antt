@@ -3,7 +3,7 @@ use Rattle.std.proofs.Math.ListN.{length-map}
 use Rattle.sv_flat.specs.Design.{SignalForm}
 use Rattle.sv_flat.specs.Views.{design_of, signal_form}
 use Rattle.sv_design.specs.Orders.{HasBegins}
-use Rattle.sv_design.proofs.DriverFacts.{signal_at, inside_design}
+use Rattle.sv_rules.proofs.DriverFacts.{signal_at, inside_design}
 use Rattle.sv_design.proofs.FirstCircles.{all_passed}
 use Rattle.sv_design.proofs.loops.first_circle.Goals as goal
 

@@ -1,4 +1,4 @@
-use Rattle.sv_design.proofs.Sound.{process_at}
+use Rattle.sv_rules.proofs.Sound.{process_at}
 use Rattle.sv_design.proofs.processes.kept_processes.Goals as goal
 
 pub push_kept-requires-clause-sound : goal.push_kept-requires-clause-sound

@@ -13,16 +13,16 @@ use Rattle.sv_flat.specs.Views.{chain_of}
 use Rattle.sv_flat.specs.declared.statements.FStmt.{the_lemmas}
 use Rattle.sv_graph.specs.declared.bit_sets.BitSet.{BitSet}
 use Rattle.sv_graph.specs.BitSets.{in_bits}
-use Rattle.sv_design.specs.Pieces.{piece_forms}
+use Rattle.sv_rules.specs.Pieces.{piece_forms}
 use Rattle.sv_design.specs.Feeds.{names_sought, feeds}
 use Rattle.sv_graph.specs.BitGraphs.{GainsEdges}
-use Rattle.sv_design.specs.Phases.{SameBits}
-use Rattle.sv_design.specs.Scopes.{in_scope}
-use Rattle.sv_design.proofs.BlockPasses.{targets_are}
-use Rattle.sv_design.proofs.Passes.{sound_at, or_turned, only_pieces}
+use Rattle.sv_rules.specs.Phases.{SameBits}
+use Rattle.sv_rules.specs.Scopes.{in_scope}
+use Rattle.sv_rules.proofs.BlockPasses.{targets_are}
+use Rattle.sv_rules.proofs.Passes.{sound_at, or_turned, only_pieces}
 use Rattle.sv_design.proofs.ReadFacts.{both_edges, targets_below, gains_inside, bits_begin}
 use Rattle.sv_design.proofs.ReadFacts.{feeds_begin, bits_before, feeds_before}
-use Rattle.sv_design.proofs.Sound.{branch_is, sound_as, block_is, next_statement}
+use Rattle.sv_rules.proofs.Sound.{branch_is, sound_as, block_is, next_statement}
 use Rattle.sv_design.proofs.reads.+follow.Goals as goal
 
 pub follow-add_reads-requires-clause-targets : goal.follow-add_reads-requires-clause-targets

@@ -4,8 +4,8 @@ use Rattle.sv_flat.specs.Views.{design_of, flat_statements, chain_of}
 use Rattle.sv_graph.specs.BitSets.{in_bits}
 use Rattle.sv_design.specs.Feeds.{feeds}
 use Rattle.sv_graph.specs.BitGraphs.{IsOver, GainsEdges}
-use Rattle.sv_design.specs.Phases.{SameBits}
-use Rattle.sv_design.specs.Scopes.{in_scope}
+use Rattle.sv_rules.specs.Phases.{SameBits}
+use Rattle.sv_rules.specs.Scopes.{in_scope}
 use Rattle.sv_design.proofs.reads.+follow.Given as goal
 
 -- the last statements, with the bits that they can assign

@@ -6,15 +6,15 @@ use Rattle.std.proofs.lemmas.List.{at_drop_all, at_drop_more}
 use Rattle.sv_flat.specs.ByNumber.{signal_forms}
 use Rattle.sv_flat.specs.Readings.{reads, ReadForm}
 use Rattle.sv_flat.specs.Views.{design_of, signal_form, typed_tree}
-use Rattle.sv_design.specs.declared.names.Read.{Read}
+use Rattle.sv_rules.specs.declared.names.Read.{Read}
 use Rattle.sv_graph.specs.BitGraphs.{in_row, IsRow, has_edge}
 use Rattle.sv_graph.specs.BitSets.{has_some}
 use Rattle.sv_design.specs.Feeds.{is_sought, names_sought}
-use Rattle.sv_design.specs.ReadForms.{read_form, read_forms}
-use Rattle.sv_design.specs.Scopes.{in_scope}
+use Rattle.sv_rules.specs.ReadForms.{read_form, read_forms}
+use Rattle.sv_rules.specs.Scopes.{in_scope}
 use Rattle.sv_graph.proofs.GraphFacts.{edges_more, edges_end}
 use Rattle.sv_graph.proofs.MarkFacts.{any_map}
-use Rattle.sv_design.proofs.PhaseFacts.{no_read, name_is_signal}
+use Rattle.sv_rules.proofs.PhaseFacts.{no_read, name_is_signal}
 use Rattle.sv_design.proofs.ReadFacts.{names_more}
 use Rattle.sv_design.proofs.reads.add_reads.Goals as goal
 

@@ -1,12 +1,12 @@
 use Rattle.std.proofs.Common.{◌&&◌, ◌==◌, length, drop}
 use Rattle.std.specs.List.{list_any}
 use Rattle.sv_flat.specs.Views.{design_of, typed_tree}
-use Rattle.sv_design.specs.declared.names.Read.{Read}
+use Rattle.sv_rules.specs.declared.names.Read.{Read}
 use Rattle.sv_graph.specs.BitSets.{has_some}
 use Rattle.sv_design.specs.Feeds.{is_sought, names_sought}
 use Rattle.sv_graph.specs.BitGraphs.{has_edge, IsOver}
-use Rattle.sv_design.specs.ReadForms.{read_form}
-use Rattle.sv_design.specs.Scopes.{in_scope}
+use Rattle.sv_rules.specs.ReadForms.{read_form}
+use Rattle.sv_rules.specs.Scopes.{in_scope}
 use Rattle.sv_graph.proofs.GraphFacts.{EdgesSoFar}
 use Rattle.sv_design.proofs.reads.add_reads.Given as goal
 

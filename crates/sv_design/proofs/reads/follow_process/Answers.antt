@@ -5,9 +5,9 @@ use Rattle.sv_flat.specs.Readings.{BitSet, no_bits}
 use Rattle.sv_flat.specs.Views.{design_of, process_form, flat_statement}
 use Rattle.sv_design.specs.Feeds.{feeds, sought_in}
 use Rattle.sv_graph.specs.BitGraphs.{has_edge, GainsEdges}
-use Rattle.sv_design.specs.Scopes.{in_scope}
-use Rattle.sv_design.specs.declared.scopes.Scope.{Nothing}
-use Rattle.sv_design.proofs.BlockPasses.{in_scope-nothing}
+use Rattle.sv_rules.specs.Scopes.{in_scope}
+use Rattle.sv_rules.specs.declared.scopes.Scope.{Nothing}
+use Rattle.sv_rules.proofs.BlockPasses.{in_scope-nothing}
 use Rattle.sv_design.proofs.FeedFacts.{fed_by_none}
 use Rattle.sv_graph.proofs.MarkFacts.{or_no}
 use Rattle.sv_design.proofs.reads.follow_process.Goals as goal

@@ -5,11 +5,11 @@ use Rattle.sv_flat.specs.Readings.{some_bit_read}
 use Rattle.sv_flat.specs.Values.{signal_width}
 use Rattle.sv_flat.specs.Views.{design_of}
 use Rattle.sv_graph.specs.BitSets.{is_set}
-use Rattle.sv_design.specs.ReadForms.{read_form}
-use Rattle.sv_design.specs.Scopes.{in_scope}
-use Rattle.sv_design.proofs.DriverFacts.{signal_at, inside_design}
-use Rattle.sv_design.proofs.PhaseFacts.{read_shares}
-use Rattle.sv_design.proofs.Sound.{few_bits}
+use Rattle.sv_rules.specs.ReadForms.{read_form}
+use Rattle.sv_rules.specs.Scopes.{in_scope}
+use Rattle.sv_rules.proofs.DriverFacts.{signal_at, inside_design}
+use Rattle.sv_rules.proofs.PhaseFacts.{read_shares}
+use Rattle.sv_rules.proofs.Sound.{few_bits}
 use Rattle.sv_design.proofs.reads.is_sought.Goals as goal
 
 pub bits_read-bits-requires : goal.bits_read-bits-requires

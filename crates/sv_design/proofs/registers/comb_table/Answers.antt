@@ -7,9 +7,9 @@ use Rattle.sv_flat.specs.Processes.{is_top_kind, is_top_input, is_register}
 use Rattle.sv_flat.specs.Reads.{is_combinational}
 use Rattle.sv_flat.specs.Views.{design_of, signal_form}
 use Rattle.std.proofs.Math.ListN.{length-map}
-use Rattle.sv_design.proofs.ClockLinks.{at_table}
-use Rattle.sv_design.proofs.DriverFacts.{signal_at, inside_design}
-use Rattle.sv_design.proofs.TableFacts.{table_more, and_left}
+use Rattle.sv_rules.proofs.ClockLinks.{at_table}
+use Rattle.sv_rules.proofs.DriverFacts.{signal_at, inside_design}
+use Rattle.sv_rules.proofs.TableFacts.{table_more, and_left}
 use Rattle.sv_design.proofs.registers.comb_table.Goals as goal
 
 pub bounds-clocks-s : goal.bounds-clocks-s

@@ -11,9 +11,9 @@ use Rattle.sv_flat.specs.Views.{design_of, process_form, signal_form}
 use Rattle.sv_flat.proofs.Depths.{second_of}
 use Rattle.sv_graph.specs.Marks.{is_marked, Marks}
 use Rattle.sv_graph.proofs.MarkFacts.{MarksSoFar, marks_more, marks_end}
-use Rattle.sv_design.proofs.Sound.{process_at}
+use Rattle.sv_rules.proofs.Sound.{process_at}
 use Rattle.sv_graph.proofs.ListFacts.{any_more}
-use Rattle.sv_design.proofs.TableFacts.{written_back, from_nothing}
+use Rattle.sv_rules.proofs.TableFacts.{written_back, from_nothing}
 use Rattle.sv_design.proofs.registers.register_table.Goals as goal
 
 pub mark_registers-requires : goal.mark_registers-requires

@@ -7,9 +7,9 @@ use Rattle.sv_flat.specs.Clocks.{is_clock}
 use Rattle.sv_flat.specs.Design.{SignalForm}
 use Rattle.sv_flat.specs.Processes.{is_top_kind, is_top_input}
 use Rattle.sv_flat.specs.Views.{design_of, signal_form}
-use Rattle.sv_design.proofs.ClockLinks.{at_table}
-use Rattle.sv_design.proofs.DriverFacts.{signal_at, inside_design}
-use Rattle.sv_design.proofs.TableFacts.{table_more, listed_are}
+use Rattle.sv_rules.proofs.ClockLinks.{at_table}
+use Rattle.sv_rules.proofs.DriverFacts.{signal_at, inside_design}
+use Rattle.sv_rules.proofs.TableFacts.{table_more, listed_are}
 use Rattle.sv_design.proofs.signal_lists.inputs_of.Goals as goal
 
 pub bounds-clocks-s : goal.bounds-clocks-s

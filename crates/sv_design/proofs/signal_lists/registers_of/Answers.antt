@@ -2,7 +2,7 @@ use Rattle.std.proofs.Common.{length, ◌∙◌}
 use Rattle.std.proofs.Math.ListN.{length-map}
 use Rattle.sv_flat.specs.Processes.{is_register}
 use Rattle.sv_flat.specs.Views.{design_of, signal_form}
-use Rattle.sv_design.proofs.TableFacts.{listed_are}
+use Rattle.sv_rules.proofs.TableFacts.{listed_are}
 use Rattle.sv_design.proofs.signal_lists.registers_of.Goals as goal
 
 pub returns : goal.returns

@@ -5,8 +5,8 @@ use Rattle.std.specs.Prelude.{filter}
 use Rattle.sv_flat.specs.Clocks.{is_clock}
 use Rattle.std.proofs.Math.ListN.{length-map}
 use Rattle.sv_flat.specs.Views.{design_of, signal_form}
-use Rattle.sv_design.proofs.ClockLinks.{at_table}
-use Rattle.sv_design.proofs.TableFacts.{table_more, listed_are, few_signals}
+use Rattle.sv_rules.proofs.ClockLinks.{at_table}
+use Rattle.sv_rules.proofs.TableFacts.{table_more, listed_are, few_signals}
 use Rattle.sv_design.proofs.signal_lists.seen_of.Goals as goal
 
 pub loop-s-preserved : goal.loop-s-preserved

@@ -13,11 +13,11 @@ use Rattle.sv_flat.specs.Views.{design_of, signal_form}
 use Rattle.sv_flat.specs.declared.designs.Flat.{Flat}
 use Rattle.sv_flat.specs.declared.signals.Signal.{Signal}
 use Rattle.sv_flat.proofs.Depths.{first_of, second_of}
-use Rattle.sv_design.specs.DriverTables.{AreClocks}
-use Rattle.sv_design.proofs.ClockLinks.{at_table}
+use Rattle.sv_rules.specs.DriverTables.{AreClocks}
+use Rattle.sv_rules.proofs.ClockLinks.{at_table}
 use Rattle.sv_design.proofs.ClockOrder.{NoneBelow, clocks_in_order, first_of_both, none_of_both}
-use Rattle.sv_design.proofs.DriverFacts.{signal_at}
-use Rattle.sv_design.proofs.FirstPlaces.{IsFirstPlace, position_finds}
+use Rattle.sv_rules.proofs.DriverFacts.{signal_at}
+use Rattle.sv_rules.proofs.FirstPlaces.{IsFirstPlace, position_finds}
 use Rattle.sv_design.proofs.signal_lists.top_clock.Goals as goal
 
 -- a signal beside whether it is a clock

@@ -11,8 +11,8 @@ use Rattle.sv_flat.specs.Views.{typed_tree, flat_statement, flat_statements, cha
 use Rattle.sv_flat.specs.declared.statements.FStmt.{the_lemmas}
 use Rattle.sv_flat.proofs.NumberedRuns.{no_branch}
 use Rattle.sv_graph.proofs.EntryFacts.{nothing_in}
-use Rattle.sv_design.proofs.Passes.{sound_at}
-use Rattle.sv_design.proofs.Sound.{branch_is, sound_as}
+use Rattle.sv_rules.proofs.Passes.{sound_at}
+use Rattle.sv_rules.proofs.Sound.{branch_is, sound_as}
 use Rattle.sv_obl.specs.declared.later.Bits.{Bits}
 use Rattle.sv_obl.specs.declared.marked.Marked.{Marked}
 use Rattle.sv_obl.specs.Later.{mask_in, in_scope}

@@ -10,7 +10,7 @@ use Rattle.sv_flat.specs.declared.signals.Signal.{Signal}
 use Rattle.sv_flat.proofs.AdmittedFacts.{body_is_sound}
 use Rattle.sv_flat.proofs.LeastSets.{some_from}
 use Rattle.sv_flat.proofs.Members.{contained_all}
-use Rattle.sv_design.proofs.Sound.{few_bits}
+use Rattle.sv_rules.proofs.Sound.{few_bits}
 use Rattle.sv_obl.specs.IndexedBodies.{AreIndexed}
 use Rattle.sv_obl.specs.MarkedBodies.{IsMarkedBody}
 use Rattle.sv_obl.specs.Wanted.{with_copies}

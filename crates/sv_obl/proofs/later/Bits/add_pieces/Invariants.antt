@@ -1,7 +1,7 @@
 use Rattle.std.proofs.Common.{◌≡◌, ℕ, ◌||◌, drop}
 use Rattle.std.specs.List.{list_any}
 use Rattle.sv_flat.specs.Assigned.{has_bit}
-use Rattle.sv_design.specs.Pieces.{AreOrdered}
+use Rattle.sv_rules.specs.Pieces.{AreOrdered}
 use Rattle.sv_obl.specs.Later.{in_bits}
 use Rattle.sv_obl.specs.RouteViews.{piece_forms}
 use Rattle.sv_obl.proofs.later.Bits.add_pieces.Given as goal

@@ -3,7 +3,7 @@ use Rattle.std.specs.Prelude.{slice_get}
 use Rattle.std.proofs.lemmas.Result.{IfOk-weaker}
 use Rattle.sv_flat.specs.ByNumber.{signal_forms}
 use Rattle.sv_flat.specs.Views.{design_of, signal_form}
-use Rattle.sv_design.proofs.TableFacts.{few_signals}
+use Rattle.sv_rules.proofs.TableFacts.{few_signals}
 use Rattle.sv_obl.specs.DesignQueries.{IsQueryOf, IsPlaced}
 use Rattle.sv_obl.specs.Driven.{IsDriven}
 use Rattle.sv_obl.specs.Obligations.{Obligation, target_obligations}

@@ -1,0 +1,46 @@
+use Rattle.std.proofs.Common.{◌≡◌, ◌<◌, length, map, get_or, refl, ap, subst, ◌∙◌}
+use Rattle.std.proofs.Math.ListN.{length-map}
+use Rattle.std.proofs.lemmas.List.{at_drop_all}
+use Rattle.sv_flat.specs.ByNumber.{signal_forms}
+use Rattle.sv_flat.specs.Readings.{reads, readings_of}
+use Rattle.sv_flat.specs.Views.{design_of, signal_form, typed_tree}
+use Rattle.sv_rules.specs.ReadForms.{read_forms}
+use Rattle.sv_rules.specs.Scopes.{in_scope}
+use Rattle.sv_rules.proofs.PhaseFacts.{no_read, name_is_signal, name_more, reads_end, reading_of}
+use Rattle.sv_rules.proofs.blocks.wrong_in.Goals as goal
+
+pub is_wrong-wrong-requires-clause-known : goal.is_wrong-wrong-requires-clause-known
+is_wrong-wrong-requires-clause-known c =
+    let items = c.args.flat.now.signals.items in
+    let tree = typed_tree c.args.expr.now in
+    let same : read_forms c.deref-read-items.result.now ≡
+    reads (design_of c.args.flat.now).signals tree =
+    ap read_forms c.deref-read-items.ensures.value ∙ c.in_ok-names.ensures
+    ∙ ap (λ ss. reads (signal_forms ss) tree) c.as_slice.ensures.value in
+    let size : length (map signal_form items) ≡ length items = rw length-map refl in
+    subst (λ n. (get_or c.deref-read-items.result.now c.loop-read.read-index no_read).signal.0
+    < n) size
+    (name_is_signal (design_of c.args.flat.now).signals tree c.deref-read-items.result.now
+    c.loop-read.read-index no_read c.requires.formed same c.loop-read-test.true)
+
+pub loop-read-preserved : goal.loop-read-preserved
+loop-read-preserved c = λ serves.
+    let signals = (design_of c.args.flat.now).signals in
+    name_more signals c.args.targets.now (in_scope c.args.assigned.now) serves
+    (readings_of signals (typed_tree c.args.expr.now) serves)
+    c.deref-read-items.result.now c.loop-read.read-index no_read c.loop-read-test.true
+    c.loop-read.found c.found_if.result c.first_of-found.result
+    c.is_wrong-wrong.result c.is_wrong-wrong.ensures c.found_if.ensures c.first_of-found.ensures
+    (c.loop-read.invariant serves)
+
+pub returns : goal.returns
+returns c = λ serves.
+    let signals = (design_of c.args.flat.now).signals in
+    let items = c.deref-read-items.result.now in
+    reads_end signals c.args.targets.now (in_scope c.args.assigned.now)
+    (readings_of signals (typed_tree c.args.expr.now) serves)
+    _ c.loop-read.found
+    (λ a f. at_drop_all (λ rs.
+    map (reading_of serves a f) (read_forms rs)) items c.loop-read.read-index
+    c.loop-read-test.false)
+    (c.loop-read.invariant serves)

@@ -1,0 +1,14 @@
+use Rattle.std.proofs.Common.{◌≡◌, ℕ, ◌||◌, drop}
+use Rattle.std.specs.List.{list_any}
+use Rattle.sv_flat.specs.Assigned.{has_bit}
+use Rattle.sv_graph.specs.BitSets.{in_bits}
+use Rattle.sv_rules.specs.Pieces.{piece_forms, AreOrdered}
+use Rattle.sv_rules.proofs.pieces.add_pieces.Given as goal
+
+-- the bits so far, and those of the pieces that are left
+abbrev pub invariant-loop-piece : goal.invariant-loop-piece
+invariant-loop-piece l =
+    AreOrdered (piece_forms (drop l.piece-index l.pieces))
+    × ((s b : ℕ) → (in_bits l.set s b
+    || list_any (has_bit s b) (piece_forms (drop l.piece-index l.pieces)))
+    ≡ (in_bits l.initial.set s b || list_any (has_bit s b) (piece_forms l.pieces)))

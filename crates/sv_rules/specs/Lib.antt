@@ -1,0 +1,15 @@
+pub mod ReadForms
+pub mod Scopes
+pub mod Phases
+pub mod Arms
+pub mod Faults
+pub mod First
+pub mod WrongAssigns
+pub mod DriverTables
+pub mod Links
+pub mod Selectors
+pub mod Tops
+pub mod ClockTables
+pub mod Refusals
+pub mod Pieces
+pub mod ReadMarks

@@ -1,7 +1,6 @@
 -- Private: how the code goes. Bits that can be assigned behind a place, and how names are read
 -- there.
-use Rattle.std.specs.Prelude.{◌≡◌, ℕ, false, ◌||◌, List, length, slice_index, unwrap_or}
-use Rattle.std.specs.Prelude.{if◌then◌else◌}
+use Rattle.std.specs.Prelude.{◌≡◌, ℕ, false, ◌||◌, List, unwrap_or, if◌then◌else◌}
 use Rattle.std.specs.BTreeMap as tree
 use Rattle.std.specs.Ordering.{nat_cmp}
 use Rattle.sv_flat.specs.Design.{SignalForm}
@@ -10,7 +9,6 @@ use Rattle.sv_graph.specs.BitSets.{is_set}
 use Rattle.sv_obl.specs.declared.later.Bits.{Bits}
 use Rattle.sv_obl.specs.declared.later.Scope.{Scope, fold-Scope}
 use Rattle.sv_obl.specs.declared.later.Scope.TheOpen.{Scope-F}
-use Rattle.sv_obl.specs.declared.read_bits.Read.{Read}
 use Rattle.sv_obl.specs.Wanted.{copy_of}
 
 -- the bits of a signal that are in the set, as a number
@@ -34,14 +32,7 @@ scope_step (Scope-F.Inside bits around) = λ s b. in_bits bits.now s b || around
 abbrev pub in_scope : Scope → BitSet
 in_scope = fold-Scope BitSet scope_step
 
-abbrev pub read_form : Read → ReadForm
-read_form r = record { signal = r.signal.0; place = r.place; high = r.high; low = r.low }
-
 -- the number of a name where some bits can be assigned later: its signal's, or that of the copy
 abbrev pub marked_name : List SignalForm → (follows : BitSet) → ReadForm → ℕ
 marked_name signals follows r =
     if some_bit_read signals r (follows r.signal) then copy_of signals r.signal else r.signal
-
--- a value 0 for each of n signals
-abbrev pub AreZeros : (n : ℕ) → List ℕ → Type 0
-AreZeros n values = (length values ≡ n) × ((s : ℕ) → slice_index values s ≡ 0)

@@ -60,7 +60,6 @@ mod path_names;
 mod path_queries;
 mod pieces;
 mod queries;
-mod read_bits;
 mod reads;
 mod routes;
 mod selectors;

@@ -10,7 +10,7 @@ ghost use Rattle.sv_flat.specs.Soundness.{statement_sound};
 ghost use Rattle.sv_flat.specs.Views.{typed_tree, flat_statement, flat_statements, chain_of};
 ghost use Rattle.sv_flat.specs.Processes.{is_block};
 ghost use Rattle.sv_flat.specs.Views.{process_form, process_kind};
-ghost use Rattle.sv_obl.specs.Later.{in_scope, AreZeros};
+ghost use Rattle.sv_obl.specs.Later.{in_scope};
 ghost use Rattle.sv_obl.specs.Marked.{targets_in, IsChain, IsBranch, names_copy, has_copy};
 ghost use Rattle.sv_obl.specs.Marked.{IsMarking, EndsIn};
 ghost use Rattle.sv_obl.specs.MarkedArms.{AreArms, AreConditions};
@@ -156,14 +156,12 @@ pub struct MarkedArm<'a> {
 fn marked_arms<'a>(
     alloc: Global,
     signals: &[Signal],
-    zeros: &[u64],
     arms: Vec<MarkedArm<'a>>,
     last: (Marked<'a>, Bits),
     later: &Scope,
 ) -> Result<(Marked<'a>, Bits), AllocError>
     requires few { length signals.now ≤ 2147483647 }
     requires words { AreWords (signal_forms signals.now) }
-    requires zeros { AreZeros (length signals.now) zeros.now }
     requires conds { AreConditions (signal_forms signals.now) arms.items }
     ensures { (rest whole : FlatStatement)
         → AreArms (signal_forms signals.now) (in_scope later.now) arms.entry.items rest whole
@@ -182,7 +180,7 @@ fn marked_arms<'a>(
         } = arm;
         bits.add_all(&own)?;
         let inside = Scope::Inside(&bits, &*later);
-        let cond = marked_expr(cond, alloc, signals, zeros, &inside)?;
+        let cond = marked_expr(cond, alloc, signals, &inside)?;
         rest = branched(alloc, place, cond, yes, rest)?;
     }
     Ok((rest, bits))
@@ -196,12 +194,10 @@ fn marked_stmt<'a>(
     stmt: &'a FStmt,
     alloc: Global,
     signals: &[Signal],
-    zeros: &[u64],
     later: &Scope,
 ) -> Result<(Marked<'a>, Bits), AllocError>
     requires few { length signals.now ≤ 2147483647 }
     requires words { AreWords (signal_forms signals.now) }
-    requires zeros { AreZeros (length signals.now) zeros.now }
     requires stmt { IsTrue (statement_sound (signal_forms signals.now) (flat_statement stmt.now)) }
     ensures { IfOk result (λ both. IsMarking (signal_forms signals.now) (in_scope later.now)
         (flat_statement stmt.now) both.0 both.1) }
@@ -216,7 +212,7 @@ fn marked_stmt<'a>(
     } = rest
     {
         let place = *place;
-        let (yes, bits) = marked_stmt(yes, alloc, signals, zeros, later)?;
+        let (yes, bits) = marked_stmt(yes, alloc, signals, later)?;
         arms.push(MarkedArm {
             place,
             cond,
@@ -225,8 +221,8 @@ fn marked_stmt<'a>(
         })?;
         rest = no;
     }
-    let last = marked_plain(rest, alloc, signals, zeros, later)?;
-    marked_arms(alloc, signals, zeros, arms, last, later)
+    let last = marked_plain(rest, alloc, signals, later)?;
+    marked_arms(alloc, signals, arms, last, later)
 }
 
 // The same of a statement that is no branch.
@@ -235,13 +231,11 @@ fn marked_plain<'a>(
     stmt: &'a FStmt,
     alloc: Global,
     signals: &[Signal],
-    zeros: &[u64],
     later: &Scope,
 ) -> Result<(Marked<'a>, Bits), AllocError>
     requires plain { IsFalse (is_branch (flat_statement stmt.now)) }
     requires few { length signals.now ≤ 2147483647 }
     requires words { AreWords (signal_forms signals.now) }
-    requires zeros { AreZeros (length signals.now) zeros.now }
     requires stmt { IsTrue (statement_sound (signal_forms signals.now) (flat_statement stmt.now)) }
     ensures { IfOk result (λ both. IsMarking (signal_forms signals.now) (in_scope later.now)
         (flat_statement stmt.now) both.0 both.1) }
@@ -256,7 +250,7 @@ fn marked_plain<'a>(
             let mut bits = Bits::new(alloc);
             bits.add_pieces(pieces)?;
             let inside = Scope::Inside(&bits, &*later);
-            let right = marked_expr(value, alloc, signals, zeros, &inside)?;
+            let right = marked_expr(value, alloc, signals, &inside)?;
             let marked = Marked::Assign {
                 pieces,
                 place: *place,
@@ -265,7 +259,7 @@ fn marked_plain<'a>(
             };
             Ok((marked, bits))
         }
-        FStmt::Block(stmts) => marked_block(stmts, alloc, signals, zeros, later),
+        FStmt::Block(stmts) => marked_block(stmts, alloc, signals, later),
         FStmt::If { .. } => unreachable!(),
     }
 }
@@ -276,12 +270,10 @@ fn marked_block<'a>(
     stmts: &'a [FStmt],
     alloc: Global,
     signals: &[Signal],
-    zeros: &[u64],
     later: &Scope,
 ) -> Result<(Marked<'a>, Bits), AllocError>
     requires few { length signals.now ≤ 2147483647 }
     requires words { AreWords (signal_forms signals.now) }
-    requires zeros { AreZeros (length signals.now) zeros.now }
     requires stmts { IsTrue
         (statement_sound (signal_forms signals.now) (chain_of (flat_statements stmts.now))) }
     ensures { IfOk result (λ both. IsMarking (signal_forms signals.now) (in_scope later.now)
@@ -292,7 +284,7 @@ fn marked_block<'a>(
     for i in 0..stmts.len() {
         let stmt = &stmts[stmts.len() - 1 - i];
         let inside = Scope::Inside(&here, &*later);
-        let (part, bits) = marked_stmt(stmt, alloc, signals, zeros, &inside)?;
+        let (part, bits) = marked_stmt(stmt, alloc, signals, &inside)?;
         parts.push(part)?;
         here.add_all(&bits)?;
     }
@@ -344,12 +336,10 @@ fn is_block(kind: ProcKind) -> bool
 fn marked_body<'a>(
     alloc: Global,
     signals: &[Signal],
-    zeros: &[u64],
     process: &'a Process,
 ) -> Result<Option<Marked<'a>>, AllocError>
     requires few { length signals.now ≤ 2147483647 }
     requires words { AreWords (signal_forms signals.now) }
-    requires zeros { AreZeros (length signals.now) zeros.now }
     requires body { IsTrue
         (statement_sound (signal_forms signals.now) (flat_statement process.now.body)) }
     ensures { IfOk result (IsMarkedBody (signal_forms signals.now) (process_form process.now)) }
@@ -357,7 +347,7 @@ fn marked_body<'a>(
     if !is_block(process.kind) {
         return Ok(None);
     }
-    let (body, _bits) = marked_stmt(&process.body, alloc, signals, zeros, &Scope::Nothing)?;
+    let (body, _bits) = marked_stmt(&process.body, alloc, signals, &Scope::Nothing)?;
     let found = has_copy(&body, alloc, signals.len() as u32)?;
     if found { Ok(Some(body)) } else { Ok(None) }
 }
@@ -380,10 +370,9 @@ pub fn marked_bodies<'a>(
     if signals.len() > 2_147_483_647 {
         return Err(AllocError);
     }
-    let zeros = vec![in alloc; 0u64; signals.len()]?;
     let mut bodies = Vec::with_capacity(alloc, processes.len())?;
     for process in processes {
-        bodies.push(marked_body(alloc, signals, &zeros, process)?)?;
+        bodies.push(marked_body(alloc, signals, process)?)?;
     }
     Ok(bodies)
 }

@@ -3,14 +3,15 @@ ghost use Rattle.std.specs.Prelude.{◌≡◌, ◌<◌, ◌≤◌, length, map, 
 ghost use Rattle.sv_flat.specs.ByNumber.{signal_forms, AreWords};
 ghost use Rattle.sv_flat.specs.Soundness.{well_formed, parts_well_formed};
 ghost use Rattle.sv_flat.specs.Views.{typed_tree, typed_trees, node_tree, parts_of};
+ghost use Rattle.sv_rules.specs.ReadForms.{read_form};
 ghost use Rattle.sv_obl.specs.Exchange.{exchanged_node};
-ghost use Rattle.sv_obl.specs.Later.{in_scope, read_form, marked_name, AreZeros};
+ghost use Rattle.sv_obl.specs.Later.{in_scope, marked_name};
 ghost use Rattle.sv_obl.specs.Wanted.{mark, marked_tree};
 
 use crate::later::{Scope, share};
-use crate::read_bits::{Read, bits_read, indexed, part, whole};
 use std::alloc::{AllocError, Global};
 use sv_flat::{FExpr, FNode, SigId, Signal};
+use sv_rules::{Read, bits_read, indexed, part, whole};
 
 // The name of a signal where some of its bits are read: wanted where one of them can be assigned
 // later.
@@ -36,12 +37,10 @@ pub fn marked_expr(
     expr: &FExpr,
     alloc: Global,
     signals: &[Signal],
-    zeros: &[u64],
     later: &Scope,
 ) -> Result<FExpr, AllocError>
     requires few { length signals.now ≤ 2147483647 }
     requires words { AreWords (signal_forms signals.now) }
-    requires zeros { AreZeros (length signals.now) zeros.now }
     requires formed { IsTrue (well_formed (signal_forms signals.now) (typed_tree expr.now)) }
     ensures { IfOk result (λ made. typed_tree made ≡
         marked_tree (signal_forms signals.now) true (in_scope later.now) (typed_tree expr.now)) }
@@ -49,7 +48,7 @@ pub fn marked_expr(
     Ok(FExpr {
         width: expr.width,
         signed: expr.signed,
-        node: marked_node(expr, alloc, signals, zeros, later)?,
+        node: marked_node(expr, alloc, signals, later)?,
     })
 }
 
@@ -58,12 +57,10 @@ fn marked_node(
     expr: &FExpr,
     alloc: Global,
     signals: &[Signal],
-    zeros: &[u64],
     later: &Scope,
 ) -> Result<FNode, AllocError>
     requires few { length signals.now ≤ 2147483647 }
     requires words { AreWords (signal_forms signals.now) }
-    requires zeros { AreZeros (length signals.now) zeros.now }
     requires formed { IsTrue (well_formed (signal_forms signals.now) (typed_tree expr.now)) }
     ensures { let signals = signal_forms signals.now in
         IfOk result (λ made. node_tree made ≡
@@ -80,10 +77,10 @@ fn marked_node(
             named(
                 signals,
                 later,
-                indexed(signals, zeros, *signal, *place, index),
+                indexed(signals, *signal, *place, index),
             ),
             *place,
-            marked_box(index, alloc, signals, zeros, later)?,
+            marked_box(index, alloc, signals, later)?,
         )),
         FNode::Part(signal, place, high, low) => Ok(FNode::Part(
             named(signals, later, part(*signal, *place, *high, *low)),
@@ -93,50 +90,50 @@ fn marked_node(
         )),
         FNode::Unary(op, operand) => Ok(FNode::Unary(
             *op,
-            marked_box(operand, alloc, signals, zeros, later)?,
+            marked_box(operand, alloc, signals, later)?,
         )),
         FNode::Binary(op, left, right) => Ok(FNode::Binary(
             *op,
-            marked_box(left, alloc, signals, zeros, later)?,
-            marked_box(right, alloc, signals, zeros, later)?,
+            marked_box(left, alloc, signals, later)?,
+            marked_box(right, alloc, signals, later)?,
         )),
         FNode::Choice(place, cond, yes, no) => Ok(FNode::Choice(
             *place,
-            marked_box(cond, alloc, signals, zeros, later)?,
-            marked_box(yes, alloc, signals, zeros, later)?,
-            marked_box(no, alloc, signals, zeros, later)?,
+            marked_box(cond, alloc, signals, later)?,
+            marked_box(yes, alloc, signals, later)?,
+            marked_box(no, alloc, signals, later)?,
         )),
-        FNode::Join(parts) => Ok(FNode::Join(marked_parts(parts, alloc, signals, zeros, later)?)),
+        FNode::Join(parts) => Ok(FNode::Join(marked_parts(parts, alloc, signals, later)?)),
         FNode::Repeat(count, parts) => Ok(FNode::Repeat(
             *count,
-            marked_parts(parts, alloc, signals, zeros, later)?,
+            marked_parts(parts, alloc, signals, later)?,
         )),
         FNode::Held(signal, value) => Ok(FNode::Held(
             *signal,
-            marked_box(value, alloc, signals, zeros, later)?,
+            marked_box(value, alloc, signals, later)?,
         )),
         FNode::HeldBit(signal, place, value, index) => Ok(FNode::HeldBit(
             *signal,
             *place,
-            marked_box(value, alloc, signals, zeros, later)?,
-            marked_box(index, alloc, signals, zeros, later)?,
+            marked_box(value, alloc, signals, later)?,
+            marked_box(index, alloc, signals, later)?,
         )),
         FNode::HeldPart(signal, place, value, high, low) => Ok(FNode::HeldPart(
             *signal,
             *place,
-            marked_box(value, alloc, signals, zeros, later)?,
+            marked_box(value, alloc, signals, later)?,
             *high,
             *low,
         )),
         FNode::Mend(signal, old, high, low, piece) => Ok(FNode::Mend(
             *signal,
-            marked_box(old, alloc, signals, zeros, later)?,
+            marked_box(old, alloc, signals, later)?,
             *high,
             *low,
-            marked_box(piece, alloc, signals, zeros, later)?,
+            marked_box(piece, alloc, signals, later)?,
         )),
         FNode::Slice(value, high, low) => Ok(FNode::Slice(
-            marked_box(value, alloc, signals, zeros, later)?,
+            marked_box(value, alloc, signals, later)?,
             *high,
             *low,
         )),
@@ -148,17 +145,15 @@ fn marked_box(
     expr: &FExpr,
     alloc: Global,
     signals: &[Signal],
-    zeros: &[u64],
     later: &Scope,
 ) -> Result<Box<FExpr>, AllocError>
     requires few { length signals.now ≤ 2147483647 }
     requires words { AreWords (signal_forms signals.now) }
-    requires zeros { AreZeros (length signals.now) zeros.now }
     requires formed { IsTrue (well_formed (signal_forms signals.now) (typed_tree expr.now)) }
     ensures { IfOk result (λ made. typed_tree made.value ≡
         marked_tree (signal_forms signals.now) true (in_scope later.now) (typed_tree expr.now)) }
 {
-    Ok(Box::new(alloc, marked_expr(expr, alloc, signals, zeros, later)?)?)
+    Ok(Box::new(alloc, marked_expr(expr, alloc, signals, later)?)?)
 }
 
 #[cycle(marked)]
@@ -166,12 +161,10 @@ fn marked_parts(
     exprs: &[FExpr],
     alloc: Global,
     signals: &[Signal],
-    zeros: &[u64],
     later: &Scope,
 ) -> Result<Vec<FExpr>, AllocError>
     requires few { length signals.now ≤ 2147483647 }
     requires words { AreWords (signal_forms signals.now) }
-    requires zeros { AreZeros (length signals.now) zeros.now }
     requires formed { IsTrue
         (parts_well_formed (signal_forms signals.now) (parts_of (typed_trees exprs.now))) }
     ensures { IfOk result (λ made. typed_trees made.items ≡ map
@@ -180,7 +173,7 @@ fn marked_parts(
 {
     let mut parts = Vec::with_capacity(alloc, exprs.len())?;
     for expr in exprs {
-        parts.push(marked_expr(expr, alloc, signals, zeros, later)?)?;
+        parts.push(marked_expr(expr, alloc, signals, later)?)?;
     }
     Ok(parts)
 }

@@ -1,5 +1,5 @@
 // Rules 605 and 606: an `always @*` keeps nothing from one run to the next.
-ghost use Rattle.std.specs.Prelude.{◌≡◌, ◌≤◌, ◌<◌, ℕ, Bool, ◌&&◌, nat_le, nat_lt, [], ◌∷◌};
+ghost use Rattle.std.specs.Prelude.{◌≡◌, ◌≤◌, ◌<◌, ℕ, Bool, [], ◌∷◌};
 ghost use Rattle.std.specs.Prelude.{length, IfOk, OnOk, IsTrue, IsFalse};
 ghost use Rattle.sv_flat.specs.Assigned.{assigns, always_assigns, can_assign};
 ghost use Rattle.sv_flat.specs.Blocks.{is_latched, is_out_of_phase, latches, phase_faults};
@@ -10,7 +10,7 @@ ghost use Rattle.sv_flat.specs.Soundness.{sound, statement_sound, well_formed};
 ghost use Rattle.sv_flat.specs.Views.{design_of, typed_tree, process_form, flat_statement};
 ghost use Rattle.sv_flat.specs.Views.{flat_statements, chain_of};
 ghost use Rattle.sv_rules.specs.Arms.{both_of, common_bits};
-ghost use Rattle.sv_graph.specs.BitSets.{is_set, in_bits, has_some};
+ghost use Rattle.sv_graph.specs.BitSets.{in_bits, has_some};
 ghost use Rattle.sv_rules.specs.First.{FindsFirst};
 ghost use Rattle.sv_rules.specs.Phases.{SameBits, HasTargets, FindsReads, AddsAssigned};
 ghost use Rattle.sv_rules.specs.Phases.{latches_of, latches_in, phase_faults_of, phase_faults_in};
@@ -18,29 +18,13 @@ ghost use Rattle.sv_rules.specs.ReadForms.{read_form};
 ghost use Rattle.sv_rules.specs.Scopes.{in_scope};
 
 use crate::found::{Found, first_of, found_if};
-use crate::names::{Read, names_in};
+use crate::names::{Read, bits_read, names_in};
 use crate::pieces::add_pieces;
 use crate::scopes::Scope;
 use std::alloc::{AllocError, Global};
 use sv_flat::{FExpr, FStmt, Flat, ProcKind, Process, SigId};
 use sv_graph::{BitSet, lacks, mask};
 use sv_num::Place;
-
-/// The bits of a signal of some width that are read, as a number.
-pub fn bits_read(width: u8, read: &Read) -> u64
-    requires { width ≤ 64 }
-    ensures { (b : ℕ) → is_set result b ≡
-        (nat_le read.now.low b && nat_le b read.now.high && nat_lt b width) }
-{
-    let width = u64::from(width);
-    if read.low > read.high || read.low >= width {
-        0
-    } else if read.high < width {
-        mask(read.high as u8, read.low as u8)
-    } else {
-        mask(width as u8 - 1, read.low as u8)
-    }
-}
 
 // Whether a read of a signal with a bit in `targets` has a bit that is not assigned yet.
 fn is_wrong(flat: &Flat, targets: &BitSet, read: &Read, assigned: &Scope) -> bool

@@ -34,13 +34,12 @@ mod scopes;
 mod tops;
 mod uses;
 
-pub use blocks::bits_read;
 pub use checks::{Driven, check_blocks, check_drivers};
 pub use clocks::{is_clock_link, is_top};
 pub use drivers::{Driver, Drivers, driver_numbers};
 pub use found::{Found, first_of, is_before};
 pub use marks::{mark_targets, unmarked};
-pub use names::{Read, names_in};
+pub use names::{Read, bits_read, indexed, names_in, part, whole};
 pub use pieces::add_pieces;
 pub use refusals::refusal;
 pub use scopes::Scope;

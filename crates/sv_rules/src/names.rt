@@ -1,14 +1,17 @@
 // The names in an expression.
-ghost use Rattle.std.specs.Prelude.{◌≡◌, ◌<◌, ◌≤◌, ◌^◌, ◌++◌, [], ◌∷◌, length, IsTrue, IfOk, OnOk};
+ghost use Rattle.std.specs.Prelude.{◌≡◌, ◌<◌, ◌≤◌, ◌^◌, ℕ, ◌&&◌, nat_le, nat_lt, ◌++◌, [], ◌∷◌};
+ghost use Rattle.std.specs.Prelude.{length, IsTrue, IfOk, OnOk};
 ghost use Rattle.sv_num.specs.Vectors.{as_number, is_negative};
 ghost use Rattle.sv_flat.specs.ByNumber.{signal_forms};
 ghost use Rattle.sv_flat.specs.Readings.{whole_read, bit_read, indexed_read, reads, parts_reads};
 ghost use Rattle.sv_flat.specs.Soundness.{well_formed, parts_well_formed};
 ghost use Rattle.sv_flat.specs.Views.{typed_tree, typed_trees, parts_of};
+ghost use Rattle.sv_graph.specs.BitSets.{is_set};
 ghost use Rattle.sv_rules.specs.ReadForms.{read_form, read_forms};
 
 use std::alloc::{AllocError, Global};
 use sv_flat::{FExpr, FNode, SigId, Signal, constant_value};
+use sv_graph::mask;
 use sv_num::Place;
 
 /// A name in an expression: its signal, its place, and from which bit down to which it is read;
@@ -21,10 +24,11 @@ pub struct Read {
     pub low: u64,
 }
 
-// The whole signal.
-fn whole(signals: &[Signal], signal: SigId, place: Place) -> Read
+/// The whole signal.
+pub fn whole(signals: &[Signal], signal: SigId, place: Place) -> Read
     requires { signal.0 < length signals.now }
-    ensures { read_form result ≡ whole_read (signal_forms signals.now) signal.0 place }
+    ensures read { read_form result ≡ whole_read (signal_forms signals.now) signal.0 place }
+    ensures signal { result.signal.0 ≡ signal.0 }
 {
     let width = u64::from(signals[signal.0 as usize].width);
     Read {
@@ -50,7 +54,8 @@ fn one_bit(signal: SigId, place: Place, number: u64, length: u8, signed: bool) -
     requires some { 1 ≤ length }
     requires few { length ≤ 64 }
     requires low { number < 2 ^ length }
-    ensures { read_form result ≡ bit_read signal.0 place (as_number length signed number) }
+    ensures read { read_form result ≡ bit_read signal.0 place (as_number length signed number) }
+    ensures signal { result.signal.0 ≡ signal.0 }
 {
     if is_below_zero(number, length, signed) {
         Read {
@@ -69,12 +74,13 @@ fn one_bit(signal: SigId, place: Place, number: u64, length: u8, signed: bool) -
     }
 }
 
-// The bit at an index.
-fn indexed(signals: &[Signal], signal: SigId, place: Place, index: &FExpr) -> Read
+/// The bit at an index, or the whole signal where the index names a signal.
+pub fn indexed(signals: &[Signal], signal: SigId, place: Place, index: &FExpr) -> Read
     requires known { signal.0 < length signals.now }
     requires formed { IsTrue (well_formed (signal_forms signals.now) (typed_tree index.now)) }
-    ensures { read_form result ≡
+    ensures read { read_form result ≡
         indexed_read (signal_forms signals.now) signal.0 place (typed_tree index.now) }
+    ensures signal { result.signal.0 ≡ signal.0 }
 {
     match constant_value(index) {
         Some(number) => one_bit(signal, place, number, index.width, index.signed),
@@ -82,16 +88,33 @@ fn indexed(signals: &[Signal], signal: SigId, place: Place, index: &FExpr) -> Re
     }
 }
 
-// The bits from one down to another.
-fn part(signal: SigId, place: Place, high: u8, low: u8) -> Read
-    ensures { read_form result ≡
+/// The bits from one down to another.
+pub fn part(signal: SigId, place: Place, high: u8, low: u8) -> Read
+    ensures read { read_form result ≡
         record { signal = signal.0; place = place; high = high; low = low } }
+    ensures signal { result.signal.0 ≡ signal.0 }
 {
     Read {
         signal,
         place,
         high: u64::from(high),
         low: u64::from(low),
+    }
+}
+
+/// The bits of a signal of some width that are read, as a number.
+pub fn bits_read(width: u8, read: &Read) -> u64
+    requires { width ≤ 64 }
+    ensures { (b : ℕ) → is_set result b ≡
+        (nat_le read.now.low b && nat_le b read.now.high && nat_lt b width) }
+{
+    let width = u64::from(width);
+    if read.low > read.high || read.low >= width {
+        0
+    } else if read.high < width {
+        mask(read.high as u8, read.low as u8)
+    } else {
+        mask(width as u8 - 1, read.low as u8)
     }
 }
 

@@ -32,12 +32,9 @@ marked_stmt-marked_stmt-requires t c =
         c.requires.few,
         (
           c.requires.words,
-          (
-            c.requires.zeros,
-            sound_as signals (sym c.deref.ensures)
-                (and_parts _ _ (and_parts _ _
-                (sound_as signals c.in-If.is c.loop-rest.invariant.0.is_sound)).0).1,
-          ),
+          sound_as signals (sym c.deref.ensures)
+              (and_parts _ _ (and_parts _ _
+              (sound_as signals c.in-If.is c.loop-rest.invariant.0.is_sound)).0).1,
         ),
       ),
     )
@@ -70,7 +67,7 @@ marked_stmt-marked_plain-requires t c = (
     no_branch c.loop-rest.rest.now c.in_default.not-If,
     (
       c.requires.few,
-      (c.requires.words, (c.requires.zeros, c.loop-rest.invariant.0.is_sound)),
+      (c.requires.words, c.loop-rest.invariant.0.is_sound),
     ),
   ),
 )
@@ -93,12 +90,9 @@ marked_plain-marked_block-requires t c =
         c.requires.few,
         (
           c.requires.words,
-          (
-            c.requires.zeros,
-            subst (λ b. IsTrue (statement_sound signals b))
-                (block_is _ c.in-Block.stmts _ c.in-Block.is c.deref-in-Block.ensures.value)
-                c.requires.stmt,
-          ),
+          subst (λ b. IsTrue (statement_sound signals b))
+              (block_is _ c.in-Block.stmts _ c.in-Block.is c.deref-in-Block.ensures.value)
+              c.requires.stmt,
         ),
       ),
     )
@@ -121,11 +115,8 @@ marked_block-marked_stmt-requires t c =
         c.requires.few,
         (
           c.requires.words,
-          (
-            c.requires.zeros,
-            sound_at (signal_forms c.args.signals.now) stmts j c.index-stmts-stmts.result inside
-                c.index-stmts-stmts.is c.requires.stmts,
-          ),
+          sound_at (signal_forms c.args.signals.now) stmts j c.index-stmts-stmts.result inside
+              c.index-stmts-stmts.is c.requires.stmts,
         ),
       ),
     )

@@ -20,11 +20,8 @@ marked_parts-marked_expr-requires t c = (
     c.requires.few,
     (
       c.requires.words,
-      (
-        c.requires.zeros,
-        formed_at (signal_forms c.args.signals.now) c.args.exprs.now c.loop-expr.expr-index
-            c.expr-item.result c.loop-expr-test.true c.expr-item.is c.requires.formed,
-      ),
+      formed_at (signal_forms c.args.signals.now) c.args.exprs.now c.loop-expr.expr-index
+          c.expr-item.result c.loop-expr-test.true c.expr-item.is c.requires.formed,
     ),
   ),
 )
@@ -42,7 +39,7 @@ marked_node-marked_parts-requires t c =
         c.requires.few,
         (
           c.requires.words,
-          (c.requires.zeros, rw c.deref-in-Join.ensures.value form.1),
+          rw c.deref-in-Join.ensures.value form.1,
         ),
       ),
     )
@@ -60,7 +57,7 @@ marked_node-marked_parts-requires-in-Repeat t c =
         c.requires.few,
         (
           c.requires.words,
-          (c.requires.zeros, rw c.deref-in-Repeat.ensures.value form.2),
+          rw c.deref-in-Repeat.ensures.value form.2,
         ),
       ),
     )

@@ -1,4 +1,5 @@
-use Rattle.sv_obl.specs.Later.{in_scope, read_form}
+use Rattle.sv_rules.specs.ReadForms.{read_form}
+use Rattle.sv_obl.specs.Later.{in_scope}
 use Rattle.sv_obl.proofs.MarkingFacts.{few_at, named_copy, named_itself}
 use Rattle.sv_obl.proofs.marking.named.Goals as goal
 

@@ -4,8 +4,6 @@ pub mod BitPlaces
 pub mod ClosedCones
 pub mod ConeStarts
 pub mod ConeSums
-pub mod ConstantForms
-pub mod ConstantIndexes
 pub mod CopyChoices
 pub mod DecodedBits
 pub mod DecodedLists

@@ -13,6 +13,7 @@ use Rattle.sv_flat.specs.Design.{mend}
 use Rattle.sv_flat.specs.Soundness.{well_formed, node_well_formed, is_signal, is_part_of, has_type}
 use Rattle.sv_flat.specs.Soundness.{binary_typed}
 use Rattle.sv_flat.specs.Values.{expression_signed, expression_width, signal_width, number_of}
+use Rattle.sv_flat.proofs.Constants.{constant_number}
 use Rattle.sv_flat.proofs.Depths.{first_of, second_of}
 use Rattle.sv_flat.specs.Readings.{is_constant}
 use Rattle.sv_gates.specs.Formulas.{Formula}
@@ -23,7 +24,6 @@ use Rattle.sv_circuits.proofs.PickSteps.{picked_grows}
 use Rattle.sv_encoding.specs.Expressions.{Words, expression_word, node_word, is_true_bit, cut_word}
 use Rattle.sv_encoding.specs.Expressions.{indexed_bit, operand_word, bit_at_number}
 use Rattle.sv_blast.specs.NodeWords.{operand_of, cut_of}
-use Rattle.sv_blast.proofs.ConstantForms.{constant_alone}
 use Rattle.sv_blast.proofs.Growing.{Grows, expression_grows, is_true_grows, unary_grows}
 use Rattle.sv_blast.proofs.Growing.{operand_grows, binary_grows, chosen_grows, indexed_grows}
 
@@ -181,7 +181,8 @@ pub constant_bit : (signals : List SignalForm) (words : Words) (word : Word) (in
 constant_bit signals words word index old bit constant e =
     ap (λ b. cond b (old, bit_at_number word (number_of signals (λ t. 0) index))
     (picked_bit word (expression_signed index) (expression_word signals words index) old)) constant
-    ∙ ap (λ z. (old, z)) (ap (bit_at_number word) (constant_alone signals (λ t. 0) index constant)
+    ∙ ap (λ z. (old, z)) (ap (bit_at_number word)
+    (constant_number signals [] (λ t. 0) (λ t. 0) index constant)
     ∙ sym e)
 
 -- of any other the word is made first

@@ -12,6 +12,7 @@ use Rattle.sv_flat.specs.Soundness.{well_formed}
 use Rattle.sv_flat.specs.Readings.{is_constant}
 use Rattle.sv_flat.proofs.Depths.{first_of, second_of}
 use Rattle.sv_flat.proofs.ReadSignals.{reads_signals}
+use Rattle.sv_flat.proofs.Constants.{constant_number}
 use Rattle.sv_obl.specs.Wanted.{with_copies}
 use Rattle.sv_obl.proofs.PutFacts.{width_settled}
 use Rattle.sv_obl.proofs.TreeFacts.{held_below, node_held_below, parts_held_below, well_held}
@@ -24,7 +25,6 @@ use Rattle.sv_encoding.specs.Expressions.{Words, expression_word, node_word, joi
 use Rattle.sv_encoding.specs.Expressions.{bit_at_number, indexed_bit, operand_word, is_true_bit}
 use Rattle.sv_encoding_laws.proofs.ExpressionLaws.{Named, NamedNode, NamedParts}
 use Rattle.sv_encoding_laws.proofs.NamedValues.{named_from_reads}
-use Rattle.sv_blast.proofs.ConstantIndexes.{constant_same}
 
 module _ (A B : List SignalForm) (ws vs : Words) (n : ℕ)
     (widths : (k : ℕ) → k < n → signal_width B k ≡ signal_width A k) where
@@ -45,7 +45,7 @@ module _ (A B : List SignalForm) (ws vs : Words) (n : ℕ)
           ≡ cond c (f, bit_at_number two (number_of A (λ t. 0) index))
           (picked_bit two (expression_signed index) made f)
       by true is =
-          ap (λ k. (f, bit_at_number one k)) (constant_same A B index is)
+          ap (λ k. (f, bit_at_number one k)) (constant_number B A (λ k. 0) (λ k. 0) index is)
           ∙ ap (λ w. (f, bit_at_number w (number_of A (λ t. 0) index))) words
       by false is =
           ap (λ w. picked_bit w (expression_signed index) make f) words

@@ -1,48 +1,16 @@
-// Constant expressions, and bits at constant indexes.
+// Bits at constant indexes.
 ghost use Rattle.std.specs.Prelude.{◌≡◌, ℤ, [], ◌<◌, ◌≤◌, ◌^◌, IsTrue};
 ghost use Rattle.sv_num.specs.Vectors.{as_number, is_negative};
-ghost use Rattle.sv_flat.specs.Readings.{is_constant, are_constant};
 ghost use Rattle.sv_flat.specs.Soundness.{well_formed};
 ghost use Rattle.sv_flat.specs.Values.{number_of};
-ghost use Rattle.sv_flat.specs.Views.{typed_tree, typed_trees, parts_of};
+ghost use Rattle.sv_flat.specs.Views.{typed_tree};
 ghost use Rattle.sv_gates.specs.Formulas.{IsLiteral};
 ghost use Rattle.sv_circuits.specs.Circuits.{IsWord};
 ghost use Rattle.sv_encoding.specs.Expressions.{bit_at_number};
 
 use sv_circuits::{falsity, literal_at};
-use sv_flat::{FExpr, FNode, value_of};
+use sv_flat::{FExpr, value_of};
 use sv_gates::{Gates, Literal};
-
-/// Whether an expression names no signal.
-#[cycle(is_constant)]
-pub fn is_constant(expr: &FExpr) -> bool
-    ensures { result ≡ is_constant (typed_tree expr.now) }
-{
-    match &expr.node {
-        FNode::Number(_) => true,
-        FNode::Unary(_, operand) => is_constant(operand),
-        FNode::Binary(_, left, right) => is_constant(left) && is_constant(right),
-        FNode::Choice(_, cond, yes, no) => {
-            is_constant(cond) && is_constant(yes) && is_constant(no)
-        }
-        FNode::Join(parts) => are_constant(parts),
-        FNode::Repeat(_, parts) => are_constant(parts),
-        FNode::Slice(value, _, _) => is_constant(value),
-        _ => false,
-    }
-}
-
-#[cycle(is_constant)]
-fn are_constant(exprs: &[FExpr]) -> bool
-    ensures { result ≡ are_constant (parts_of (typed_trees exprs.now)) }
-{
-    for expr in exprs {
-        if !is_constant(expr) {
-            return false;
-        }
-    }
-    true
-}
 
 // Whether the number of a length stands for one below 0.
 fn is_below_zero(number: u64, length: u8, signed: bool) -> bool

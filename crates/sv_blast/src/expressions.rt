@@ -11,7 +11,7 @@ ghost use Rattle.sv_encoding.specs.Expressions.{indexed_bit};
 ghost use Rattle.sv_blast.specs.WordTables.{words_of, StandFor, StandForParts};
 ghost use Rattle.sv_blast.specs.NodeWords.{operand_of, cut_of};
 
-use crate::constants::{bit_at, is_constant};
+use crate::constants::bit_at;
 use crate::operators::{
     binary_at, chosen_at, extended_at, filled_at, number_at, one_bit, part_at, repeated_at,
     replaced_at, unary_at,
@@ -19,7 +19,7 @@ use crate::operators::{
 use crate::tables::WordTable;
 use std::alloc::Global;
 use sv_circuits::{not_zero, picked};
-use sv_flat::{FExpr, FNode, SigId, Signal};
+use sv_flat::{FExpr, FNode, SigId, Signal, is_constant};
 use sv_gates::{GateFault, Gates, Literal};
 use sv_num::{OpClass, class_of};
 

@@ -9,11 +9,10 @@ ghost use Rattle.sv_obl.specs.Views.{step_form};
 ghost use Rattle.sv_encoding.specs.Sizes.{expression_size, node_size, parts_size, index_size};
 ghost use Rattle.sv_encoding.specs.Sizes.{operand_size, truth_size};
 
-use crate::constants::is_constant;
 use crate::sizes_of_operators::{
     binary_size, chain_size, operand_size, picked_size, sum, unary_size,
 };
-use sv_flat::{FExpr, FNode, SigId, Signal};
+use sv_flat::{FExpr, FNode, SigId, Signal, is_constant};
 use sv_num::BinOp;
 use sv_obl::Step;
 

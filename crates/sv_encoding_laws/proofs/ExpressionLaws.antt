@@ -23,6 +23,7 @@ use Rattle.sv_flat.specs.Values.{value, node_value, joined, number_of, cut_value
 use Rattle.sv_flat.specs.Soundness.{is_one_to, is_signal, has_type, is_part_of, unary_typed}
 use Rattle.sv_flat.specs.Soundness.{binary_typed, well_formed, node_well_formed, parts_well_formed}
 use Rattle.sv_flat.specs.Readings.{is_constant}
+use Rattle.sv_flat.proofs.Constants.{constant_number}
 use Rattle.sv_flat.proofs.Depths.{first_of, second_of}
 use Rattle.sv_clause.specs.Literals.{literal_true}
 use Rattle.sv_gates.specs.Formulas.{Formula, IsLiteral}
@@ -46,7 +47,6 @@ use Rattle.sv_circuits.proofs.PartValues.{repeated_value}
 use Rattle.sv_encoding.specs.Expressions.{Words, expression_word, node_word, joined_word, cut_word}
 use Rattle.sv_encoding.specs.Expressions.{bit_at_number, indexed_bit, operand_word, is_true_bit}
 use Rattle.sv_encoding.specs.Valuations.{spelled_environment}
-use Rattle.sv_encoding_laws.proofs.ConstantValues.{constant_number}
 use Rattle.sv_encoding_laws.proofs.Steps.{HasWidth, Spells, MakesWord, MakesBit, width_more, there}
 use Rattle.sv_encoding_laws.proofs.Steps.{word_from, resized, cut_to, unary_step}
 use Rattle.sv_encoding_laws.proofs.Steps.{operand_width, operand_value, not_zero_step, operand_step}
@@ -217,7 +217,7 @@ module _ (signals : List SignalForm)
           base.closed (bit_at_is old.variables word i base.some has.is)
           (λ values met. bit_at_value values (base.truth values met) word i
           ∙ ap₂ (λ k z. bit_or_zero k (word_value values word) z) has.width
-          (constant_number signals (λ t. 0) (spelled values) index e)) in
+          (constant_number signals signals (λ t. 0) (spelled values) index e)) in
           subst (λ c. Makes old (cond c (old, bit_at_number word i)
           (picked_bit word s (expression_word signals words index) old)) IsLiteral
           (λ values l. truth (literal_true values l) ≡ bit_or_zero size (word_value values word)

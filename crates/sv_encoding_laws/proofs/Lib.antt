@@ -1,4 +1,3 @@
-pub mod ConstantValues
 pub mod ExpressionLaws
 pub mod NamedValues
 pub mod Spelling

@@ -1,4 +1,4 @@
-use Rattle.std.proofs.Common.{◌≡◌, ◌<◌, ◌++◌, ◌∙◌, true, false, sym, ap, subst, rules, arith, drop}
+use Rattle.std.proofs.Common.{◌≡◌, ◌<◌, ◌++◌, ◌∙◌, [], true, false, sym, ap, subst, rules, arith, drop}
 use Rattle.std.specs.Result.{IsErrOf}
 use Rattle.sv_flat.specs.ByNumber.{signal_forms}
 use Rattle.sv_flat.specs.declared.expressions.FExpr.{FExpr}
@@ -8,6 +8,7 @@ use Rattle.sv_flat.specs.Design.{binary, choice, join, replication, held_bit, me
 use Rattle.sv_flat.specs.Readings.{reads, parts_reads}
 use Rattle.sv_flat.specs.Soundness.{is_one_to, well_formed, node_well_formed}
 use Rattle.sv_flat.specs.Views.{typed_tree, node_tree, row_parts}
+use Rattle.sv_flat.proofs.Constants.{constant_formed}
 use Rattle.sv_flat.proofs.Depths.{second_of}
 use Rattle.sv_flat.proofs.NodeForms.{join_few, repeat_few}
 use Rattle.sv_flat.proofs.Parts.{trees, parts_at, formed_at}
@@ -20,7 +21,6 @@ use Rattle.sv_circuits.proofs.WordKeeps.{word_up}
 use Rattle.sv_encoding.specs.Expressions.{expression_word, node_word, joined_word, is_true_bit}
 use Rattle.sv_blast.specs.NodeWords.{operand_of, cut_of}
 use Rattle.sv_blast.specs.WordTables.{words_of}
-use Rattle.sv_blast.proofs.ConstantForms.{constant_formed}
 use Rattle.sv_blast.proofs.Growing.{not_zero_grows}
 use Rattle.sv_blast.proofs.LoopStages.{join_more, join_full, stand_at}
 use Rattle.sv_blast.proofs.NodeSteps.{binary_full_first, binary_full_second, choice_full_bit}
@@ -45,7 +45,7 @@ is_true-returns-in_err-word-clause-full t c =
 
 pub bit-bit_at-requires-clause-formed : goal.bit-bit_at-requires-clause-formed
 bit-bit_at-requires-clause-formed t c =
-    constant_formed (signal_forms c.args.self.now.signals.now) (typed_tree c.args.index.now)
+    constant_formed (signal_forms c.args.self.now.signals.now) [] (typed_tree c.args.index.now)
     (sym c.is_constant.ensures ∙ c.if-is_constant.true) c.requires.formed
 
 pub bit-returns-then-is_constant-clause-made : goal.bit-returns-then-is_constant-clause-made

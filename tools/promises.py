@@ -26,8 +26,8 @@ GROUPS = {
     "elaboration": ("Elaboration", ["sv_elab_rules", "sv_width", "sv_elab_stmt", "sv_elab_decl", "sv_elab", "sv_elab_laws", "sv_run_laws"]),
     "designs": ("Flat designs, runs and traces", ["sv_flat", "sv_graph", "sv_rules", "sv_design", "sv_sim", "sv_event", "sv_trace", "sv_sim_run", "sv_tworun", "sv_compare"]),
     "obligations": ("Obligations, their clauses and proofs",
-                    ["sv_obl", "sv_clause", "sv_gates", "sv_circuits", "sv_encoding", "sv_encoding_laws", "sv_blast", "sv_proof", "sv_solve", "sv_decide",
-                     "sv_accept", "sv_judge"]),
+                    ["sv_obl", "sv_paths", "sv_clause", "sv_gates", "sv_circuits", "sv_encoding", "sv_encoding_laws", "sv_blast", "sv_proof", "sv_solve",
+                     "sv_decide", "sv_accept", "sv_judge"]),
     "program": ("Verdicts, words, samples and the top call", ["sv_texts", "sv_report", "sv_words", "sv_gen", "sv_cli", "sv_hints", "sv_messages"]),
 }
 # Types whose variants are the ways in which a call can end.

@@ -14,7 +14,8 @@ use std::test::Fail;
 use sv_blast::{BitPlace, Coded, decode, encode};
 use sv_clause::Clause;
 use sv_design::Design;
-use sv_obl::{Frame, Goal, Query, Valuation, obligations};
+use sv_obl::{Frame, Goal, Query, Valuation};
+use sv_paths::obligations;
 use sv_solve::{Solved, is_within, solve};
 
 // The first obligation has three conditions: of these the facts and the goal are made.

@@ -3,7 +3,7 @@ use crate::texts::design;
 use std::alloc::Global;
 use std::test::Fail;
 use sv_design::Design;
-use sv_obl::{OblFault, list_line, obligations};
+use sv_paths::{OblFault, list_line, obligations};
 
 // A register whose selector is secret, held on one path.
 const HELD: &str = "labelmap D [0:0] 0: L; default: H; endlabelmap\n\

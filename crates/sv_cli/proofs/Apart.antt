@@ -5,7 +5,7 @@ use Rattle.sv_obl.specs.Obligations.{obligations}
 use Rattle.sv_obl.specs.Validity.{IsValid, AllValid}
 use Rattle.sv_obl.specs.Valuations.{valuation_of}
 use Rattle.sv_obl.specs.declared.valuations.Valuation.{Valuation as Listed}
-use Rattle.sv_obl.proofs.TargetFacts.{get_all}
+use Rattle.sv_obl.proofs.FormLists.{get_all}
 use Rattle.sv_judge.specs.Verdicts.{IsAccepted, IsFalsified}
 use Rattle.sv_cli.specs.Texts.{Passes}
 use Rattle.sv_cli.proofs.Secrets.{RefutedAreValid, all_proved, is_checked}

@@ -13,7 +13,7 @@ use Rattle.sv_io.specs.Traffic.{Files, Passed, IsFailed}
 use Rattle.sv_io.specs.declared.faults.FetchFault.{FetchFault}
 use Rattle.sv_io.specs.declared.faults.FetchFault.TheVariants.{Failed, Long}
 use Rattle.sv_io.specs.declared.faults.FetchFault.TheVariants as faults
-use Rattle.sv_obl.specs.Limits.{excess}
+use Rattle.sv_paths.specs.Limits.{excess}
 use Rattle.sv_obl.specs.Obligations.{obligations}
 use Rattle.sv_judge.specs.Certified.{IsVerified, IsFaultLine, IsTooLargeToVerify}
 use Rattle.sv_report.specs.Text.{accepted_text, fault_text}

@@ -7,7 +7,7 @@ use Rattle.sv_obl.specs.Noninterference.{IsChecked}
 use Rattle.sv_obl.specs.Obligations.{obligations}
 use Rattle.sv_obl.specs.Validity.{IsValid, AllValid}
 use Rattle.sv_obl.specs.Valuations.{valuation_of}
-use Rattle.sv_obl.proofs.TargetFacts.{get_all}
+use Rattle.sv_obl.proofs.FormLists.{get_all}
 use Rattle.sv_encoding.specs.Encoding.{encoding}
 use Rattle.sv_encoding.specs.Deciding.{Fits}
 use Rattle.sv_judge.proofs.NeverSpent.{large_not_spent, units_not_spent}

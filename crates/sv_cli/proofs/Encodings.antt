@@ -3,7 +3,7 @@ use Rattle.std.proofs.Common.{◌≡◌, ℕ, ◌≤◌, [], ◌∷◌, Some, No
 use Rattle.std.specs.Prelude.{Result, Err, decimal}
 use Rattle.sv_flat.specs.Design.{FlatDesign}
 use Rattle.sv_gates.specs.Formulas.{most_variables}
-use Rattle.sv_obl.specs.Limits.{excess}
+use Rattle.sv_paths.specs.Limits.{excess}
 use Rattle.sv_obl.specs.Obligations.{Obligation}
 use Rattle.sv_encoding.specs.Deciding.{IsTooLarge}
 use Rattle.sv_encoding.specs.Encoding.{Encoding, encoding}

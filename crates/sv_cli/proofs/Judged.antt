@@ -7,7 +7,7 @@ use Rattle.std.specs.Option.{option_copied}
 use denote.Ref.{Bor}
 use Rattle.std.proofs.lemmas.List.Elements.{All-nil, All-append, All-map, All-weaker}
 use Rattle.std.proofs.lemmas.Result.{IfOk-weaker}
-use Rattle.sv_obl.proofs.TargetFacts.{get_all}
+use Rattle.sv_obl.proofs.FormLists.{get_all}
 use Rattle.sv_clause.specs.Logs.{Step}
 use Rattle.sv_flat.specs.Clocks.{processes_of}
 use Rattle.sv_flat.specs.Design.{ProcessForm, FlatDesign}
@@ -16,7 +16,7 @@ use Rattle.sv_flat.specs.Selectors.{selectors_of, always_flows}
 use Rattle.sv_flat.specs.Values.{signal_of}
 use Rattle.sv_io.specs.Exchange.{Exchange}
 use Rattle.sv_io.specs.Traffic.{Files, IsFailed}
-use Rattle.sv_obl.specs.Limits.{excess}
+use Rattle.sv_paths.specs.Limits.{excess}
 use Rattle.sv_obl.specs.Obligations.{Obligation, path_obligation, target_obligations}
 use Rattle.sv_obl.specs.Obligations.{selector_obligation, selector_obligations, obligations}
 use Rattle.sv_obl.specs.Paths.{paths}

@@ -4,8 +4,8 @@ use Rattle.std.proofs.Common.{[], length, flat_map, Option, Some, None, sym, sub
 use Rattle.std.specs.List.{list_any, range_with_len}
 use Rattle.sv_flat.specs.Design.{FlatDesign}
 use Rattle.sv_flat.specs.Processes.{signal_numbers}
-use Rattle.sv_obl.specs.Limits.{Excess, many_paths, large_path, many_obligations, target_paths}
-use Rattle.sv_obl.specs.Limits.{first_excess, excess}
+use Rattle.sv_paths.specs.Limits.{Excess, many_paths, large_path, many_obligations, target_paths}
+use Rattle.sv_paths.specs.Limits.{first_excess, excess}
 use Rattle.sv_obl.specs.Obligations.{selector_obligations}
 use Rattle.sv_obl.specs.Paths.{Path}
 

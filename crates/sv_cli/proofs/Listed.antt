@@ -5,8 +5,8 @@ use Rattle.std.specs.declared.alloc.AllocError.{AllocError}
 use Rattle.sv_flat.specs.declared.designs.Flat.{Flat}
 use Rattle.sv_flat.specs.Design.{FlatDesign}
 use Rattle.sv_flat.specs.Views.{signal_form, design_of}
-use Rattle.sv_obl.specs.Limits.{Excess, excess}
-use Rattle.sv_obl.proofs.TargetFacts.{length_mapped}
+use Rattle.sv_paths.specs.Limits.{Excess, excess}
+use Rattle.sv_obl.proofs.FormLists.{length_mapped}
 use Rattle.sv_report.specs.declared.styles.Style.{Style}
 use Rattle.sv_cli.specs.declared.report.Report.{Report}
 use Rattle.sv_cli.specs.Limits.{TellsLimit, limit_number, limit_names, ExceedsLimit}

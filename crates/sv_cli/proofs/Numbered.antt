@@ -6,13 +6,13 @@ use Rattle.std.specs.Prelude.{slice_get, option_map, IfSome, All, Result, Ok, Er
 use Rattle.std.proofs.lemmas.Option.{slice_get-map}
 use Rattle.sv_flat.specs.Design.{FlatDesign}
 use Rattle.sv_obl.specs.DesignQueries.{IsQueryOf}
-use Rattle.sv_obl.specs.ListParts.{IsAt, obligations_before, obligations_from}
+use Rattle.sv_paths.specs.ListParts.{IsAt, obligations_before, obligations_from}
 use Rattle.sv_obl.specs.Obligations.{Obligation, obligations, target_obligations}
 use Rattle.sv_obl.specs.Views.{obligation_of}
-use Rattle.sv_obl.specs.declared.list_parts.Listing.{Listing}
+use Rattle.sv_paths.specs.declared.list_parts.Listing.{Listing}
 use Rattle.sv_obl.specs.declared.queries.Query.{Query}
-use Rattle.sv_obl.proofs.TargetFacts.{get_all}
-use Rattle.sv_obl.proofs.WrittenFacts.{before_and_from, from_next, next_before}
+use Rattle.sv_obl.proofs.FormLists.{get_all}
+use Rattle.sv_paths.proofs.WrittenFacts.{before_and_from, from_next, next_before}
 use Rattle.sv_cli.specs.Clauses.{IsFoundOrNext}
 
 -- ---- lists

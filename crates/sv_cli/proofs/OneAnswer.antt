@@ -13,8 +13,8 @@ use Rattle.sv_elab_laws.specs.FlattenedTexts.{EachItem, ReleasesNothing}
 use Rattle.sv_elab_rules.specs.Texts.{flat_of}
 use Rattle.sv_io.specs.Exchange.{Exchange}
 use Rattle.sv_gates.specs.Formulas.{most_variables}
-use Rattle.sv_obl.specs.Limits.{Excess, excess}
-use Rattle.sv_obl.specs.ListLines.{list_text}
+use Rattle.sv_paths.specs.Limits.{Excess, excess}
+use Rattle.sv_paths.specs.ListLines.{list_text}
 use Rattle.sv_obl.specs.Obligations.{Obligation}
 use Rattle.sv_encoding.specs.CnfText.{cnf_text}
 use Rattle.sv_encoding.specs.Encoding.{encoding}

@@ -16,8 +16,8 @@ use Rattle.sv_io.specs.declared.faults.FetchFault.{FetchFault}
 use Rattle.sv_io.specs.declared.faults.FetchFault.TheVariants.{Failed, Long}
 use Rattle.sv_io.specs.declared.faults.FetchFault.TheVariants as faults
 use Rattle.std.specs.Global.{Vec}
-use Rattle.sv_obl.specs.Limits.{excess}
-use Rattle.sv_obl.specs.ListLines.{list_text}
+use Rattle.sv_paths.specs.Limits.{excess}
+use Rattle.sv_paths.specs.ListLines.{list_text}
 use Rattle.sv_encoding.specs.CnfText.{cnf_text}
 use Rattle.sv_blast.specs.declared.coded.Coded.{Coded}
 use Rattle.sv_words.specs.Words.{Request, check, verify, list, cnf, sim, compare, gen}

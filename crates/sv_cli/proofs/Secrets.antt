@@ -13,7 +13,7 @@ use Rattle.sv_obl.specs.DesignQueries.{IsQueryOf}
 use Rattle.sv_obl.specs.Noninterference.{IsChecked}
 use Rattle.sv_obl.specs.Obligations.{Obligation, obligations}
 use Rattle.sv_obl.specs.Validity.{IsValid, AllValid}
-use Rattle.sv_obl.proofs.DesignQueryFacts.{all_are}
+use Rattle.sv_paths.proofs.DesignQueryFacts.{all_are}
 use Rattle.sv_encoding.specs.Deciding.{IsRefutedBy, IsProved}
 use Rattle.sv_judge.specs.Certified.{IsShown}
 use Rattle.sv_judge.specs.Verdicts.{IsProvedFor}

@@ -6,7 +6,7 @@ use Rattle.sv_clause.specs.Logs.{Step}
 use Rattle.sv_flat.specs.Design.{FlatDesign}
 use Rattle.sv_io.specs.Exchange.{Exchange, stored}
 use Rattle.sv_obl.specs.Asked.{asked}
-use Rattle.sv_obl.specs.Limits.{excess}
+use Rattle.sv_paths.specs.Limits.{excess}
 use Rattle.sv_obl.specs.Obligations.{obligations}
 use Rattle.sv_obl.specs.declared.valuations.Valuation.{Valuation}
 use Rattle.sv_proof.specs.Certificate.{AreLogs, proof_text}

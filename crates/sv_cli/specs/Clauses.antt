@@ -3,9 +3,9 @@ use Rattle.std.specs.Prelude.{◌≡◌, ◌≤◌, ℕ, Option, Some, None, sli
 use Rattle.sv_flat.specs.Design.{FlatDesign}
 use Rattle.sv_obl.specs.Asked.{asked}
 use Rattle.sv_obl.specs.DesignQueries.{IsQueryOf}
-use Rattle.sv_obl.specs.ListParts.{IsAt}
+use Rattle.sv_paths.specs.ListParts.{IsAt}
 use Rattle.sv_obl.specs.Views.{obligation_of}
-use Rattle.sv_obl.specs.declared.list_parts.Listing.{Listing}
+use Rattle.sv_paths.specs.declared.list_parts.Listing.{Listing}
 use Rattle.sv_obl.specs.declared.queries.Query.{Query}
 
 -- The obligation behind so many others was found; or none of those before this target is it, and

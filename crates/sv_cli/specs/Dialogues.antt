@@ -4,7 +4,7 @@ use Rattle.std.specs.Prelude.{◌≡◌, ℕ, ◌+◌, ◌≤◌, ◌⊎◌, Lis
 use Rattle.std.specs.Prelude.{IsTrue, MatchOption}
 use Rattle.sv_io.specs.Exchange.{Exchange, Fetched, fetched, whole, too_long}
 use Rattle.sv_gen.specs.Sample.{sample_text}
-use Rattle.sv_obl.specs.Limits.{excess}
+use Rattle.sv_paths.specs.Limits.{excess}
 use Rattle.sv_words.specs.Words.{Request, check, verify, list, cnf, sim, compare, gen}
 use Rattle.sv_words.specs.Words.{request_of, usage_of}
 use Rattle.sv_report.specs.declared.styles.Style.{Style}

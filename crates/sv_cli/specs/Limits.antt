@@ -1,8 +1,8 @@
 -- What is answered where a design exceeds a limit on its obligations.
 use Rattle.std.specs.Prelude.{◌≡◌, ℕ, List, [], ◌∷◌, Some}
 use Rattle.sv_flat.specs.Design.{SignalForm, FlatDesign}
-use Rattle.sv_obl.specs.Limits.{Excess, many_paths, large_path, many_obligations, excess}
-use Rattle.sv_obl.specs.ListLines.{name_of}
+use Rattle.sv_paths.specs.Limits.{Excess, many_paths, large_path, many_obligations, excess}
+use Rattle.sv_obl.specs.SignalNames.{name_of}
 use Rattle.sv_report.specs.Styles.{limit_in}
 use Rattle.sv_report.specs.declared.styles.Style.{Style}
 use Rattle.sv_cli.specs.Answer.{Answer, limit_exceeded}

@@ -3,8 +3,8 @@ use Rattle.std.specs.Prelude.{◌≡◌, ℕ, zero, suc, List, [], ◌∷◌, Op
 use Rattle.std.specs.Prelude.{slice_get, decimal}
 use Rattle.sv_flat.specs.Design.{FlatDesign}
 use Rattle.sv_obl.specs.Asked.{asked}
-use Rattle.sv_obl.specs.Limits.{excess}
-use Rattle.sv_obl.specs.ListLines.{list_text}
+use Rattle.sv_paths.specs.Limits.{excess}
+use Rattle.sv_paths.specs.ListLines.{list_text}
 use Rattle.sv_obl.specs.Obligations.{Obligation, obligations}
 use Rattle.sv_encoding.specs.CnfText.{cnf_text}
 use Rattle.sv_encoding.specs.Deciding.{Fits, IsTooLarge}

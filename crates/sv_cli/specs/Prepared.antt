@@ -9,8 +9,8 @@ use Rattle.sv_flat.specs.Views.{design_of}
 use Rattle.sv_io.specs.Exchange.{Exchange, Fetched, fetched, stored}
 use Rattle.sv_io.specs.Sink.{WritesFront}
 use Rattle.sv_io.specs.Traffic.{Files, Passed, IsFailed, FailsToFetch, FailsToStore}
-use Rattle.sv_obl.specs.Limits.{excess}
-use Rattle.sv_obl.specs.ListLines.{list_text}
+use Rattle.sv_paths.specs.Limits.{excess}
+use Rattle.sv_paths.specs.ListLines.{list_text}
 use Rattle.sv_obl.specs.Obligations.{Obligation}
 use Rattle.sv_encoding.specs.Deciding.{Fits}
 use Rattle.sv_encoding.specs.Encoding.{encoding}

@@ -3,7 +3,7 @@ use Rattle.std.specs.Prelude.{◌≡◌, ℕ, ◌+◌, ◌≤◌, List, [], ◌�
 use Rattle.sv_flat.specs.Design.{FlatDesign}
 use Rattle.sv_io.specs.Exchange.{Exchange, fetched, whole, too_long}
 use Rattle.sv_obl.specs.Asked.{asked}
-use Rattle.sv_obl.specs.Limits.{excess}
+use Rattle.sv_paths.specs.Limits.{excess}
 use Rattle.sv_judge.specs.Certified.{IsVerified, IsFaultLine, IsTooLargeToVerify}
 use Rattle.sv_report.specs.Text.{accepted_text, fault_text}
 use Rattle.sv_report.specs.declared.styles.Style.TheVariants.{Lines}

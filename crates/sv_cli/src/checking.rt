@@ -5,7 +5,7 @@ ghost use Rattle.std.specs.Option.{option_copied};
 ghost use Rattle.sv_flat.specs.Views.{design_of};
 ghost use Rattle.sv_io.specs.Traffic.{files_by};
 ghost use Rattle.sv_obl.specs.DesignQueries.{IsQueryOf};
-ghost use Rattle.sv_obl.specs.Limits.{excess};
+ghost use Rattle.sv_paths.specs.Limits.{excess};
 ghost use Rattle.sv_obl.specs.Validity.{Falsifies as IsFalsifiedBy};
 ghost use Rattle.sv_obl.specs.Valuations.{FitsDesign, valuation_of};
 ghost use Rattle.sv_obl.specs.Views.{obligation_of};
@@ -26,7 +26,7 @@ use sv_clause::Log;
 use sv_design::Design;
 use sv_io::{Cabinet, StoreFault};
 use sv_judge::{Checked, Failure, check};
-use sv_obl::check_limits;
+use sv_paths::check_limits;
 use sv_proof::write_proof;
 use sv_report::{Broken, Style, flow_text_in};
 

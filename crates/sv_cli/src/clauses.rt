@@ -7,8 +7,8 @@ ghost use Rattle.sv_io.specs.Count.{Rose};
 ghost use Rattle.sv_io.specs.Sink.{WritesFront};
 ghost use Rattle.sv_obl.specs.Asked.{asked};
 ghost use Rattle.sv_obl.specs.DesignQueries.{IsQueryOf};
-ghost use Rattle.sv_obl.specs.Limits.{excess};
-ghost use Rattle.sv_obl.specs.ListParts.{IsAt, ArePathsOf, obligations_on};
+ghost use Rattle.sv_paths.specs.Limits.{excess};
+ghost use Rattle.sv_paths.specs.ListParts.{IsAt, ArePathsOf, obligations_on};
 ghost use Rattle.sv_obl.specs.Views.{obligation_of};
 ghost use Rattle.sv_encoding.specs.CnfText.{clause_line, problem_line, cnf_text};
 ghost use Rattle.sv_blast.specs.Coded.{encoding_of};
@@ -26,7 +26,8 @@ use sv_design::Design;
 use sv_flat::SigId;
 use sv_io::{PutFault, Sink, put_all};
 use sv_num::Rule;
-use sv_obl::{Bodies, Listing, Query, TargetPaths, check_limits};
+use sv_obl::{Bodies, Query};
+use sv_paths::{Listing, TargetPaths, check_limits};
 use sv_report::Style;
 
 // The clauses of one piece of the text: so many of at most three literals take less than 64 KiB.

@@ -4,10 +4,11 @@ ghost use Rattle.std.specs.Prelude.{◌+◌, None, length};
 ghost use Rattle.sv_flat.specs.Views.{design_of};
 ghost use Rattle.sv_io.specs.Count.{Rose};
 ghost use Rattle.sv_io.specs.Sink.{WritesFront};
-ghost use Rattle.sv_obl.specs.Answers.{Told};
-ghost use Rattle.sv_obl.specs.Limits.{excess};
-ghost use Rattle.sv_obl.specs.ListLines.{name_of, list_text};
-ghost use Rattle.sv_obl.specs.ListParts.{IsAt, lines_left};
+ghost use Rattle.sv_paths.specs.Answers.{Told};
+ghost use Rattle.sv_paths.specs.Limits.{excess};
+ghost use Rattle.sv_obl.specs.SignalNames.{name_of};
+ghost use Rattle.sv_paths.specs.ListLines.{list_text};
+ghost use Rattle.sv_paths.specs.ListParts.{IsAt, lines_left};
 ghost use Rattle.sv_cli.specs.Limits.{ExceedsLimit};
 ghost use Rattle.sv_cli.specs.Prepared.{LeavesOf, ListsDesign, Says};
 
@@ -18,7 +19,8 @@ use sv_design::Design;
 use sv_flat::SigId;
 use sv_io::{PutFault, Sink, put_all};
 use sv_num::{Name, Rule};
-use sv_obl::{Bodies, Listing, OblFault, check_limits};
+use sv_obl::Bodies;
+use sv_paths::{Listing, OblFault, check_limits};
 use sv_report::Style;
 
 /// What is prepared of an admitted design to list its obligations.

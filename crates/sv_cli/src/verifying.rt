@@ -3,7 +3,7 @@ ghost use Rattle.std.specs.Prelude.{◌≡◌, ◌≤◌, ◌∷◌, [], None, I
 ghost use Rattle.sv_flat.specs.Views.{design_of};
 ghost use Rattle.sv_io.specs.Traffic.{files_by};
 ghost use Rattle.sv_obl.specs.Asked.{asked};
-ghost use Rattle.sv_obl.specs.Limits.{excess};
+ghost use Rattle.sv_paths.specs.Limits.{excess};
 ghost use Rattle.sv_obl.specs.Obligations.{obligations};
 ghost use Rattle.sv_cli.specs.Verifies.{Verifies, Judges, largest_proof};
 ghost use Rattle.sv_cli.specs.Prepared.{Readies, Reports, Says, MayFetchOwn, VerifiesFetched};
@@ -19,7 +19,7 @@ use sv_design::Design;
 use sv_io::{Cabinet, FetchFault};
 use sv_judge::{Verified, verify};
 use sv_num::Rule;
-use sv_obl::check_limits;
+use sv_paths::check_limits;
 use sv_report::Style;
 
 // The bytes of the largest certificate.

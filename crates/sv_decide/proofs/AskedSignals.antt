@@ -19,7 +19,7 @@ use Rattle.sv_obl.specs.Obligations.{GoalForm}
 use Rattle.sv_obl.specs.Paths.{StepForm}
 use Rattle.sv_obl.specs.PathValues.{is_true_in}
 use Rattle.sv_obl.specs.Views.{obligation_of, goal_form, step_form, number_of, IsGoalAmong}
-use Rattle.sv_obl.proofs.DesignQueryFacts.{query_among}
+use Rattle.sv_obl.proofs.AmongFacts.{query_among}
 use Rattle.sv_decide.specs.declared.failing.Asked.{Asked}
 use Rattle.sv_decide.specs.Simulating.{fails_by, shows_failing}
 

@@ -4,7 +4,7 @@ use Rattle.std.proofs.Common.{length, Some, refl, sym, ◌∙◌, ap, subst, ari
 use Rattle.std.specs.Prelude.{slice_get, All}
 use Rattle.std.specs.List.{AllZip}
 use Rattle.std.proofs.lemmas.List.Elements.{All-push}
-use Rattle.sv_obl.proofs.TargetFacts.{take_next}
+use Rattle.sv_obl.proofs.FormLists.{take_next}
 
 none_more : (k : ℕ) → 0 + k ≡ k
 none_more k = omega arith

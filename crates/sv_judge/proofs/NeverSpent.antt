@@ -2,13 +2,13 @@
 use Rattle.std.proofs.Common.{ℕ, ◌<◌, ◌≤◌, ◌^◌, List, [], arith}
 use Rattle.std.specs.Prelude.{All}
 use Rattle.std.proofs.Math.Nat.{pow-le-pow_right}
-use Rattle.sv_obl.proofs.TargetFacts.{get_all}
+use Rattle.sv_obl.proofs.FormLists.{get_all}
 use Rattle.sv_clause.specs.Logs.{Step, clauses_of}
 use Rattle.sv_flat.specs.Design.{FlatDesign}
 use Rattle.sv_obl.specs.DesignQueries.{IsQueryOf}
 use Rattle.sv_obl.specs.Noninterference.{IsChecked}
 use Rattle.sv_obl.specs.Obligations.{obligations}
-use Rattle.sv_obl.proofs.DesignQueryFacts.{all_are}
+use Rattle.sv_paths.proofs.DesignQueryFacts.{all_are}
 use Rattle.sv_encoding.specs.Encoding.{encoding}
 use Rattle.sv_encoding_laws.proofs.Wholeness.{encoding_is_whole}
 use Rattle.sv_solve.proofs.Knowing.{conflict_more}

@@ -6,7 +6,7 @@ use Rattle.std.specs.Prelude.{slice_get, take, IsTrue, IsFalse, IsSome, All}
 use Rattle.std.specs.List.{AllZip}
 use Rattle.std.proofs.lemmas.List.{map-append}
 use Rattle.std.proofs.lemmas.List.Elements.{All-push}
-use Rattle.sv_obl.proofs.TargetFacts.{take_next}
+use Rattle.sv_obl.proofs.FormLists.{take_next}
 use Rattle.sv_clause.specs.Logs.{Step, plain_log}
 use Rattle.sv_clause.specs.declared.logs.Log.{Log}
 use Rattle.sv_flat.specs.Design.{FlatDesign}

@@ -10,7 +10,7 @@ use Rattle.sv_clause.specs.Logs.{Step, plain_step, plain_log}
 use Rattle.sv_clause.specs.declared.logs.Log.{Log}
 use Rattle.sv_flat.specs.Design.{FlatDesign}
 use Rattle.sv_obl.specs.Obligations.{Obligation, obligations}
-use Rattle.sv_obl.proofs.TargetFacts.{length_mapped, get_all}
+use Rattle.sv_obl.proofs.FormLists.{length_mapped, get_all}
 use Rattle.sv_proof.specs.Certificate.{IsWritableLog, AreLogs, plain_logs, proof_text}
 use Rattle.sv_proof.specs.Checking.{HasFault}
 use Rattle.sv_proof.specs.FaultLines.{fault_line}

@@ -6,16 +6,16 @@ use Rattle.std.proofs.lemmas.Option.{slice_get_within, slice_get-map}
 use Rattle.sv_flat.specs.Design.{FlatDesign}
 use Rattle.sv_flat.specs.Processes.{signal_numbers}
 use Rattle.sv_obl.specs.DesignQueries.{IsQueryOf, IsPlaced}
-use Rattle.sv_obl.specs.ListParts.{IsAt, ArePathsOf, obligations_before, obligations_from}
-use Rattle.sv_obl.specs.ListParts.{obligations_on}
+use Rattle.sv_paths.specs.ListParts.{IsAt, ArePathsOf, obligations_before, obligations_from}
+use Rattle.sv_paths.specs.ListParts.{obligations_on}
 use Rattle.sv_obl.specs.Obligations.{Obligation, obligations, target_obligations}
 use Rattle.sv_obl.specs.Obligations.{selector_obligations}
 use Rattle.sv_obl.specs.Views.{obligation_of}
-use Rattle.sv_obl.specs.declared.list_parts.Listing.{Listing}
+use Rattle.sv_paths.specs.declared.list_parts.Listing.{Listing}
 use Rattle.sv_obl.specs.declared.queries.Query.{Query}
-use Rattle.sv_obl.specs.declared.target_paths.TargetPaths.{TargetPaths}
-use Rattle.sv_obl.proofs.TargetFacts.{length_mapped, get_all}
-use Rattle.sv_obl.proofs.WrittenFacts.{before_and_from, from_next, next_before}
+use Rattle.sv_paths.specs.declared.target_paths.TargetPaths.{TargetPaths}
+use Rattle.sv_obl.proofs.FormLists.{length_mapped, get_all}
+use Rattle.sv_paths.proofs.WrittenFacts.{before_and_from, from_next, next_before}
 use Rattle.sv_judge.specs.Walking.{IsNext, AreNext, ComeNext}
 use Rattle.sv_judge.proofs.Lists.{get_behind, get_first}
 

@@ -4,11 +4,11 @@ use Rattle.std.specs.Prelude.{◌≡◌, ◌≤◌, ◌<◌, ℕ, ◌+◌, List,
 use Rattle.sv_flat.specs.Design.{FlatDesign}
 use Rattle.sv_obl.specs.Asked.{asked}
 use Rattle.sv_obl.specs.DesignQueries.{IsQueryOf, IsPlaced}
-use Rattle.sv_obl.specs.ListParts.{ArePathsOf, obligations_on}
+use Rattle.sv_paths.specs.ListParts.{ArePathsOf, obligations_on}
 use Rattle.sv_obl.specs.Obligations.{Obligation}
 use Rattle.sv_obl.specs.Views.{obligation_of}
 use Rattle.sv_obl.specs.declared.queries.Query.{Query}
-use Rattle.sv_obl.specs.declared.target_paths.TargetPaths.{TargetPaths}
+use Rattle.sv_paths.specs.declared.target_paths.TargetPaths.{TargetPaths}
 
 -- this query is the obligation behind so many others
 pub record IsNext (design : FlatDesign) (before : ℕ) (query : Query) : Type 0 where

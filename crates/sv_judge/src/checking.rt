@@ -5,8 +5,8 @@ ghost use Rattle.sv_clause.specs.Logs.{plain_log};
 ghost use Rattle.sv_flat.specs.Views.{design_of};
 ghost use Rattle.sv_obl.specs.Asked.{asked};
 ghost use Rattle.sv_obl.specs.DesignQueries.{IsQueryOf, IsPlaced};
-ghost use Rattle.sv_obl.specs.Limits.{excess};
-ghost use Rattle.sv_obl.specs.ListParts.{IsAt, obligations_on};
+ghost use Rattle.sv_paths.specs.Limits.{excess};
+ghost use Rattle.sv_paths.specs.ListParts.{IsAt, obligations_on};
 ghost use Rattle.sv_obl.specs.Views.{obligation_of};
 ghost use Rattle.sv_blast.specs.Coders.{IsCoder};
 ghost use Rattle.sv_proof.specs.Certificate.{AreLogs};
@@ -26,7 +26,8 @@ use sv_blast::{BlastFault, Coder};
 use sv_decide::{Decided, decide_by, is_valid_by_labels};
 use sv_design::Design;
 use sv_flat::SigId;
-use sv_obl::{Bodies, Listing, Query, TargetPaths};
+use sv_obl::{Bodies, Query};
+use sv_paths::{Listing, TargetPaths};
 
 /// What the obligations of a design come to, each with at most `budget` conflict clauses: at most
 /// 4,000,000,000. They are decided in order, until one is falsified or too large; one on which the

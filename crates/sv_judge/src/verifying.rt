@@ -2,8 +2,8 @@
 ghost use Rattle.std.specs.Prelude.{◌≡◌, ◌+◌, ◌^◌, ◌<◌, None, length, IfOk, IfErr, OnOk};
 ghost use Rattle.sv_flat.specs.Views.{design_of};
 ghost use Rattle.sv_obl.specs.Asked.{asked};
-ghost use Rattle.sv_obl.specs.Limits.{excess};
-ghost use Rattle.sv_obl.specs.ListParts.{IsAt, obligations_on};
+ghost use Rattle.sv_paths.specs.Limits.{excess};
+ghost use Rattle.sv_paths.specs.ListParts.{IsAt, obligations_on};
 ghost use Rattle.sv_blast.specs.Coders.{IsCoder};
 ghost use Rattle.sv_proof.specs.Certificate.{AreLogs, plain_logs, proof_lines, proof_text};
 ghost use Rattle.sv_judge.specs.Answers.{WhereVerified, WhereFault, WhereLarge};
@@ -22,7 +22,8 @@ use sv_blast::Coder;
 use sv_clause::Log;
 use sv_design::Design;
 use sv_flat::SigId;
-use sv_obl::{Bodies, Listing, Query, TargetPaths};
+use sv_obl::{Bodies, Query};
+use sv_paths::{Listing, TargetPaths};
 use sv_proof::{ProofFault, line_of_fault, read_proof};
 
 // The line of the number of obligations.

@@ -3,14 +3,15 @@
 ghost use Rattle.std.specs.Prelude.{◌≡◌, ◌+◌, ◌<◌, ◌≤◌, length, IfOk, OnOk};
 ghost use Rattle.sv_flat.specs.Views.{design_of};
 ghost use Rattle.sv_obl.specs.Asked.{asked};
-ghost use Rattle.sv_obl.specs.ListParts.{IsAt, obligations_on};
+ghost use Rattle.sv_paths.specs.ListParts.{IsAt, obligations_on};
 ghost use Rattle.sv_obl.specs.Obligations.{obligations};
 ghost use Rattle.sv_judge.specs.Walking.{AreNext, ComeNext};
 
 use std::alloc::{AllocError, Global};
 use sv_design::Design;
 use sv_flat::SigId;
-use sv_obl::{Listing, Query, TargetPaths};
+use sv_obl::Query;
+use sv_paths::{Listing, TargetPaths};
 
 /// The paths of the target that comes next, of a design that exceeds no limit. An error says that
 /// memory ran out.

@@ -2,7 +2,7 @@
 ghost use Rattle.std.specs.Prelude.{◌≡◌, ◌<◌, length, IfOk, IsTrue};
 ghost use Rattle.sv_flat.specs.ByNumber.{FitSignals};
 ghost use Rattle.sv_flat.specs.Views.{design_of};
-ghost use Rattle.sv_obl.specs.ListParts.{IsAt, ArePathsOf};
+ghost use Rattle.sv_paths.specs.ListParts.{IsAt, ArePathsOf};
 ghost use Rattle.sv_obl.specs.Valuations.{FitsDesign};
 
 use crate::designs::admitted_design;
@@ -14,7 +14,8 @@ use sv_flat::SigId;
 use sv_hints::{Case, Origin, shown};
 use sv_lattice::Point;
 use sv_num::Place;
-use sv_obl::{Bodies, Frame, Goal, Listing, Query, TargetPaths, Valuation};
+use sv_obl::{Bodies, Frame, Goal, Query, Valuation};
+use sv_paths::{Listing, TargetPaths};
 use sv_report::{frames_of, label_in};
 use sv_sim::Sim;
 

@@ -9,7 +9,7 @@ use sv_hints::{
     Case, Origin, Row, file_name, first_unbuilt, grouped, owned, place_of, shown, shown_word,
 };
 use sv_num::Place;
-use sv_obl::check_limits;
+use sv_paths::check_limits;
 use sv_words::Command;
 
 /// Of an item that is not built.

@@ -45,7 +45,7 @@ use Rattle.sv_obl.specs.IndexedStatements.{statement_of, row_statements, targets
 use Rattle.sv_obl.specs.IndexedStatements.{ends_in, with_number, numbered, GoesFor, Tells}
 use Rattle.sv_obl.specs.IndexedStatements.{IsMarked, AreMarked, Same, IsMadeOf, whole_of, SoFar}
 use Rattle.sv_obl.specs.IndexedStatements.{Covers}
-use Rattle.sv_obl.specs.RouteViews.{piece_forms}
+use Rattle.sv_obl.specs.Views.{piece_forms}
 use Rattle.sv_obl.proofs.SliceChains.{none_ends, no_slices, more_slices, taken_as_one}
 use Rattle.sv_obl.proofs.SliceFacts.{slice_is_empty, stays, same_slice_routes}
 

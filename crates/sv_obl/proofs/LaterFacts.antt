@@ -10,7 +10,7 @@ use Rattle.sv_graph.proofs.EntryFacts.{nothing_in}
 use Rattle.sv_obl.specs.declared.later.Bits.{Bits}
 use Rattle.sv_obl.specs.declared.later.Scope.{Scope, Inside, the_lemmas}
 use Rattle.sv_obl.specs.Later.{mask_in, in_bits, HasBits, in_scope}
-use Rattle.sv_obl.specs.RouteViews.{piece_forms}
+use Rattle.sv_obl.specs.Views.{piece_forms}
 
 pub in_scope-inside : (bits : Bor Bits) (around : Bor Scope) →
     in_scope (Inside bits around) ≡ (λ s b. in_bits bits.now s b || in_scope around.now s b)

@@ -16,7 +16,7 @@ use Rattle.sv_obl.specs.Later.{in_scope}
 use Rattle.sv_obl.specs.Marked.{has_copy}
 use Rattle.sv_obl.specs.MarkedBodies.{marked_statement, IsMarkedOf, IsMarkedBody}
 use Rattle.sv_obl.specs.Wanted.{marked as marked_as}
-use Rattle.sv_obl.proofs.SameWalks.{same_copies}
+use Rattle.sv_obl.proofs.SameCopies.{same_copies}
 use Rattle.sv_obl.proofs.Unmarked.{none_earlier}
 
 -- ---- one process

@@ -23,9 +23,9 @@ use Rattle.sv_obl.specs.BodySlices.{in_sequence, SameParts}
 use Rattle.sv_obl.specs.Later.{in_bits, HasBits}
 use Rattle.sv_obl.specs.Marked.{targets_in, IsChain, IsBranch, IsMarking, stacked, AllTell, EndsIn}
 use Rattle.sv_obl.specs.MarkedBodies.{marked_statement, AreTargets, TellsTargets}
-use Rattle.sv_obl.specs.RouteViews.{piece_forms}
+use Rattle.sv_obl.specs.Views.{piece_forms}
 use Rattle.sv_obl.specs.Wanted.{marked as marked_as, marked_tree}
-use Rattle.sv_obl.proofs.NumberSets.{put_held}
+use Rattle.sv_obl.proofs.HeldNumbers.{put_held}
 use Rattle.sv_obl.proofs.SliceFacts.{or_none, same_before}
 
 pub or_turned : (a b : Bool) → (a || b) ≡ (b || a)

@@ -1,6 +1,6 @@
 -- What is asked of a design: which design, and which of its obligations. Nothing is released and no
 -- fact is declared so far, so it is the design itself and its own obligations; `excess` of
--- Limits.antt is the limit on them.
+-- `Limits.antt` in `sv_paths` is the limit on them.
 use Rattle.std.specs.Prelude.{List, [], All}
 use Rattle.sv_flat.specs.Design.{FlatDesign}
 use Rattle.sv_obl.specs.Obligations.{Obligation, obligations}

@@ -14,7 +14,7 @@ use Rattle.sv_obl.specs.declared.indexed.Indexed.{more_of-Indexed}
 use Rattle.sv_obl.specs.declared.indexed.Indexed as indexed
 use Rattle.sv_obl.specs.BodySlices.{sliced, in_sequence}
 use Rattle.sv_obl.specs.IndexedBodies.{numbers_at, chosen}
-use Rattle.sv_obl.specs.RouteViews.{piece_forms}
+use Rattle.sv_obl.specs.Views.{piece_forms}
 
 abbrev mutual
   pub statement_of : Indexed → FlatStatement

@@ -14,7 +14,7 @@ use Rattle.sv_obl.specs.BodySlices.{SameParts}
 use Rattle.sv_obl.specs.Later.{HasBits}
 use Rattle.sv_obl.specs.MarkedBodies.{marked_statement, TellsTargets, IsMarkedOf}
 use Rattle.sv_obl.specs.Routes.{names_in}
-use Rattle.sv_obl.specs.RouteViews.{piece_forms}
+use Rattle.sv_obl.specs.Views.{piece_forms}
 use Rattle.sv_obl.specs.Wanted.{marked as marked_as}
 
 -- what it tells that it assigns

@@ -1,22 +1,17 @@
 -- Private: how the code goes. The paths through a process in which no read is an earlier one: no
 -- condition and no right side wants a name, so a path wants its target or nothing. Which paths a
 -- target has stands in `Paths`.
-use Rattle.std.specs.Prelude.{ℕ, ◌+◌, ◌*◌, min, Bool, true, false, ◌&&◌, not, nat_lt}
+use Rattle.std.specs.Prelude.{ℕ, ◌+◌, ◌*◌, min, Bool, true, false, ◌&&◌, not}
 use Rattle.std.specs.Prelude.{if◌then◌else◌, List, [], ◌∷◌, ◌++◌, length, map, flat_map, fold}
-use Rattle.std.specs.Prelude.{reverse, slice_get, Option, Some, None, is_none, option_map}
+use Rattle.std.specs.Prelude.{slice_get, Option, None, is_none, option_map}
 use Rattle.std.specs.BTreeSet.{insert_key}
-use Rattle.std.specs.List.{list_any}
 use Rattle.std.specs.Ordering.{nat_cmp}
 use Rattle.sv_num.specs.declared.faults.Place.{Place}
-use Rattle.sv_flat.specs.Design.{SignalForm, TypedTree, typed, choice, PieceForm, ProcessForm}
+use Rattle.sv_flat.specs.Design.{SignalForm, TypedTree, typed, choice, PieceForm}
 use Rattle.sv_flat.specs.Design.{FlatStatement, nothing, after, assign, branch}
 use Rattle.sv_flat.specs.Assigned.{assigns}
-use Rattle.sv_flat.specs.Processes.{is_clocked}
-use Rattle.sv_flat.specs.Sets.{holds, those}
 use Rattle.sv_flat.specs.Readings.{ReadForm, reads}
-use Rattle.sv_obl.specs.Limits.{Excess, many_paths, large_path, many_obligations}
 use Rattle.sv_obl.specs.Nodes.{nodes_in}
-use Rattle.sv_obl.specs.Obligations.{Obligation, flow, is_link, frame_of}
 use Rattle.sv_obl.specs.Paths.{StepForm, pieces_of, covers, later_place}
 
 -- A path as far back as statements were taken: its conditions, the last in the text first, the
@@ -118,37 +113,3 @@ routes_before signals s (branch place condition first second) route =
     ++ map (behind (record { place = place; condition = condition; truth = false }))
     (routes_before signals s second route)
     else route ∷ []
-
--- ---- what a route tells
-
--- All names on a route, in the order of its lists. At the beginning of a clocked block a target
--- that is wanted still is read.
-abbrev pub names_on : (is_register : Bool) → (target : ℕ) → RouteForm → List ℕ
-names_on is_register s route =
-    flat_map (λ (step : StepForm). names_in [] step.condition) route.steps
-    ++ route.names
-    ++ (if is_register && route.wants then s ∷ [] else [])
-
--- the obligation of a route through a process, where there are so many signals
-abbrev pub route_obligation : (count : ℕ) → ProcessForm → (target : ℕ) → RouteForm → Obligation
-route_obligation count process s route = record {
-  facts = [];
-  path = reverse route.steps;
-  right = if is_link process.kind then Some process.place else route.place;
-  reads = those count (holds (names_on (is_clocked process.kind) s route));
-  goal = flow s (frame_of process.kind);
-}
-
--- ---- limits
-
--- over 65,536 nodes are put into the path
-abbrev pub is_large : RouteForm → Bool
-is_large route = nat_lt 65536 route.nodes
-
--- the limit that a target exceeds with its routes, after so many obligations
-abbrev pub target_excess : (target total : ℕ) → List RouteForm → Option Excess
-target_excess s total routes =
-    if nat_lt 4096 (length routes) then Some (many_paths s)
-    else if list_any is_large routes then Some (large_path s)
-    else if nat_lt 65536 (total + length routes) then Some many_obligations
-    else None

@@ -8,7 +8,7 @@ use Rattle.sv_obl.specs.BodySlices.{sliced, in_sequence, slice_statement}
 use Rattle.sv_obl.specs.declared.body_slices.BodySlice.{BodySlice}
 use Rattle.sv_obl.specs.declared.body_slices.BodySlice as slice
 use Rattle.sv_obl.specs.Routes.{RouteForm, behind, with_right, routes_before}
-use Rattle.sv_obl.specs.RouteViews.{piece_forms}
+use Rattle.sv_obl.specs.Views.{piece_forms}
 
 abbrev pub is_nothing : BodySlice → Bool
 is_nothing slice.Nothing = true

@@ -1,7 +1,10 @@
--- The plain forms of obligations: signals by their numbers, expressions as trees.
-use Rattle.std.specs.Prelude.{ℕ, ◌<◌, map, All}
+-- The plain forms of obligations, and of the pieces of an assignment: signals by their numbers,
+-- expressions as trees.
+use Rattle.std.specs.Prelude.{ℕ, ◌<◌, List, map, All}
 use Rattle.sv_flat.specs.declared.signals.SigId.{SigId}
-use Rattle.sv_flat.specs.Views.{typed_tree}
+use Rattle.sv_flat.specs.declared.statements.Piece.{Piece}
+use Rattle.sv_flat.specs.Design.{PieceForm}
+use Rattle.sv_flat.specs.Views.{typed_tree, piece_form}
 use Rattle.sv_obl.specs.declared.queries.Step.{Step}
 use Rattle.sv_obl.specs.declared.queries.Goal.{Goal}
 use Rattle.sv_obl.specs.declared.queries.Goal.TheVariants as goal
@@ -39,3 +42,6 @@ IsGoalAmong count (selector s) = s < count
 pub record IsAmong (count : ℕ) (o : Obligation) : Type 0 where
   pub reads : All (λ s. s < count) o.reads
   pub goal : IsGoalAmong count o.goal
+
+abbrev pub piece_forms : List Piece → List PieceForm
+piece_forms pieces = map piece_form pieces

@@ -10,7 +10,7 @@ ghost use Rattle.sv_obl.specs.BodySlices.{sliced, SameParts, slice_statement, dr
 ghost use Rattle.sv_obl.specs.SliceRoutes.{is_nothing, IsSliceOf, IsChain, AreSlicesOf, EndsIn};
 ghost use Rattle.sv_obl.specs.IndexedBodies.{looked_up, chosen, numbers_at};
 ghost use Rattle.sv_obl.specs.MarkedBodies.{AreBodiesOf, IsMarkedFor, HasCopies};
-ghost use Rattle.sv_obl.specs.RouteViews.{piece_forms};
+ghost use Rattle.sv_obl.specs.Views.{piece_forms};
 ghost use Rattle.sv_obl.specs.Wanted.{with_copies};
 
 use crate::indexed::{Indexed, indexed_bodies};

@@ -14,9 +14,8 @@ ghost use Rattle.sv_obl.specs.IndexedBodies.{numbers_at, AreIndexed};
 ghost use Rattle.sv_obl.specs.IndexedArms.{AreArms};
 ghost use Rattle.sv_obl.specs.IndexedStatements.{statement_of, targets_in, IsMarked, IsMadeOf};
 ghost use Rattle.sv_obl.specs.IndexedStatements.{SoFar, ends_in, with_number, numbered, Tells};
-ghost use Rattle.sv_obl.specs.RouteViews.{piece_forms};
+ghost use Rattle.sv_obl.specs.Views.{piece_forms};
 
-use crate::reads::set_of;
 use std::alloc::{AllocError, Global};
 use std::collections::{BTreeMap, BTreeSet};
 use sv_flat::{FExpr, FStmt, Piece, Process};
@@ -87,6 +86,17 @@ fn push_targets(indexed: &Indexed, names: &mut Vec<u32>) -> Result<(), AllocErro
         Indexed::Block { numbers, .. } => push_keys(numbers, names),
         Indexed::Branch { targets, .. } => push_set(targets, names),
     }
+}
+
+/// The numbers in ascending order, each once; an error where memory runs out.
+pub fn set_of(alloc: Global, names: &[u32]) -> Result<BTreeSet<u32>, AllocError>
+    ensures { IfOk result (λ set. set.keys ≡ fold (insert_key nat_cmp) [] names.now) }
+{
+    let mut set = BTreeSet::new(alloc);
+    for name in names {
+        set.insert(*name)?;
+    }
+    Ok(set)
 }
 
 // What two statements assign.

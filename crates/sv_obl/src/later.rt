@@ -6,7 +6,7 @@ ghost use Rattle.sv_flat.specs.Assigned.{has_bit};
 ghost use Rattle.sv_graph.specs.BitSets.{is_set, SharesBit};
 ghost use Rattle.sv_rules.specs.Pieces.{AreOrdered};
 ghost use Rattle.sv_obl.specs.Later.{mask_in, in_bits, in_scope};
-ghost use Rattle.sv_obl.specs.RouteViews.{piece_forms};
+ghost use Rattle.sv_obl.specs.Views.{piece_forms};
 
 use std::alloc::{AllocError, Global};
 use std::collections::BTreeMap;

@@ -16,11 +16,10 @@ ghost use Rattle.sv_obl.specs.Marked.{IsMarking, EndsIn};
 ghost use Rattle.sv_obl.specs.MarkedArms.{AreArms, AreConditions};
 ghost use Rattle.sv_obl.specs.MarkedBodies.{marked_statement, IsMarkedBody};
 
-use crate::indexed::{push_pieces, push_set};
+use crate::indexed::{push_pieces, push_set, set_of};
 use crate::later::{Bits, Scope};
 use crate::marking::marked_expr;
-use crate::path_names::names_of;
-use crate::reads::set_of;
+use crate::names::names_of;
 use std::alloc::{AllocError, Global};
 use std::collections::BTreeSet;
 use sv_flat::{FExpr, FStmt, Piece, ProcKind, Process, Signal};

@@ -11,9 +11,9 @@ use Rattle.sv_flat.specs.SignalLists.{registers, inputs}
 use Rattle.sv_flat.proofs.Forms.{at}
 use Rattle.sv_obl.specs.declared.frames.Frame.TheVariants.{Now, Next}
 use Rattle.sv_obl.specs.declared.valuations.Valuation.{Valuation as Listed}
-use Rattle.sv_obl.specs.ListLines.{name_of}
+use Rattle.sv_obl.specs.SignalNames.{name_of}
 use Rattle.sv_obl.specs.Obligations.{flow}
-use Rattle.sv_obl.proofs.ListExamples.{high, signal, turns, held_register}
+use Rattle.sv_obl.proofs.ExampleDesigns.{high, signal, turns, held_register}
 use Rattle.sv_report.specs.JsonTexts.{object_of, number_data, name_data, values_data, flow_data}
 use Rattle.sv_report.specs.JsonTexts.{json_line, accepted_json, refusal_json, limit_json}
 use Rattle.sv_report.specs.JsonTexts.{unknown_json}

@@ -31,7 +31,7 @@ use Rattle.sv_obl.specs.DesignQueries.{IsQueryOf, IsGoalOf}
 use Rattle.sv_obl.specs.Obligations.{GoalForm, flow, holds, selector, Obligation}
 use Rattle.sv_obl.specs.Validity.{Valuation, goal_frame, IsInFrame, SomeStays, GoalFails, Falsifies}
 use Rattle.sv_obl.specs.Views.{IsGoalAmong, IsAmong}
-use Rattle.sv_obl.proofs.DesignQueryFacts.{query_among}
+use Rattle.sv_obl.proofs.AmongFacts.{query_among}
 use Rattle.sv_report.specs.FlowText.{AsksFlow, asked_signal, stays, IsFirstToStay}
 
 -- ---- searches

@@ -10,7 +10,7 @@ use Rattle.sv_flat.specs.SignalLists.{registers, inputs}
 use Rattle.sv_obl.specs.declared.frames.Frame.{Frame}
 use Rattle.sv_obl.specs.declared.frames.Frame.TheVariants.{Now, Next}
 use Rattle.sv_obl.specs.declared.valuations.Valuation.{Valuation as Listed}
-use Rattle.sv_obl.specs.ListLines.{name_of}
+use Rattle.sv_obl.specs.SignalNames.{name_of}
 use Rattle.sv_obl.specs.Obligations.{GoalForm, flow, holds, selector, Obligation}
 use Rattle.sv_obl.specs.Validity.{Valuation, goal_frame, IsInFrame}
 use Rattle.sv_obl.specs.Valuations.{valuation_of}

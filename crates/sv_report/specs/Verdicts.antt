@@ -6,7 +6,7 @@ use Rattle.sv_flat.specs.Views.{design_of}
 use Rattle.sv_obl.specs.declared.queries.Query.{Query}
 use Rattle.sv_obl.specs.declared.valuations.Valuation.{Valuation}
 use Rattle.sv_obl.specs.DesignQueries.{IsQueryOf}
-use Rattle.sv_obl.specs.ListLines.{name_of}
+use Rattle.sv_obl.specs.SignalNames.{name_of}
 use Rattle.sv_obl.specs.Obligations.{Obligation}
 use Rattle.sv_obl.specs.Validity.{Falsifies}
 use Rattle.sv_obl.specs.Valuations.{FitsDesign, valuation_of}

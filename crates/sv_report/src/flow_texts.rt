@@ -4,7 +4,7 @@ ghost use Rattle.sv_flat.specs.ByNumber.{signal_forms};
 ghost use Rattle.sv_flat.specs.Views.{design_of};
 ghost use Rattle.sv_design.specs.Numbers.{numbers};
 ghost use Rattle.sv_obl.specs.DesignQueries.{IsQueryOf};
-ghost use Rattle.sv_obl.specs.ListLines.{name_of};
+ghost use Rattle.sv_obl.specs.SignalNames.{name_of};
 ghost use Rattle.sv_obl.specs.Validity.{Falsifies};
 ghost use Rattle.sv_obl.specs.Valuations.{FitsDesign, valuation_of};
 ghost use Rattle.sv_obl.specs.Views.{goal_form, obligation_of};

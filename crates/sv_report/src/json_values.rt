@@ -8,7 +8,7 @@ ghost use Rattle.sv_flat.specs.ByNumber.{signal_forms};
 ghost use Rattle.sv_flat.specs.SignalLists.{registers, inputs};
 ghost use Rattle.sv_flat.specs.Views.{design_of};
 ghost use Rattle.sv_design.specs.Numbers.{numbers};
-ghost use Rattle.sv_obl.specs.ListLines.{name_of};
+ghost use Rattle.sv_obl.specs.SignalNames.{name_of};
 ghost use Rattle.sv_obl.specs.Valuations.{FitsDesign};
 ghost use Rattle.sv_report.specs.JsonTexts.{name_data, names_data, values_data, next_data};
 

@@ -1,7 +1,7 @@
 // The names of signals.
 ghost use Rattle.std.specs.Prelude.{◌≡◌, ◌<◌, length};
 ghost use Rattle.sv_flat.specs.ByNumber.{signal_forms};
-ghost use Rattle.sv_obl.specs.ListLines.{name_of};
+ghost use Rattle.sv_obl.specs.SignalNames.{name_of};
 
 use sv_flat::{SigId, Signal};
 

@@ -3,7 +3,7 @@ use Rattle.std.proofs.Common.{◌≡◌, [], ◌∷◌, Some, None, refl}
 use Rattle.std.specs.Prelude.{codes}
 use Rattle.std.specs.Fmt.{digits}
 use Rattle.sv_flat.specs.ByNumber.{by_number}
-use Rattle.sv_obl.proofs.ListExamples.{turns, point}
+use Rattle.sv_obl.proofs.ExampleDesigns.{turns, point}
 use Rattle.sv_trace.specs.Traces.{trace_line}
 
 -- module top(input turn, input a, input {H} b, output {Dom(turn)} y); assign y = turn ? b : a;

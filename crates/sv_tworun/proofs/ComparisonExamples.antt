@@ -11,7 +11,7 @@ use Rattle.sv_flat.specs.Design.{typed, choice, continuous, ProcessForm, FlatDes
 use Rattle.sv_flat.specs.FlatSystem.{flat_system, run_of}
 use Rattle.sv_flat.specs.SignalLists.{inputs}
 use Rattle.sv_flat.proofs.Forms.{at, named, process, sets}
-use Rattle.sv_obl.proofs.ListExamples.{turns, point, design}
+use Rattle.sv_obl.proofs.ExampleDesigns.{turns, point, design}
 use Rattle.sv_flat.specs.Given.{given}
 use Rattle.sv_tworun.specs.declared.compared.Compared.TheVariants.{Equal, InputsDiffer}
 use Rattle.sv_tworun.specs.declared.compared.Compared.TheVariants.{ViewsDiffer, LengthsDiffer}

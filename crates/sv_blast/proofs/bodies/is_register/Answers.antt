@@ -4,7 +4,7 @@ use Rattle.sv_flat.specs.Design.{ProcessForm}
 use Rattle.sv_flat.specs.Processes.{is_clocked}
 use Rattle.sv_flat.specs.Views.{design_of, process_form, process_kind}
 use Rattle.sv_flat.specs.declared.designs.Process.{Process}
-use Rattle.sv_obl.proofs.TargetFacts.{form_at}
+use Rattle.sv_obl.proofs.FormLists.{form_at}
 use Rattle.sv_blast.proofs.SliceWords.{driver_kind, some_driver}
 use Rattle.sv_blast.proofs.bodies.is_register.Goals as goal
 

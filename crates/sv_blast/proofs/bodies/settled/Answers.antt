@@ -4,7 +4,7 @@ use Rattle.sv_flat.specs.ByNumber.{signal_forms}
 use Rattle.sv_flat.specs.Views.{design_of, signal_form}
 use Rattle.sv_obl.specs.BodySlices.{slice_statement}
 use Rattle.sv_obl.proofs.SliceChains.{on_ok}
-use Rattle.sv_obl.proofs.TargetFacts.{length_mapped}
+use Rattle.sv_obl.proofs.FormLists.{length_mapped}
 use Rattle.sv_gates.specs.Formulas.{Formula, most_variables}
 use Rattle.sv_circuits.specs.Words.{Word}
 use Rattle.sv_encoding.specs.Bodies.{settled_word}

@@ -3,11 +3,11 @@ use Rattle.std.specs.Prelude.{slice_get, option_map, IfSome}
 use Rattle.sv_flat.specs.Views.{design_of, signal_form}
 use Rattle.sv_flat.specs.declared.signals.SigId.{SigId}
 use Rattle.sv_obl.specs.DesignQueries.{IsQueryOf}
-use Rattle.sv_obl.specs.ListParts.{obligations_on}
+use Rattle.sv_paths.specs.ListParts.{obligations_on}
 use Rattle.sv_obl.specs.Obligations.{target_obligations}
 use Rattle.sv_obl.specs.Views.{obligation_of}
 use Rattle.sv_obl.specs.declared.queries.Query.{Query}
-use Rattle.sv_obl.proofs.TargetFacts.{length_mapped}
+use Rattle.sv_obl.proofs.FormLists.{length_mapped}
 use Rattle.sv_cli.specs.Clauses.{IsFoundOrNext}
 use Rattle.sv_cli.proofs.Numbered.{found_or_next, both_ok}
 use Rattle.sv_cli.proofs.clauses.next_query.Goals as goal

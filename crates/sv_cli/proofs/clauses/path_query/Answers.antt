@@ -1,7 +1,7 @@
 use Rattle.std.proofs.Common.{◌≤◌, length, sym, arith}
 use Rattle.std.proofs.lemmas.Option.{slice_get_past}
 use Rattle.sv_flat.specs.Views.{design_of}
-use Rattle.sv_obl.specs.ListParts.{obligations_on}
+use Rattle.sv_paths.specs.ListParts.{obligations_on}
 use Rattle.sv_cli.proofs.clauses.path_query.Goals as goal
 
 pub query-requires-clause-there : goal.query-requires-clause-there

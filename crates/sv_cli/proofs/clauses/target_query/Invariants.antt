@@ -1,6 +1,6 @@
 use Rattle.std.proofs.Common.{◌≤◌}
 use Rattle.sv_flat.specs.Views.{design_of}
-use Rattle.sv_obl.specs.ListParts.{IsAt}
+use Rattle.sv_paths.specs.ListParts.{IsAt}
 use Rattle.sv_cli.proofs.clauses.target_query.Given as goal
 
 -- none of the targets so far has it

@@ -1,8 +1,8 @@
 use Rattle.std.proofs.Common.{List, ℕ, length, subst}
 use Rattle.sv_io.specs.Sink.{WritesFront}
 use Rattle.sv_flat.specs.Views.{design_of}
-use Rattle.sv_obl.specs.ListLines.{list_text}
-use Rattle.sv_obl.specs.ListParts.{lines_left}
+use Rattle.sv_paths.specs.ListLines.{list_text}
+use Rattle.sv_paths.specs.ListParts.{lines_left}
 use Rattle.sv_cli.proofs.Lines.{on_failure, front_after}
 use Rattle.sv_cli.proofs.listing.put_lines.Goals as goal
 

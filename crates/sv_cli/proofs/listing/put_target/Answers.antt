@@ -1,7 +1,7 @@
 use Rattle.std.proofs.Common.{◌≡◌, ◌+◌, ◌++◌, List, ℕ, sym, ap, ◌∙◌}
 use Rattle.sv_io.specs.Sink.{WritesFront}
 use Rattle.sv_flat.specs.Views.{design_of}
-use Rattle.sv_obl.specs.ListParts.{lines_left}
+use Rattle.sv_paths.specs.ListParts.{lines_left}
 use Rattle.sv_cli.specs.Prepared.{LeavesOf}
 use Rattle.sv_cli.proofs.Lines.{on_success, on_failure, part_put, front_of}
 use Rattle.sv_cli.proofs.listing.put_target.Goals as goal

@@ -1,6 +1,6 @@
 use Rattle.std.proofs.Common.{◌+◌, ◌∙◌, refl}
 use Rattle.sv_flat.specs.Views.{design_of}
-use Rattle.sv_obl.specs.ListParts.{lines_left}
+use Rattle.sv_paths.specs.ListParts.{lines_left}
 use Rattle.sv_cli.proofs.Lines.{none_put, then_put, front_after, on_error}
 use Rattle.sv_cli.proofs.listing.put_targets.Goals as goal
 

@@ -1,6 +1,6 @@
 use Rattle.std.proofs.Common.{◌≡◌}
 use Rattle.sv_flat.specs.Views.{design_of}
-use Rattle.sv_obl.specs.ListParts.{IsAt, lines_left}
+use Rattle.sv_paths.specs.ListParts.{IsAt, lines_left}
 use Rattle.sv_cli.specs.Prepared.{LeavesOf}
 use Rattle.sv_cli.proofs.listing.put_targets.Given as goal
 

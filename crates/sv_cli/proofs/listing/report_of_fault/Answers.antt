@@ -1,7 +1,7 @@
 use Rattle.std.proofs.Common.{subst}
 use Rattle.sv_flat.specs.Views.{design_of}
-use Rattle.sv_obl.specs.Answers.{Told}
-use Rattle.sv_obl.specs.Limits.{many_paths, large_path, many_obligations, excess}
+use Rattle.sv_paths.specs.Answers.{Told}
+use Rattle.sv_paths.specs.Limits.{many_paths, large_path, many_obligations, excess}
 use Rattle.sv_cli.proofs.Listed.{name_below, tells_excess}
 use Rattle.sv_cli.proofs.listing.report_of_fault.Goals as goal
 

@@ -3,7 +3,7 @@ use Rattle.std.specs.Prelude.{IfSome, IfNone, IsSome, Option}
 use Rattle.sv_io.specs.Sink.{WritesFront}
 use Rattle.sv_flat.specs.Views.{design_of}
 use Rattle.sv_io.specs.Source.{WhateverFollows}
-use Rattle.sv_obl.specs.ListLines.{list_text}
+use Rattle.sv_paths.specs.ListLines.{list_text}
 use Rattle.sv_encoding.specs.CnfText.{cnf_text}
 use Rattle.sv_blast.specs.Coded.{encoding_of}
 use Rattle.sv_sim_run.specs.Simulated.{level_asked, WritesAllCycles}

@@ -5,7 +5,7 @@ use Rattle.sv_obl.specs.Obligations.{obligations}
 use Rattle.sv_obl.specs.Validity.{Falsifies}
 use Rattle.sv_obl.specs.Valuations.{FitsDesign, valuation_of}
 use Rattle.sv_obl.specs.Views.{obligation_of}
-use Rattle.sv_obl.proofs.TargetFacts.{length_mapped}
+use Rattle.sv_obl.proofs.FormLists.{length_mapped}
 use Rattle.sv_encoding.specs.BothWays.{IsZeroOutside}
 use Rattle.sv_encoding.specs.Deciding.{IsRefutedBy, IsSpentBy}
 use Rattle.sv_encoding.specs.Encoding.{encoding}

@@ -1,6 +1,6 @@
 use Rattle.std.proofs.Common.{◌≡◌}
 use Rattle.sv_flat.specs.Views.{design_of}
-use Rattle.sv_obl.specs.ListParts.{IsAt}
+use Rattle.sv_paths.specs.ListParts.{IsAt}
 use Rattle.sv_blast.specs.Coders.{IsCoder}
 use Rattle.sv_judge.specs.Progress.{HasDone}
 use Rattle.sv_judge.proofs.checking.decide_targets.Given as goal

@@ -2,7 +2,7 @@ use Rattle.std.proofs.Common.{refl, sym, subst, arith}
 use Rattle.std.specs.Prelude.{IfOk}
 use Rattle.sv_clause.specs.Logs.{plain_log}
 use Rattle.sv_flat.specs.Views.{design_of}
-use Rattle.sv_obl.proofs.TargetFacts.{length_mapped}
+use Rattle.sv_obl.proofs.FormLists.{length_mapped}
 use Rattle.sv_proof.specs.Certificate.{plain_logs, proof_text}
 use Rattle.sv_judge.specs.Verifying.{IsVerdict}
 use Rattle.sv_judge.proofs.VerifyFacts.{verified, wrong_count, flawed_is}

@@ -1,6 +1,6 @@
 use Rattle.std.proofs.Common.{◌≡◌, ◌+◌, length, refl, subst, arith}
 use Rattle.sv_flat.specs.Views.{design_of}
-use Rattle.sv_obl.specs.ListParts.{obligations_on}
+use Rattle.sv_paths.specs.ListParts.{obligations_on}
 use Rattle.sv_proof.specs.Certificate.{plain_logs}
 use Rattle.sv_judge.specs.Certified.{EarlierAreShown}
 use Rattle.sv_judge.proofs.WalkFacts.{path_next}

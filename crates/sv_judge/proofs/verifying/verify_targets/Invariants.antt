@@ -1,5 +1,5 @@
 use Rattle.sv_flat.specs.Views.{design_of}
-use Rattle.sv_obl.specs.ListParts.{IsAt}
+use Rattle.sv_paths.specs.ListParts.{IsAt}
 use Rattle.sv_blast.specs.Coders.{IsCoder}
 use Rattle.sv_proof.specs.Certificate.{plain_logs}
 use Rattle.sv_judge.specs.Certified.{EarlierAreShown}

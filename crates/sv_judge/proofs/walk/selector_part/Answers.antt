@@ -1,7 +1,7 @@
 use Rattle.std.proofs.Common.{◌≤◌, sym, subst}
 use Rattle.sv_flat.specs.Views.{design_of, signal_form}
-use Rattle.sv_obl.specs.ListParts.{IsAt}
-use Rattle.sv_obl.proofs.TargetFacts.{length_mapped}
+use Rattle.sv_paths.specs.ListParts.{IsAt}
+use Rattle.sv_obl.proofs.FormLists.{length_mapped}
 use Rattle.sv_judge.proofs.WalkFacts.{selectors_next, selectors_last}
 use Rattle.sv_judge.proofs.walk.selector_part.Goals as goal
 

@@ -2,7 +2,7 @@ use Rattle.std.proofs.Common.{◌<◌, ◌+◌, [], length, sym, ap, subst, ◌�
 use Rattle.sv_flat.specs.Views.{design_of, signal_form}
 use Rattle.sv_flat.specs.declared.signals.SigId.{SigId}
 use Rattle.sv_obl.specs.Obligations.{target_obligations}
-use Rattle.sv_obl.proofs.TargetFacts.{length_mapped}
+use Rattle.sv_obl.proofs.FormLists.{length_mapped}
 use Rattle.sv_judge.proofs.WalkFacts.{target_counted, target_next}
 use Rattle.sv_judge.proofs.walk.target_part.Goals as goal
 

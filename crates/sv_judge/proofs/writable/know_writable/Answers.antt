@@ -1,7 +1,7 @@
 use Rattle.std.proofs.Common.{◌<◌, ◌^◌, map, sym, subst}
 use Rattle.std.specs.Prelude.{All}
 use Rattle.sv_clause.specs.Logs.{plain_step, plain_log}
-use Rattle.sv_obl.proofs.TargetFacts.{length_mapped}
+use Rattle.sv_obl.proofs.FormLists.{length_mapped}
 use Rattle.sv_judge.specs.Writable.{IsTyped}
 use Rattle.sv_judge.proofs.WritableFacts.{writable_steps}
 use Rattle.sv_judge.proofs.writable.know_writable.Goals as goal

@@ -1,5 +1,5 @@
 use Rattle.sv_flat.specs.Views.{design_of}
-use Rattle.sv_obl.specs.ListParts.{IsAt}
+use Rattle.sv_paths.specs.ListParts.{IsAt}
 use Rattle.sv_messages.proofs.flows.listed_query.Given as goal
 
 -- none of the targets so far has it

@@ -1,7 +1,7 @@
 use Rattle.std.proofs.Common.{refl}
 use Rattle.sv_flat.specs.Views.{typed_tree}
 use Rattle.sv_obl.specs.declared.indexed.Indexed as indexed
-use Rattle.sv_obl.specs.RouteViews.{piece_forms}
+use Rattle.sv_obl.specs.Views.{piece_forms}
 use Rattle.sv_obl.proofs.IndexedFacts.{assign_indexed}
 use Rattle.sv_obl.proofs.indexed.assigned.Goals as goal
 

@@ -1,6 +1,6 @@
 use Rattle.std.proofs.Common.{◌≡◌, ◌++◌, drop, map}
 use Rattle.sv_flat.specs.Design.{PieceForm}
-use Rattle.sv_obl.specs.RouteViews.{piece_forms}
+use Rattle.sv_obl.specs.Views.{piece_forms}
 use Rattle.sv_obl.proofs.indexed.push_pieces.Given as goal
 
 -- the signals so far, and those that are left

@@ -17,7 +17,7 @@ use Rattle.sv_obl.specs.declared.later.Bits.{Bits}
 use Rattle.sv_obl.specs.declared.marked.Marked.{Marked}
 use Rattle.sv_obl.specs.Later.{mask_in, in_scope}
 use Rattle.sv_obl.specs.Marked.{IsMarking}
-use Rattle.sv_obl.specs.RouteViews.{piece_forms}
+use Rattle.sv_obl.specs.Views.{piece_forms}
 use Rattle.sv_obl.proofs.LaterFacts.{bits_inside, only_pieces}
 use Rattle.sv_obl.proofs.MarkedArmFacts.{open_begin, open_more}
 use Rattle.sv_obl.proofs.MarkedFacts.{BlockAt, block_begin, block_more, block_end, assign_marked}

@@ -4,7 +4,7 @@ use Rattle.sv_flat.specs.Design.{ProcessForm}
 use Rattle.sv_flat.specs.Soundness.{statement_sound}
 use Rattle.sv_flat.specs.Views.{process_form}
 use Rattle.sv_obl.proofs.MarkedBodies.{next_body}
-use Rattle.sv_obl.proofs.WrittenFacts.{formed_at}
+use Rattle.sv_obl.proofs.FormLists.{formed_at}
 use Rattle.sv_obl.proofs.marked.marked_bodies.Goals as goal
 
 pub marked_body-requires-clause-body : goal.marked_body-requires-clause-body

@@ -1,7 +1,7 @@
 use Rattle.std.proofs.Common.{◌≡◌, ◌++◌, codes, rules}
 use Rattle.std.specs.Prelude.{decimal}
 use Rattle.sv_flat.specs.ByNumber.{signal_forms}
-use Rattle.sv_obl.specs.ListLines.{name_of}
+use Rattle.sv_obl.specs.SignalNames.{name_of}
 use Rattle.sv_report.proofs.FlowTextFacts.{line_parts}
 use Rattle.sv_report.proofs.flow_texts.push_flow_line.Goals as goal
 

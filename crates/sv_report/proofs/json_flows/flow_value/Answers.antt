@@ -4,7 +4,7 @@ use Rattle.serde_json.specs.View.{members_view}
 use Rattle.serde_json.proofs.Views.{view-Object}
 use Rattle.sv_flat.specs.SignalLists.{registers, inputs}
 use Rattle.sv_flat.specs.Views.{design_of}
-use Rattle.sv_obl.specs.ListLines.{name_of}
+use Rattle.sv_obl.specs.SignalNames.{name_of}
 use Rattle.sv_obl.specs.Views.{obligation_of}
 use Rattle.sv_report.specs.JsonTexts.{name_data, values_data, next_data}
 use Rattle.sv_report.proofs.JsonFacts.{put_in}

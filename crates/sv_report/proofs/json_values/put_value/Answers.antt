@@ -6,7 +6,7 @@ use Rattle.serde_json.specs.View.{members_view}
 use Rattle.serde_json.specs.declared.value.Value.{String}
 use Rattle.serde_json.proofs.Views.{members_view-insert_entry}
 use Rattle.sv_flat.specs.ByNumber.{signal_forms}
-use Rattle.sv_obl.specs.ListLines.{name_of}
+use Rattle.sv_obl.specs.SignalNames.{name_of}
 use Rattle.sv_report.proofs.JsonFacts.{view_text}
 use Rattle.sv_report.proofs.json_values.put_value.Goals as goal
 

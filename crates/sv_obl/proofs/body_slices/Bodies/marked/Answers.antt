@@ -1,7 +1,7 @@
 use Rattle.std.proofs.Common.{◌<◌, get_or, sym, subst, ◌∙◌}
 use Rattle.sv_flat.specs.Clocks.{processes_of}
 use Rattle.sv_flat.specs.Views.{design_of}
-use Rattle.sv_obl.proofs.DrivenTrails.{inside_marked, marked_for, none_for, held_copies}
+use Rattle.sv_obl.proofs.DrivenBodies.{inside_marked, marked_for, none_for, held_copies}
 use Rattle.sv_obl.proofs.OneDriver.{no_process, found_again}
 use Rattle.sv_obl.proofs.body_slices.Bodies.marked.Goals as goal
 

@@ -14,7 +14,7 @@ use Rattle.sv_rules.proofs.Sound.{few_bits}
 use Rattle.sv_obl.specs.IndexedBodies.{AreIndexed}
 use Rattle.sv_obl.specs.MarkedBodies.{IsMarkedBody}
 use Rattle.sv_obl.specs.Wanted.{with_copies}
-use Rattle.sv_obl.proofs.TargetFacts.{length_mapped}
+use Rattle.sv_obl.proofs.FormLists.{length_mapped}
 use Rattle.sv_obl.proofs.body_slices.Bodies.new.Goals as goal
 
 pub marked_bodies-requires-clause-words : goal.marked_bodies-requires-clause-words

@@ -3,7 +3,7 @@ use Rattle.sv_flat.specs.Views.{design_of}
 use Rattle.sv_obl.specs.BodySlices.{sliced, SameParts, slice_statement, driven_body}
 use Rattle.sv_obl.specs.IndexedBodies.{looked_up}
 use Rattle.sv_obl.specs.SliceRoutes.{IsSliceOf}
-use Rattle.sv_obl.proofs.DrivenTargets.{undriven_slice, has_body, driven_slice}
+use Rattle.sv_obl.proofs.DrivenSlices.{undriven_slice, has_body, driven_slice}
 use Rattle.sv_obl.proofs.SliceChains.{on_ok}
 use Rattle.sv_obl.proofs.body_slices.Bodies.slice.Goals as goal
 

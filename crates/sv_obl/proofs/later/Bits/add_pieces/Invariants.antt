@@ -3,7 +3,7 @@ use Rattle.std.specs.List.{list_any}
 use Rattle.sv_flat.specs.Assigned.{has_bit}
 use Rattle.sv_rules.specs.Pieces.{AreOrdered}
 use Rattle.sv_obl.specs.Later.{in_bits}
-use Rattle.sv_obl.specs.RouteViews.{piece_forms}
+use Rattle.sv_obl.specs.Views.{piece_forms}
 use Rattle.sv_obl.proofs.later.Bits.add_pieces.Given as goal
 
 -- the bits so far, and those of the pieces that are left

@@ -1,0 +1,15 @@
+pub mod AlongViews
+pub mod Alongs
+pub mod Answers
+pub mod Driven
+pub mod Levels
+pub mod Limits
+pub mod ListLines
+pub mod ListParts
+pub mod PutIn
+pub mod RouteObligations
+pub mod RouteViews
+pub mod TrailLines
+pub mod TrailViews
+pub mod Trails
+pub mod Written

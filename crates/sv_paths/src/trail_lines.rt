@@ -1,0 +1,59 @@
+// The line of the obligation of one path through a body with earlier reads.
+ghost use Rattle.std.specs.Prelude.{◌≡◌, ◌<◌, ◌++◌, map, reverse, length, All, IfOk, OnOk};
+ghost use Rattle.sv_flat.specs.ByNumber.{signal_forms};
+ghost use Rattle.sv_flat.specs.Views.{process_form};
+ghost use Rattle.sv_paths.specs.TrailLines.{trail_line};
+ghost use Rattle.sv_paths.specs.TrailViews.{trail_form};
+ghost use Rattle.sv_paths.specs.Written.{mark_word};
+
+use crate::list_lines::{Mark, push_flow, push_number};
+use crate::path_queries::{frame_of, place_of};
+use crate::reads::signals_of;
+use crate::trails::Trail;
+use std::alloc::{AllocError, Global};
+use sv_flat::{Process, SigId, Signal};
+
+// The conditions in textual order.
+fn marks_on(alloc: Global, marks: &[Mark]) -> Result<Vec<Mark>, AllocError>
+    ensures { IfOk result (λ turned.
+        map mark_word turned.items ≡ map mark_word (reverse marks.now)) }
+{
+    let mut turned = Vec::with_capacity(alloc, marks.len())?;
+    for i in 0..marks.len() {
+        turned.push(marks[marks.len() - 1 - i])?;
+    }
+    Ok(turned)
+}
+
+/// Adds the line of the obligation of a path of the target through the process, with its number.
+pub fn push_trail(
+    alloc: Global,
+    text: &mut Vec<u8>,
+    signals: &[Signal],
+    number: u32,
+    process: &Process,
+    target: SigId,
+    trail: &Trail,
+) -> Result<(), AllocError>
+    requires known { target.0 < length signals.now }
+    requires names { All (λ t. t < length signals.now) trail.now.names.settled.keys }
+    ensures { OnOk result (text.new.items ≡ text.old.items
+        ++ trail_line (signal_forms signals.now) number (process_form process.now) target.0
+        (trail_form trail.now)) }
+{
+    let reads = signals_of(alloc, &trail.names.settled)?;
+    let marks = marks_on(alloc, &trail.marks)?;
+    let right = place_of(process, trail.place);
+    push_number(text, number)?;
+    push_flow(
+        text,
+        signals,
+        target,
+        frame_of(process.kind),
+        &marks,
+        right,
+        &reads,
+    )?;
+    text.push(b'\n')?;
+    Ok(())
+}

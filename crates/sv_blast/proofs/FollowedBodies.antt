@@ -2,21 +2,19 @@
 -- the body with such reads wanted.
 use Rattle.std.proofs.Common.{◌≡◌, ℕ, ◌+◌, ◌<◌, ◌≤◌, ◌&&◌, ◌||◌, ◌==◌, ◌⊎◌, inl, inr, ⊎_elim}
 use Rattle.std.proofs.Common.{Bool, true, false, cond, List, ◌++◌, length, replicate, refl, sym, ap}
-use Rattle.std.proofs.Common.{ap₂, subst, ◌∙◌, arith, ltb-true}
+use Rattle.std.proofs.Common.{ap₂, subst, ◌∙◌}
 use Rattle.std.specs.Prelude.{Contains, IsTrue, IsFalse}
 use Rattle.std.specs.List.{list_all}
-use Rattle.std.proofs.lemmas.Bool.{false≢true, eqb-true, lt-ltb}
+use Rattle.std.proofs.lemmas.Bool.{false≢true, eqb-true}
 use Rattle.std.proofs.lemmas.List.{length-replicate}
-use Rattle.std.proofs.Common.{length-append}
-use Rattle.sv_system.proofs.Lists.{Contains-map}
 use Rattle.sv_flat.specs.Design.{SignalForm, TypedTree, typed, PieceForm, FlatStatement, nothing, after}
 use Rattle.sv_flat.specs.Design.{assign, branch, ProcessKind, continuous, port_in, port_out}
 use Rattle.sv_flat.specs.Design.{combinational, clocked, release, ProcessForm, FlatDesign}
 use Rattle.sv_flat.specs.Values.{signal_width}
-use Rattle.sv_flat.specs.Soundness.{is_signal, piece_fits, well_formed, statement_sound}
+use Rattle.sv_flat.specs.Soundness.{piece_fits, well_formed, statement_sound}
 use Rattle.sv_flat.specs.Assigned.{assigns, can_assign, always_assigns}
 use Rattle.sv_flat.specs.Readings.{ReadForm, reads, BitSet, either, no_bits, Reading, readings_of}
-use Rattle.sv_flat.specs.Readings.{readings, is_followed}
+use Rattle.sv_flat.specs.Readings.{readings}
 use Rattle.sv_flat.specs.Processes.{is_clocked, is_block}
 use Rattle.sv_flat.specs.Clocks.{processes_of}
 use Rattle.sv_flat.specs.Reads.{followed, is_read_for, reads_for, process_readings}
@@ -24,12 +22,10 @@ use Rattle.sv_flat.specs.Reads.{is_earlier}
 use Rattle.sv_flat.proofs.Members.{Contains-left, Contains-right}
 use Rattle.sv_flat.proofs.LeastSets.{from_some, either_way, in_those, those_below, those_pass}
 use Rattle.sv_flat.proofs.Depths.{first_of, second_of}
-use Rattle.sv_flat.proofs.ReadSignals.{reads_signals}
 use Rattle.sv_flat.proofs.AdmittedFacts.{body_is_sound}
 use Rattle.sv_flat.proofs.BlockFacts.{follows_itself, follows_earlier, settled_is_read}
 use Rattle.sv_design.specs.Designs.{IsDesign}
 use Rattle.sv_obl.specs.BodySlices.{SameParts}
-use Rattle.sv_obl.specs.Exchange.{name}
 use Rattle.sv_obl.specs.Wanted.{with_copies, copy_of, is_copy, original, mark, marked_tree, marked}
 use Rattle.sv_obl.proofs.PathLists.{cond_true, cond_false}
 use Rattle.sv_obl.proofs.PutFacts.{width_settled, width_copy, copy_is_copy}
@@ -45,7 +41,8 @@ use Rattle.sv_circuits.proofs.WordKeeps.{word_same}
 use Rattle.sv_encoding.specs.Expressions.{Words}
 use Rattle.sv_encoding.specs.Bodies.{words_after, starting_words, driven_word}
 use Rattle.sv_encoding.specs.Sizes.{process_size, statement_size}
-use Rattle.sv_encoding_laws.proofs.Renamed.{AllFit, IsFit as Fits, formed_instead}
+use Rattle.sv_encoding_laws.proofs.MarkedReads.{same_width, ReadsCount, marked_fit}
+use Rattle.sv_encoding_laws.proofs.Renamed.{formed_instead}
 use Rattle.sv_blast.specs.WordTables.{StandForReads}
 use Rattle.sv_blast.specs.FollowedWords.{AllStand, IsFit, AreFit, AtHand}
 use Rattle.sv_blast.proofs.FollowedNames.{Agree, after_same}
@@ -67,9 +64,6 @@ module _ (design : FlatDesign) (is : IsDesign design) where
   abbrev both : List SignalForm
   both = with_copies design.signals
 
-  long : length both ≡ length signals + length signals
-  long = length-append signals signals
-
   module _ (p : ProcessForm) (s : ℕ) (at : Contains (processes_of design) p)
       (own : IsTrue (assigns p.body s)) where
     abbrev targets : List ℕ
@@ -81,24 +75,12 @@ module _ (design : FlatDesign) (is : IsDesign design) where
     copies : (u : ℕ) → Contains (followed design p s) u → Hand (copy_of design.signals u)
     copies u inside = inr (u, inside, refl)
 
-    in_both : (t : ℕ) → t < length signals → IsTrue (is_signal both t)
-    in_both t low = lt-ltb t (length both) (omega (arith, low, long))
-
-    copy_in_both : (t : ℕ) → t < length signals → IsTrue (is_signal both (copy_of signals t))
-    copy_in_both t low = lt-ltb (copy_of signals t) (length both) (omega (arith, low, long))
-
     -- ---- the marked body
 
-    -- what is read for a target is settled and read for the signal, or is an earlier value of
-    -- another target
-    abbrev ReadsCount : List Reading → Type 0
-    ReadsCount rs =
-        (r : Reading) → Contains rs r → (u : ℕ) → Contains targets u → IsTrue (r.serves u) →
-        (IsFalse (is_block p.kind && is_followed signals r)
-        × IsTrue (is_read_for design s r.name.signal))
-        ⊎ (IsTrue (is_block p.kind && is_followed signals r) × Contains targets r.name.signal)
+    abbrev Count : List Reading → Type 0
+    Count = ReadsCount design p s
 
-    body_counts : ReadsCount (process_readings design p)
+    body_counts : Count (process_readings design p)
     body_counts r r_at u u_at served = ⊎_elim
         (λ earlier. inr (
           earlier,
@@ -112,57 +94,21 @@ module _ (design : FlatDesign) (is : IsDesign design) where
 
     tree_fits : (e : TypedTree) (serves : ℕ → Bool) (early follows : BitSet) →
         IsTrue (well_formed signals e) → (u : ℕ) → Contains targets u → IsTrue (serves u) →
-        ReadsCount (readings_of signals e serves early follows) →
+        Count (readings_of signals e serves early follows) →
         IsFit signals Hand (marked_tree signals (is_block p.kind) follows e)
-    tree_fits e serves early follows formed u u_at served count = (
-      formed_instead signals both (mark signals (is_block p.kind) follows) Hand same e formed all,
-      λ t named.
-          let found = from_some (λ (r : ReadForm). r.signal == t)
-          (reads both (marked_tree signals (is_block p.kind) follows e)) named in
-          let from = exchanged_names signals both (mark signals (is_block p.kind) follows) e t
-          (found.0, found.1, eqb-true (found.0).signal t found.2) in
-          subst Hand from.2 (all from.0 from.1).1.1,
-    )
-      where
-        same : (t : ℕ) → IsTrue (is_signal signals t) →
-            IsTrue (is_signal both t) × (signal_width both t ≡ signal_width signals t)
-        same t known =
-            let low = ltb-true t (length signals) known in
-            (in_both t low, width_settled signals t low)
-
-        all : AllFit signals both (mark signals (is_block p.kind) follows) Hand same
-            (reads signals e)
-        all r r_at =
-            let reading : Reading = record {
-              name = r;
-              serves = serves;
-              assigned = early;
-              follows = follows;
-            } in
-            let low = ltb-true r.signal (length signals) (reads_signals signals e formed r r_at) in
-            by (is_block p.kind && is_followed signals reading) low
-            (count reading (Contains-map (λ (x : ReadForm).
-            record { name = x; serves = serves; assigned = early; follows = follows })
-            (reads signals e) r r_at) u u_at served)
-          where
-            by : (c : Bool) → r.signal < length signals →
-                (IsFalse c × IsTrue (is_read_for design s r.signal))
-                ⊎ (IsTrue c × Contains targets r.signal) →
-                Fits signals both (mark signals (is_block p.kind) follows) Hand same r.signal
-                (name (cond c (copy_of signals r.signal) r.signal))
-            by true low (inl late) = absurd (false≢true (sym late.0))
-            by true low (inr earlier) = (
-              copy_in_both r.signal low,
-              (width_copy signals r.signal, copies r.signal earlier.1),
-            )
-            by false low (inl late) = (
-              in_both r.signal low,
-              (
-                width_settled signals r.signal low,
-                inl (in_those (length signals) (is_read_for design s) r.signal low late.1),
-              ),
-            )
-            by false low (inr earlier) = absurd (false≢true earlier.0)
+    tree_fits e serves early follows formed u u_at served count =
+        let instead = mark signals (is_block p.kind) follows in
+        let all = marked_fit design p s Hand
+        (λ t low settled. inl (in_those (length signals) (is_read_for design s) t low settled))
+        copies e serves early follows formed u u_at served count in (
+          formed_instead signals both instead Hand (same_width design) e formed all,
+          λ t named.
+              let found = from_some (λ (r : ReadForm). r.signal == t)
+              (reads both (marked_tree signals (is_block p.kind) follows e)) named in
+              let from = exchanged_names signals both instead e t
+              (found.0, found.1, eqb-true (found.0).signal t found.2) in
+              subst Hand from.2 (all from.0 from.1).1.1,
+        )
 
     -- marks change no target
     marked_targets : (b : FlatStatement) (later : BitSet) (t : ℕ) →
@@ -183,7 +129,7 @@ module _ (design : FlatDesign) (is : IsDesign design) where
     pieces_fit (typed width signed node) follows pieces fit = fit
 
     marked_fits : (b : FlatStatement) (early later : BitSet) → IsTrue (statement_sound signals b) →
-        ReadsCount (readings signals b early later) →
+        Count (readings signals b early later) →
         AreFit signals targets Hand (marked signals (is_block p.kind) b later)
     marked_fits nothing early later right count = tt
     marked_fits (after first second) early later right count =

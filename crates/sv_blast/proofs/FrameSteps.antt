@@ -1,5 +1,5 @@
 -- The words of both cycles, step by step, from what is in hand.
-use Rattle.std.proofs.Common.{◌≡◌, ℕ, List, ap, ◌∙◌}
+use Rattle.std.proofs.Common.{◌≡◌, ℕ, List, sym, ap, ◌∙◌}
 use Rattle.sv_flat.specs.Design.{FlatDesign}
 use Rattle.sv_obl.specs.Obligations.{Obligation}
 use Rattle.sv_gates.specs.Formulas.{Formula}
@@ -53,3 +53,43 @@ module _ (design : FlatDesign) (o : Obligation) where
       ap (λ ss. settled_in_turn design ss z.1 z.0) e
       ∙ ap (λ (z : Formula × Words). settled_in_turn design (settled_in design (next_cone design o))
       z.1 z.0) g
+
+  -- ---- each step, where those before it are made
+
+  module _ (ss : List ℕ) (ss_are : ss ≡ given_in design (now_cone design o)) (words : Words)
+      (empty : words ≡ no_words) (old : Formula) (begin : old ≡ start) where
+    pub given_from : fresh_words design ss words old ≡ after_given design o
+    given_from = given_path ss words old ss_are empty begin
+
+    module _ (one : Formula × Words) (made : fresh_words design ss words old ≡ one) where
+      pub given_made : after_given design o ≡ one
+      given_made = sym given_from ∙ made
+
+      pub settled_from : (ts : List ℕ) → ts ≡ settled_in design (now_cone design o) →
+          settled_in_turn design ts one.1 one.0 ≡ after_settled design o
+      settled_from ts ts_are = settled_path ts one ts_are (sym given_made)
+
+  module _ (ss : List ℕ) (ss_are : ss ≡ inputs_in design (next_cone design o)) (words : Words)
+      (empty : words ≡ no_words) (old : Formula) (now : Words)
+      (settled : after_settled design o ≡ (old, now)) where
+    pub inputs_from : fresh_words design ss words old ≡ after_inputs design o
+    inputs_from =
+        inputs_path ss words old ss_are empty (sym (ap (λ (z : Formula × Words). z.0) settled))
+
+    module _ (one : Formula × Words) (made : fresh_words design ss words old ≡ one) where
+      pub inputs_made : after_inputs design o ≡ one
+      inputs_made = sym inputs_from ∙ made
+
+      module _ (rs : List ℕ) (rs_are : rs ≡ registers_in design (next_cone design o)) where
+        pub registers_from : next_in_turn design now rs one.1 one.0 ≡ after_registers design o
+        registers_from =
+            registers_path rs now one rs_are (sym (ap (λ (z : Formula × Words). z.1) settled))
+            (sym inputs_made)
+
+        module _ (two : Formula × Words) (more : next_in_turn design now rs one.1 one.0 ≡ two) where
+          pub registers_made : after_registers design o ≡ two
+          registers_made = sym registers_from ∙ more
+
+          pub next_from : (ts : List ℕ) → ts ≡ settled_in design (next_cone design o) →
+              settled_in_turn design ts two.1 two.0 ≡ after_next design o
+          next_from ts ts_are = next_path ts two ts_are (sym registers_made)

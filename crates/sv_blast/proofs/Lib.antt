@@ -10,6 +10,8 @@ pub mod DecodedLists
 pub mod FlowSteps
 pub mod FollowedArms
 pub mod FollowedBodies
+pub mod FollowedBranches
+pub mod FollowedCalls
 pub mod FollowedLists
 pub mod FollowedLoops
 pub mod FollowedNames
@@ -29,6 +31,7 @@ pub mod MarkTables
 pub mod NameMarks
 pub mod NodeSteps
 pub mod OrChains
+pub mod PartSteps
 pub mod PointSteps
 pub mod PointSums
 pub mod QuerySignals

@@ -1,15 +1,14 @@
 -- The literals of facts, conditions and the goal, step by step, from what is in hand.
-use Rattle.std.proofs.Common.{◌≡◌, ℕ, ℤ, ◌≤◌, List, ap, ◌∙◌, arith}
-use Rattle.sv_flat.specs.Design.{FlatDesign, TypedTree}
+use Rattle.std.proofs.Common.{◌≡◌, ℕ, ℤ, ◌≤◌, List, sym, ap, subst, ◌∙◌, arith}
+use Rattle.sv_flat.specs.Design.{FlatDesign}
 use Rattle.sv_obl.specs.Obligations.{Obligation}
-use Rattle.sv_obl.specs.Paths.{StepForm}
 use Rattle.std.specs.Prelude.{All}
 use Rattle.sv_gates.specs.Formulas.{Formula, IsLiteral}
-use Rattle.sv_encoding.specs.Encoding.{truth_literals, condition_literals, target_label, violation}
+use Rattle.sv_encoding.specs.Encoding.{target_label, violation}
 use Rattle.sv_encoding.specs.Expressions.{Words}
 use Rattle.sv_encoding.specs.Labels.{LabelForm, signal_labels}
 use Rattle.sv_blast.specs.LabelViews.{AreWithin}
-use Rattle.sv_blast.specs.Steps.{after_settled, after_next, after_facts, after_conditions}
+use Rattle.sv_blast.specs.Steps.{after_settled, after_next, after_conditions}
 use Rattle.sv_blast.specs.Steps.{after_target, after_reads, after_violation}
 
 -- the literals of a label, over more variables
@@ -52,3 +51,43 @@ module _ (design : FlatDesign) (o : Obligation) (now next : Words)
       ∙ ap (λ (z : List LabelForm). violation design first last (after_target design o).1 z o.goal
       gates) r
       ∙ ap (violation design first last (after_target design o).1 (after_reads design o).1 o.goal) g
+
+  -- ---- each step, where those before it are made
+
+  -- what holds of the words and gates that are made holds of those in hand
+  pub in_hand : (P : Formula → Words → Words → Type 0) (gates made : Formula) → gates ≡ made →
+      P made (after_settled design o).1 (after_next design o).1 → P gates now next
+  in_hand P gates made same h =
+      subst (λ (w : Words). P gates w next) (sym is_now)
+      (subst (λ (w : Words). P gates (after_settled design o).1 w) (sym is_next)
+      (subst (λ (z : Formula). P z (after_settled design o).1 (after_next design o).1) (sym same)
+      h))
+
+  module _ (old : Formula) (old_is : old ≡ (after_conditions design o).0) (one : Formula)
+      (target : LabelForm) (target_is : target_label design now next o.goal old ≡ (one, target))
+    where
+    target_made : after_target design o ≡ (one, target)
+    target_made = sym (target_path old old_is) ∙ target_is
+
+    pub target_gates : one ≡ (after_target design o).0
+    target_gates = sym (ap (λ (z : Formula × LabelForm). z.0) target_made)
+
+    module _ (reads : List ℕ) (listed : reads ≡ o.reads) where
+      pub reads_from : signal_labels design now reads one ≡ after_reads design o
+      reads_from = reads_path reads one listed target_gates
+
+      module _ (two : Formula) (labels : List LabelForm)
+          (labels_are : signal_labels design now reads one ≡ (two, labels)) where
+        reads_made : after_reads design o ≡ (two, labels)
+        reads_made = sym reads_from ∙ labels_are
+
+        pub reads_gates : two ≡ (after_reads design o).0
+        reads_gates = sym (ap (λ (z : Formula × List LabelForm). z.0) reads_made)
+
+        pub violation_from : (seen : LabelForm) → seen ≡ target → (shown : List LabelForm) →
+            shown ≡ labels → violation design now next seen shown o.goal two ≡ after_violation
+            design o
+        violation_from seen seen_is shown shown_are =
+            violation_path seen shown two
+            (seen_is ∙ sym (ap (λ (z : Formula × LabelForm). z.1) target_made))
+            (shown_are ∙ sym (ap (λ (z : Formula × List LabelForm). z.1) reads_made)) reads_gates

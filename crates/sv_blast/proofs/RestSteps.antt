@@ -1,15 +1,13 @@
 -- All steps behind the facts and conditions, where all of these are there.
-use Rattle.std.proofs.Common.{◌≡◌, ℕ, ◌<◌, ◌≤◌, ℤ, List, [], ◌∷◌, length, map, take, drop, refl, sym, ap}
+use Rattle.std.proofs.Common.{◌≡◌, ℕ, ◌<◌, ◌≤◌, ℤ, List, ◌∷◌, length, take, drop, sym, ap}
 use Rattle.std.proofs.Common.{ap₂, ◌∙◌, subst, arith}
 use Rattle.std.specs.Prelude.{All, Contains, IsTrue}
 use Rattle.std.proofs.lemmas.List.{take-append-drop, length-map, take-map, drop-map}
 use Rattle.sv_system.proofs.Lists.{Contains-head}
-use Rattle.sv_flat.specs.declared.expressions.FExpr.{FExpr}
 use Rattle.sv_flat.specs.Design.{FlatDesign, SignalForm, TypedTree}
 use Rattle.sv_flat.specs.Soundness.{well_formed}
 use Rattle.sv_flat.specs.Views.{typed_tree}
 use Rattle.sv_flat.proofs.Members.{Contains-right}
-use Rattle.sv_design.specs.Numbers.{numbers}
 use Rattle.sv_gates.specs.Extending.{Begins}
 use Rattle.sv_gates.specs.Formulas.{Formula, IsLiteral, most_variables}
 use Rattle.sv_circuits.specs.Circuits.{IsWord}
@@ -17,15 +15,16 @@ use Rattle.sv_circuits.proofs.WordKeeps.{word_take, word_drop}
 use Rattle.sv_obl.specs.DesignQueries.{IsQueryOf}
 use Rattle.sv_obl.specs.Noninterference.{IsChecked}
 use Rattle.sv_obl.specs.Obligations.{Obligation}
+use Rattle.sv_obl.specs.Paths.{StepForm}
 use Rattle.sv_encoding.specs.Cones.{conditions_of}
-use Rattle.sv_encoding.specs.Encoding.{truth_literals, encoding}
+use Rattle.sv_encoding.specs.Encoding.{with_units}
 use Rattle.sv_encoding.specs.Expressions.{Words, is_true_bit}
 use Rattle.sv_blast.specs.Encoders.{design_in, obligation_in}
 use Rattle.sv_blast.specs.Framed.{now_frame, both_frames, IsFramed, IsBegun, AreTruths, trees_of}
 use Rattle.sv_blast.specs.Framed.{literals_of, with_truths}
 use Rattle.sv_blast.specs.Steps.{after_settled, after_next, after_facts, after_conditions}
 use Rattle.sv_blast.specs.Steps.{after_violation}
-use Rattle.sv_blast.specs.WordTables.{words_of, StandFor}
+use Rattle.sv_blast.specs.WordTables.{StandFor}
 use Rattle.sv_blast.specs.declared.encoding.Encoder.{Encoder}
 use Rattle.sv_blast.specs.declared.framed.Framed.{Framed}
 use Rattle.sv_blast.specs.declared.framed.Truth.{Truth}
@@ -35,8 +34,8 @@ use Rattle.sv_blast.proofs.KeptTruths.{facts_are, conditions_are}
 use Rattle.sv_blast.proofs.LiteralFacts.{asked_formed, asked_stands}
 use Rattle.sv_blast.proofs.LiteralSteps.{all_up}
 use Rattle.sv_blast.proofs.LoopStages.{all_within}
-use Rattle.sv_blast.proofs.WholeEncodings.{last_formula, last_same, conditions_within}
-use Rattle.sv_blast.proofs.WholeEncodings.{conditions_begin}
+use Rattle.sv_blast.proofs.WholeEncodings.{last_formula, conditions_within}
+use Rattle.sv_blast.proofs.WholeEncodings.{conditions_begin, units_path}
 
 -- what begins at a place stands in the list
 stands_at : (es : List TypedTree) (k : ℕ) (e : TypedTree) (rest : List TypedTree) →
@@ -109,17 +108,27 @@ module _ (encoder : Encoder) (made : Framed) (begun : IsBegun encoder made)
         (sym (same ∙ with_all design o made.truths.items all))
         (conditions_begin encoder.design.now checked o query)))
 
-    pub facts_there : (n : ℕ) → n ≡ length encoder.query.now.facts.items →
+    facts_there : (n : ℕ) → n ≡ length encoder.query.now.facts.items →
         literals_of (take n made.truths.items) ≡ (after_facts design o).1
     facts_there n e =
         facts_are design o made.truths.items all made.gates are_there n
         (e ∙ sym (length-map encoder.query.now.facts.items typed_tree))
 
-    pub conditions_there : (n : ℕ) → n ≡ length encoder.query.now.facts.items →
+    conditions_there : (n : ℕ) → n ≡ length encoder.query.now.facts.items →
         literals_of (drop n made.truths.items) ≡ (after_conditions design o).1
     conditions_there n e =
         conditions_are design o made.truths.items all made.gates are_there n
         (e ∙ sym (length-map encoder.query.now.facts.items typed_tree))
+
+    -- what the units make, where facts and conditions are seen apart
+    pub units_there : (n : ℕ) → n ≡ length encoder.query.now.facts.items →
+        (facts conditions : List ℤ) → facts ≡ literals_of (take n made.truths.items) →
+        conditions ≡ literals_of (drop n made.truths.items) → (path : List StepForm) →
+        path ≡ o.path → (gates : Formula) (fails : ℤ) → after_violation design o ≡ (gates, fails) →
+        with_units facts path conditions fails gates ≡ last_formula design o
+    units_there n e facts conditions facts_seen conditions_seen path path_is gates fails v =
+        units_path design o facts conditions path (gates, fails) (facts_seen ∙ facts_there n e)
+        path_is (conditions_seen ∙ conditions_there n e) (sym v)
 
     inside : IsWord made.gates.variables (literals_of made.truths.items)
     inside =

@@ -2,7 +2,6 @@ pub mod AskedSignals
 pub mod DesignSignals
 pub mod FalsifiedCycles
 pub mod FoundValues
-pub mod LabelPoints
 pub mod LabelRefutations
 pub mod SettledCycles
 pub mod SpelledValuations

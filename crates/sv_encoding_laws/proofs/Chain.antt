@@ -337,13 +337,14 @@ module _ (design : FlatDesign) (checked : IsChecked design) (o : Obligation)
   pub next_word : (n : ℕ) → (s5.0).variables ≤ n → (t : ℕ) → InLater t → IsWordOf design t n (s5.1 t)
   next_word n h t held = word_more_of t (s5.0).variables n (s5.1 t) h (p5.within t held)
 
-  target_makes : (goal : GoalForm) → IsGoalOf design o goal →
-      ((t : ℕ) → Contains (asked_now design goal) t → InCone t) →
-      ((t : ℕ) → Contains (asked_next design goal) t → InLater t) →
-      Makes s7.0 (target_label design s2.1 s5.1 goal s7.0) HasLiterals (TargetMeans goal)
-  target_makes (flow s Now) is now next =
+  -- a label in this cycle
+  now_label_makes : (s : ℕ) → Contains (flat_system design).signals s →
+      ((t : ℕ) → Contains (label_selectors design s) t → InCone t) →
+      Makes s7.0 (target_label design s2.1 s5.1 (selector s) s7.0) HasLiterals
+      (TargetMeans (selector s))
+  now_label_makes s known now =
       let p = label_says_point design s2.1 s s7.0 is_sound checked.maps
-      (known_signal s is.0) base7
+      (known_signal s known) base7
       (λ t held. now_word (s7.0).variables (omega (arith, grows5, grows7)) t
       (now t (Contains-from_holds (label_selectors design s) t held))) in
       record {
@@ -352,6 +353,12 @@ module _ (design : FlatDesign) (checked : IsChecked design) (o : Obligation)
         says = λ values met e f spelled. p.says values met e (λ t held.
             spelled.0 t (now t (Contains-from_holds (label_selectors design s) t held)));
       }
+
+  target_makes : (goal : GoalForm) → IsGoalOf design o goal →
+      ((t : ℕ) → Contains (asked_now design goal) t → InCone t) →
+      ((t : ℕ) → Contains (asked_next design goal) t → InLater t) →
+      Makes s7.0 (target_label design s2.1 s5.1 goal s7.0) HasLiterals (TargetMeans goal)
+  target_makes (flow s Now) is now next = now_label_makes s is.0 now
   target_makes (flow s Next) is now next =
       let p = label_says_point design s5.1 s s7.0 is_sound checked.maps
       (known_signal s is.0) base7
@@ -366,17 +373,7 @@ module _ (design : FlatDesign) (checked : IsChecked design) (o : Obligation)
   target_makes (must_hold x frame) is now next =
       makes_at_once s7.0 [] HasLiterals (TargetMeans (must_hold x frame)) base7.closed
       (λ l at. absurd (Contains-nil l at)) (λ values met e f spelled. tt)
-  target_makes (selector s) is now next =
-      let p = label_says_point design s2.1 s s7.0 is_sound checked.maps
-      (known_signal s is.0) base7
-      (λ t held. now_word (s7.0).variables (omega (arith, grows5, grows7)) t
-      (now t (Contains-from_holds (label_selectors design s) t held))) in
-      record {
-        extends = p.extends;
-        within = p.within;
-        says = λ values met e f spelled. p.says values met e (λ t held.
-            spelled.0 t (now t (Contains-from_holds (label_selectors design s) t held)));
-      }
+  target_makes (selector s) is now next = now_label_makes s is.0 now
 
   pub p8 : Makes s7.0 s8 HasLiterals (TargetMeans o.goal)
   p8 =

@@ -6,17 +6,15 @@ use Rattle.std.proofs.Common.{subst, ◌∙◌, ◌⊎◌, inl, inr, ⊎_elim, a
 use Rattle.std.specs.Prelude.{Contains, IsTrue, IsFalse}
 use Rattle.std.specs.List.{list_any, list_all}
 use Rattle.std.proofs.lemmas.Bool.{false≢true, leb-true, leb-false, lt-ltb, eq-eqb}
-use Rattle.std.proofs.Common.{length-append}
 use Rattle.sv_num.specs.Vectors.{truth}
-use Rattle.sv_system.proofs.Lists.{Contains-map}
 use Rattle.sv_flat.specs.Design.{SignalForm, TypedTree, PieceForm, FlatStatement, nothing, after}
 use Rattle.sv_flat.specs.Design.{assign, branch, ProcessForm, FlatDesign}
 use Rattle.sv_flat.specs.Values.{signal_width, expression_width}
 use Rattle.sv_flat.specs.Soundness.{is_signal, is_part_of, piece_fits, well_formed, statement_sound}
 use Rattle.sv_flat.specs.Soundness.{sound}
 use Rattle.sv_flat.specs.Assigned.{assigns, can_assign, always_assigns}
-use Rattle.sv_flat.specs.Readings.{ReadForm, reads, BitSet, either, no_bits, Reading, readings_of}
-use Rattle.sv_flat.specs.Readings.{readings, is_followed}
+use Rattle.sv_flat.specs.Readings.{BitSet, either, no_bits, Reading, readings_of}
+use Rattle.sv_flat.specs.Readings.{readings}
 use Rattle.sv_flat.specs.Processes.{is_clocked, is_block, is_register, drivers}
 use Rattle.sv_flat.specs.Clocks.{processes_of, is_clock_link}
 use Rattle.sv_flat.specs.Reads.{followed, is_read_for, process_readings, reads_settled}
@@ -27,9 +25,7 @@ use Rattle.sv_flat.proofs.LeastSets.{some_from, from_some, Contains-from_holds}
 use Rattle.sv_flat.proofs.LeastSets.{Contains-from_filter, either_way, holds-from_Contains}
 use Rattle.std.proofs.lemmas.Bool.{or_left}
 use Rattle.sv_flat.proofs.Depths.{first_of, second_of, from_all}
-use Rattle.sv_flat.proofs.ReadSignals.{reads_signals}
 use Rattle.sv_flat.proofs.AdmittedFacts.{and_true, body_is_sound, assigned_is_signal, some_width}
-use Rattle.sv_obl.specs.Exchange.{name}
 use Rattle.sv_obl.specs.MadeValues.{starting_values}
 use Rattle.sv_obl.specs.Wanted.{with_copies, copy_of, is_copy, original, mark, marked_tree, marked}
 use Rattle.sv_obl.proofs.MadeFacts.{follows_itself, made_by}
@@ -51,7 +47,8 @@ use Rattle.sv_encoding_laws.proofs.BodyWords.{Stand, ExpressionFits, PiecesFit, 
 use Rattle.sv_encoding_laws.proofs.BodyWords.{words_make}
 use Rattle.sv_encoding_laws.proofs.BodyCounts.{body_grows}
 use Rattle.sv_encoding.specs.Sizes.{process_size}
-use Rattle.sv_encoding_laws.proofs.Renamed.{AllFit, IsFit, named_instead, formed_instead}
+use Rattle.sv_encoding_laws.proofs.MarkedReads.{twice_long, same_width, ReadsCount, marked_fit}
+use Rattle.sv_encoding_laws.proofs.Renamed.{named_instead, formed_instead}
 use Rattle.sv_encoding_laws.proofs.Steps.{HasWidth, MakesWord}
 
 -- ---- false words
@@ -100,9 +97,6 @@ module _ (design : FlatDesign) (is_sound : IsTrue (sound design)) (admitted : Is
 
   -- ---- lengths
 
-  long : length both ≡ length signals + length signals
-  long = length-append signals signals
-
   have_bits : HaveBits both
   have_bits t inside = ⊎_elim
       (λ copy. subst (λ k. 0 < k) (sym (width_original signals t copy))
@@ -110,7 +104,7 @@ module _ (design : FlatDesign) (is_sound : IsTrue (sound design)) (admitted : Is
       (lt-ltb (original signals t) (length signals)
       (let low = ltb-true t (length both) inside in
       let high = leb-true (length signals) t copy in
-      omega (arith, low, high, long)))))
+      omega (arith, low, high, twice_long design)))))
       (λ plain. let low = settled_low t plain in
       subst (λ k. 0 < k) (sym (width_settled signals t low))
       (some_width design is_sound admitted t (lt-ltb t (length signals) low)))
@@ -123,24 +117,12 @@ module _ (design : FlatDesign) (is_sound : IsTrue (sound design)) (admitted : Is
           by true is none = absurd (false≢true (sym none))
           by false is none = leb-false (length signals) t is
 
-  in_both : (t : ℕ) → t < length signals → IsTrue (is_signal both t)
-  in_both t low = lt-ltb t (length both) (omega (arith, low, long))
-
-  copy_in_both : (t : ℕ) → t < length signals → IsTrue (is_signal both (copy_of signals t))
-  copy_in_both t low = lt-ltb (copy_of signals t) (length both) (omega (arith, low, long))
-
   -- ---- the marked body
 
-  -- what is read for a target is settled and read for the signal, or is an earlier value of another
-  -- target
-  abbrev ReadsCount : List Reading → Type 0
-  ReadsCount rs =
-      (r : Reading) → Contains rs r → (u : ℕ) → Contains targets u → IsTrue (r.serves u) →
-      (IsFalse (is_block p.kind && is_followed signals r)
-      × IsTrue (is_read_for design s r.name.signal))
-      ⊎ (IsTrue (is_block p.kind && is_followed signals r) × Contains targets r.name.signal)
+  abbrev Count : List Reading → Type 0
+  Count = ReadsCount design p s
 
-  body_counts : ReadsCount (process_readings design p)
+  body_counts : Count (process_readings design p)
   body_counts r r_at u u_at served = ⊎_elim
       (λ late. inl (late.0, subst (λ t. IsTrue (is_read_for design s t)) late.1.3 late.1.2))
       (λ earlier. inr earlier)
@@ -148,52 +130,18 @@ module _ (design : FlatDesign) (is_sound : IsTrue (sound design)) (admitted : Is
 
   tree_fits : (e : TypedTree) (serves : ℕ → Bool) (early follows : BitSet) →
       IsTrue (well_formed signals e) → (u : ℕ) → Contains targets u → IsTrue (serves u) →
-      ReadsCount (readings_of signals e serves early follows) →
+      Count (readings_of signals e serves early follows) →
       ExpressionFits signals have_bits targets Counts copies
       (marked_tree signals (is_block p.kind) follows e)
-  tree_fits e serves early follows formed u u_at served count = record {
-    formed = formed_instead signals both (mark signals (is_block p.kind) follows) Counts same e
-        formed all;
-    named = named_instead signals both (mark signals (is_block p.kind) follows) Counts same e all;
-  }
-    where
-      same : (t : ℕ) → IsTrue (is_signal signals t) →
-          IsTrue (is_signal both t) × (signal_width both t ≡ signal_width signals t)
-      same t known =
-          let low = ltb-true t (length signals) known in
-          (in_both t low, width_settled signals t low)
-
-      all : AllFit signals both (mark signals (is_block p.kind) follows) Counts same
-          (reads signals e)
-      all r r_at =
-          let reading : Reading = record {
-            name = r;
-            serves = serves;
-            assigned = early;
-            follows = follows;
-          } in
-          let low = ltb-true r.signal (length signals) (reads_signals signals e formed r r_at) in
-          by (is_block p.kind && is_followed signals reading) low
-          (count reading (Contains-map (λ (x : ReadForm).
-          record { name = x; serves = serves; assigned = early; follows = follows })
-          (reads signals e) r r_at) u u_at served)
-        where
-          by : (c : Bool) → r.signal < length signals →
-              (IsFalse c × IsTrue (is_read_for design s r.signal))
-              ⊎ (IsTrue c × Contains targets r.signal) →
-              IsFit signals both (mark signals (is_block p.kind) follows) Counts same r.signal
-              (name (cond c (copy_of signals r.signal) r.signal))
-          by true low (inl late) = absurd (false≢true (sym late.0))
-          by true low (inr earlier) = (
-            copy_in_both r.signal low,
-            (
-              width_copy signals r.signal,
-              copies r.signal (holds-from_Contains targets r.signal earlier.1),
-            ),
-          )
-          by false low (inl late) =
-              (in_both r.signal low, (width_settled signals r.signal low, inl (late.1, low)))
-          by false low (inr earlier) = absurd (false≢true earlier.0)
+  tree_fits e serves early follows formed u u_at served count =
+      let instead = mark signals (is_block p.kind) follows in
+      let all = marked_fit design p s Counts (λ t low settled. inl (settled, low))
+      (λ t inside. copies t (holds-from_Contains targets t inside)) e serves early follows formed u
+      u_at served count in
+      record {
+        formed = formed_instead signals both instead Counts (same_width design) e formed all;
+        named = named_instead signals both instead Counts (same_width design) e all;
+      }
 
   pieces_fit : (e : TypedTree) (pieces : List PieceForm) →
       IsTrue (list_all (piece_fits signals e) pieces) →
@@ -223,7 +171,7 @@ module _ (design : FlatDesign) (is_sound : IsTrue (sound design)) (admitted : Is
       ap₂ ◌||◌ (marked_targets first later t) (marked_targets second later t)
 
   marked_fits : (b : FlatStatement) (early later : BitSet) → IsTrue (statement_sound signals b) →
-      ReadsCount (readings signals b early later) →
+      Count (readings signals b early later) →
       BodyFits signals have_bits targets Counts copies (marked signals (is_block p.kind) b later)
   marked_fits nothing early later right count = tt
   marked_fits (after first second) early later right count =

@@ -4,11 +4,13 @@ pub mod Spelling
 pub mod Steps
 pub mod Renamed
 pub mod BodyWords
+pub mod MarkedReads
 pub mod DrivenWords
 pub mod FrameWords
 pub mod Settling
 pub mod ConeFacts
 pub mod TruthWords
+pub mod LabelPoints
 pub mod LabelWords
 pub mod FlowWords
 pub mod Units

@@ -1,12 +1,9 @@
 -- Expressions in which names stand for other names of the same widths: they are well formed, and
 -- name those.
 use Rattle.std.proofs.Common.{◌≡◌, ℕ, ◌+◌, ◌*◌, Bool, true, false, ◌&&◌, not, nat_le, cond}
-use Rattle.std.proofs.Common.{List, [], ◌∷◌, ◌++◌, refl, sym, ap, subst}
+use Rattle.std.proofs.Common.{List, [], ◌∷◌, ◌++◌, refl, sym, subst}
 use Rattle.std.specs.Prelude.{Contains, IsTrue, ℤ, pos, negsuc}
 use Rattle.sv_num.specs.declared.faults.Place.{Place}
-use Rattle.sv_num.specs.declared.operators.UnOp.{UnOp}
-use Rattle.sv_num.specs.declared.operators.OpClass.{OpClass}
-use Rattle.sv_num.specs.declared.operators.OpClass.TheVariants.{Context, Compare, Logical, Shift}
 use Rattle.sv_num.specs.BinaryValues.{class_of, is_division}
 use Rattle.sv_system.proofs.Lists.{Contains-head, Contains-later}
 use Rattle.sv_flat.specs.Design.{SignalForm, TypedTree, typed, NodeTree, constant, read, read_bit}
@@ -22,6 +19,8 @@ use Rattle.sv_flat.proofs.AdmittedFacts.{and_true}
 use Rattle.sv_flat.proofs.Depths.{first_of, second_of}
 use Rattle.sv_obl.specs.Exchange.{Instead, name, content, for_whole, for_bit, for_part, exchanged}
 use Rattle.sv_obl.specs.Exchange.{exchanged_node, exchanged_parts}
+use Rattle.sv_obl.proofs.ExchangedTypes.{parts_same, unary_same, binary_same, type_same}
+use Rattle.sv_obl.proofs.ExchangedTypes.{part_same, piece_same}
 use Rattle.sv_encoding_laws.proofs.ExpressionLaws.{Named, NamedNode, NamedParts}
 
 pub indexed_signal : (signals : List SignalForm) (s : ℕ) (p : Place) (i : TypedTree) →
@@ -130,37 +129,6 @@ module _ (A B : List SignalForm) (instead : ReadForm → Instead) (P : ℕ → T
       named_parts_instead es (right (reads A e) (parts_reads A es) all),
     )
 
-  -- ---- lengths
-
-  parts_same : (es : TypedTrees) → parts_width (exchanged_parts A instead es) ≡ parts_width es
-  parts_same no_parts = refl
-  parts_same (more_parts (typed w signed node) es) = ap (λ k. w + k) (parts_same es)
-
-  unary_same : (op : UnOp) (w : ℕ) (signed : Bool) (a : TypedTree) →
-      IsTrue (unary_typed op w signed a) → IsTrue (unary_typed op w signed (exchanged A instead a))
-  unary_same op w signed (typed w1 s1 node) h = h
-
-  binary_same : (c : OpClass) (w : ℕ) (signed : Bool) (a b : TypedTree) →
-      IsTrue (binary_typed c w signed a b) →
-      IsTrue (binary_typed c w signed (exchanged A instead a) (exchanged A instead b))
-  binary_same Context w signed (typed w1 s1 n1) (typed w2 s2 n2) h = h
-  binary_same Compare w signed (typed w1 s1 n1) (typed w2 s2 n2) h = h
-  binary_same Logical w signed a b h = h
-  binary_same Shift w signed (typed w1 s1 n1) b h = h
-
-  type_same : (w : ℕ) (signed : Bool) (a : TypedTree) → IsTrue (has_type w signed a) →
-      IsTrue (has_type w signed (exchanged A instead a))
-  type_same w signed (typed w1 s1 node) h = h
-
-  part_same : (w high low : ℕ) (e : TypedTree) → IsTrue (is_part_of (expression_width e) w high low)
-      → IsTrue (is_part_of (expression_width (exchanged A instead e)) w high low)
-  part_same w high low (typed w1 s1 node) h = h
-
-  piece_same : (n high low : ℕ) (piece : TypedTree) →
-      IsTrue (is_part_of n (expression_width piece) high low) →
-      IsTrue (is_part_of n (expression_width (exchanged A instead piece)) high low)
-  piece_same n high low (typed w1 s1 node) h = h
-
   -- ---- well formed
 
   whole_formed : (s w : ℕ) (signed : Bool) (p : Place) (i : Instead) → IsFit s i →
@@ -216,7 +184,8 @@ module _ (A B : List SignalForm) (instead : ReadForm → Instead) (P : ℕ → T
     node_formed_instead w signed (unary op a) h all =
         and_true (unary_typed op w signed (exchanged A instead a))
         (well_formed B (exchanged A instead a))
-        (unary_same op w signed a (first_of (unary_typed op w signed a) (well_formed A a) h))
+        (unary_same A instead op w signed a
+        (first_of (unary_typed op w signed a) (well_formed A a) h))
         (formed_instead a (second_of (unary_typed op w signed a) (well_formed A a) h) all)
     node_formed_instead w signed (binary op a b) h all =
         let x = exchanged A instead a in
@@ -229,7 +198,8 @@ module _ (A B : List SignalForm) (instead : ReadForm → Instead) (P : ℕ → T
         and_true (not (is_division op) && new && well_formed B x) (well_formed B y)
         (and_true (not (is_division op) && new) (well_formed B x)
         (and_true (not (is_division op)) new (first_of (not (is_division op)) types two)
-        (binary_same (class_of op) w signed a b (second_of (not (is_division op)) types two)))
+        (binary_same A instead (class_of op) w signed a b
+        (second_of (not (is_division op)) types two)))
         (formed_instead a (second_of front (well_formed A a) three)
         (left (reads A a) (reads A b) all)))
         (formed_instead b (second_of (front && well_formed A a) (well_formed A b) h)
@@ -249,8 +219,8 @@ module _ (A B : List SignalForm) (instead : ReadForm → Instead) (P : ℕ → T
         (and_true (has_type w signed x && has_type w signed y && well_formed B z) (well_formed B x)
         (and_true (has_type w signed x && has_type w signed y) (well_formed B z)
         (and_true (has_type w signed x) (has_type w signed y)
-        (type_same w signed a (first_of one two h2))
-        (type_same w signed b (second_of one two h2)))
+        (type_same A instead w signed a (first_of one two h2))
+        (type_same A instead w signed b (second_of one two h2)))
         (formed_instead c (second_of (one && two) (well_formed A c) h3)
         (left (reads A c) (reads A a) both)))
         (formed_instead a (second_of (one && two && well_formed A c) (well_formed A a) h4)
@@ -261,7 +231,7 @@ module _ (A B : List SignalForm) (instead : ReadForm → Instead) (P : ℕ → T
     node_formed_instead w signed (join es) h all =
         let new = exchanged_parts A instead es in
         and_true (nat_le (parts_width new) w) (parts_well_formed B new)
-        (subst (λ k. IsTrue (nat_le k w)) (sym (parts_same es))
+        (subst (λ k. IsTrue (nat_le k w)) (sym (parts_same A instead es))
         (first_of (nat_le (parts_width es) w) (parts_well_formed A es) h))
         (parts_formed_instead es (second_of (nat_le (parts_width es) w) (parts_well_formed A es) h)
         all)
@@ -272,7 +242,7 @@ module _ (A B : List SignalForm) (instead : ReadForm → Instead) (P : ℕ → T
         and_true (few && nat_le (count * parts_width new) w) (parts_well_formed B new)
         (and_true few (nat_le (count * parts_width new) w)
         (first_of few (nat_le (count * parts_width es) w) front)
-        (subst (λ k. IsTrue (nat_le (count * k) w)) (sym (parts_same es))
+        (subst (λ k. IsTrue (nat_le (count * k) w)) (sym (parts_same A instead es))
         (second_of few (nat_le (count * parts_width es) w) front)))
         (parts_formed_instead es
         (second_of (few && nat_le (count * parts_width es) w) (parts_well_formed A es) h) all)
@@ -325,7 +295,7 @@ module _ (A B : List SignalForm) (instead : ReadForm → Instead) (P : ℕ → T
         (and_true (is_signal B s) (nat_le (signal_width B s) w) known.0
         (subst (λ k. IsTrue (nat_le k w)) (sym known.1)
         (second_of (is_signal A s) low_enough h2)))
-        (piece_same (signal_width B s) high low piece
+        (piece_same A instead (signal_width B s) high low piece
         (subst (λ k. IsTrue (is_part_of k (expression_width piece) high low)) (sym known.1)
         (second_of (is_signal A s && low_enough) part h3))))
         (formed_instead e (second_of shape (well_formed A e) h4)
@@ -335,7 +305,7 @@ module _ (A B : List SignalForm) (instead : ReadForm → Instead) (P : ℕ → T
     node_formed_instead w signed (slice e high low) h all =
         let x = exchanged A instead e in
         and_true (is_part_of (expression_width x) w high low) (well_formed B x)
-        (part_same w high low e (first_of (is_part_of (expression_width e) w high low)
+        (part_same A instead w high low e (first_of (is_part_of (expression_width e) w high low)
         (well_formed A e) h))
         (formed_instead e (second_of (is_part_of (expression_width e) w high low)
         (well_formed A e) h) all)

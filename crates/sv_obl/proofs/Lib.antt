@@ -4,6 +4,7 @@ pub mod Closing
 pub mod DrivenBodies
 pub mod DrivenSlices
 pub mod ExampleDesigns
+pub mod ExchangedTypes
 pub mod FormLists
 pub mod GuardedDesigns
 pub mod HeldNumbers

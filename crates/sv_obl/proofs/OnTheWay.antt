@@ -6,6 +6,7 @@ use Rattle.std.specs.Prelude.{Contains, IsTrue, IsFalse}
 use Rattle.std.specs.List.{list_all}
 use Rattle.std.proofs.lemmas.Bool.{false≢true, eqb-true, eq-eqb}
 use Rattle.sv_num.specs.Vectors.{is_true}
+use Rattle.sv_num.specs.declared.faults.Place.{Place}
 use Rattle.sv_system.specs.System.{Environment, put}
 use Rattle.sv_flat.specs.Design.{SignalForm, TypedTree, PieceForm, FlatStatement, nothing, after}
 use Rattle.sv_flat.specs.Design.{assign, branch}
@@ -185,6 +186,55 @@ module _ (signals : List SignalForm) (in_block : Bool) (target : ℕ) (Served : 
   assignment pieces tree now u u_at =
       pieces_put signals followed u (is_held u u_at) (value both now tree) pieces now
 
+  -- a branch: its condition is well formed and names what is served, and so it is with its arms
+  module _ (place : Place) (condition : TypedTree) (first second : FlatStatement)
+      (early later : BitSet)
+      (sound : IsTrue (statement_sound signals (branch place condition first second)))
+      (serve : Serve (readings signals (branch place condition first second) early later)) where
+    abbrev chosen : FlatStatement
+    chosen = branch place condition first second
+
+    abbrev chosen_bits : BitSet
+    chosen_bits = either (can_assign chosen) later
+
+    abbrev read_here : List Reading
+    read_here = readings_of signals condition (assigns chosen) early chosen_bits
+
+    abbrev in_first : List Reading
+    in_first = readings signals first early later
+
+    abbrev in_second : List Reading
+    in_second = readings signals second early later
+
+    front : IsTrue (well_formed signals condition && statement_sound signals first)
+    front = first_of (well_formed signals condition && statement_sound signals first)
+        (statement_sound signals second) sound
+
+    formed : IsTrue (well_formed signals condition)
+    formed = first_of (well_formed signals condition) (statement_sound signals first) front
+
+    first_sound : IsTrue (statement_sound signals first)
+    first_sound = second_of (well_formed signals condition) (statement_sound signals first) front
+
+    second_sound : IsTrue (statement_sound signals second)
+    second_sound = second_of (well_formed signals condition && statement_sound signals first)
+        (statement_sound signals second) sound
+
+    first_served : Serve in_first
+    first_served r at = serve r (Contains-left (read_here ++ in_first) in_second r
+        (Contains-right read_here in_first r at))
+
+    second_served : Serve in_second
+    second_served r at = serve r (Contains-right (read_here ++ in_first) in_second r at)
+
+    condition_fine : (u : ℕ) → Member u → IsTrue (assigns chosen u)
+        → FineTree (marked_tree signals in_block chosen_bits condition)
+    condition_fine u u_at own =
+        marked_fine signals in_block target Served Member chosen condition early chosen_bits formed
+        u u_at own
+        (λ r at. serve r (Contains-left (read_here ++ in_first) in_second r
+        (Contains-left read_here in_first r at)))
+
   -- ---- runs
 
   module _ (b : Bool) (z : Environment ℕ) where
@@ -274,18 +324,10 @@ module _ (signals : List SignalForm) (in_block : Bool) (target : ℕ) (Served : 
         let whole = branch place condition first second in
         let bits = either (can_assign whole) later in
         let tree = marked_tree signals in_block bits condition in
-        let read_here = readings_of signals condition (assigns whole) early bits in
-        let in_first = readings signals first early later in
-        let in_second = readings signals second early later in
-        let front = first_of (well_formed signals condition && statement_sound signals first)
-        (statement_sound signals second) sound in
-        let well = first_of (well_formed signals condition) (statement_sound signals first) front in
         ⊎_elim
         (λ own.
-        let fine = marked_fine signals in_block target Served Member whole condition early bits
-        well u u_at own
-        (λ r at. serve r (Contains-left (read_here ++ in_first) in_second r
-        (Contains-left read_here in_first r at))) in
+        let fine = condition_fine place condition first second early later sound serve u u_at own in
+        let well = formed place condition first second early later sound serve in
         let same = tree_stands tree now x (marked_held signals in_block bits condition well) fine
         stands ∙ sym follows.0 in
         let first_way = on_the_way first later now in
@@ -295,16 +337,12 @@ module _ (signals : List SignalForm) (in_block : Bool) (target : ℕ) (Served : 
         (run signals first x) (run signals second x) (copy_of signals u) u
         (λ holds. way_runs first early later now x
         (first_of (all_are b first) (all_are b second) kind)
-        (second_of (well_formed signals condition) (statement_sound signals first) front)
-        (follows.1 holds)
-        (λ r at. serve r (Contains-left (read_here ++ in_first) in_second r
-        (Contains-right read_here in_first r at))) stands u u_at)
+        (first_sound place condition first second early later sound serve) (follows.1 holds)
+        (first_served place condition first second early later sound serve) stands u u_at)
         (λ fails. way_runs second early later now x
         (second_of (all_are b first) (all_are b second) kind)
-        (second_of (well_formed signals condition && statement_sound signals first)
-        (statement_sound signals second) sound)
-        (follows.2 fails)
-        (λ r at. serve r (Contains-right (read_here ++ in_first) in_second r at)) stands u u_at))
+        (second_sound place condition first second early later sound serve) (follows.2 fails)
+        (second_served place condition first second early later sound serve) stands u u_at))
         (λ none.
         leaves whole later now u u_at none ∙ stands.1 u u_at
         ∙ sym (running_leaves signals b whole u kind none x))
@@ -375,18 +413,10 @@ module _ (signals : List SignalForm) (in_block : Bool) (target : ℕ) (Served : 
       let whole = branch place condition first second in
       let bits = either (can_assign whole) later in
       let tree = marked_tree signals in_block bits condition in
-      let read_here = readings_of signals condition (assigns whole) early bits in
-      let in_first = readings signals first early later in
-      let in_second = readings signals second early later in
-      let front = first_of (well_formed signals condition && statement_sound signals first)
-      (statement_sound signals second) sound in
-      let well = first_of (well_formed signals condition) (statement_sound signals first) front in
       ⊎_elim
       (λ own.
-      let fine = marked_fine signals in_block target Served Member whole condition early bits
-      well u u_at own
-      (λ r at. serve r (Contains-left (read_here ++ in_first) in_second r
-      (Contains-left read_here in_first r at))) in
+      let fine = condition_fine place condition first second early later sound serve u u_at own in
+      let well = formed place condition first second early later sound serve in
       ap (λ v. cond (is_true v) (on_the_way first later x) (on_the_way second later x)
       (copy_of signals u))
       (tree_alike tree x y (marked_held signals in_block bits condition well) fine alike)
@@ -394,13 +424,11 @@ module _ (signals : List SignalForm) (in_block : Bool) (target : ℕ) (Served : 
       (on_the_way second later x) (on_the_way first later y) (on_the_way second later y)
       (copy_of signals u)
       (way_alike first early later x y
-      (second_of (well_formed signals condition) (statement_sound signals first) front)
-      (λ r at. serve r (Contains-left (read_here ++ in_first) in_second r
-      (Contains-right read_here in_first r at))) alike u u_at)
+      (first_sound place condition first second early later sound serve)
+      (first_served place condition first second early later sound serve) alike u u_at)
       (way_alike second early later x y
-      (second_of (well_formed signals condition && statement_sound signals first)
-      (statement_sound signals second) sound)
-      (λ r at. serve r (Contains-right (read_here ++ in_first) in_second r at)) alike u u_at))
+      (second_sound place condition first second early later sound serve)
+      (second_served place condition first second early later sound serve) alike u u_at))
       (λ none.
       leaves whole later x u u_at none ∙ alike.1 u u_at ∙ sym (leaves whole later y u u_at none))
       (either_way (assigns whole u))

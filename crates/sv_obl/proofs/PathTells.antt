@@ -314,6 +314,27 @@ module _ (signals : List SignalForm) (in_block b : Bool) (target : ℕ) (z : Env
       Holds (run signals body now) p
       × (value both (here now) q.result ≡ value both (here (run signals body now)) p.result)
 
+  -- a path behind the condition of an arm, where the arm runs and its paths tell so of it
+  arm_tells : (whole arm : FlatStatement) (later : BitSet) (place : Place) (tree : TypedTree)
+      (truth : Bool) (p q : Path) (now : State)
+      → (IsTrue (beq (is_true (value both (here now) tree)) truth)
+      → (run signals arm now ≡ run signals whole now)
+      × ((m : Path) → Contains (before_marked arm later p) m → Holds now m → Tells arm now p m))
+      → Contains (map (under (step_of place tree truth)) (before_marked arm later p)) q
+      → Holds now q → Tells whole now p q
+  arm_tells whole arm later place tree truth p q now taken at h =
+      let step = step_of place tree truth in
+      let from = Contains-from_map (under step) (before_marked arm later p) q at in
+      let m = from.0 in
+      let inner = subst (Holds now) (sym from.2) h in
+      let v = is_true (value both (here now) tree) in
+      let rest = steps_hold both (here now) m.steps in
+      let told = taken (first_of (beq v truth) rest inner) in
+      subst (Tells whole now p) from.2
+      (subst (λ (x : State).
+      Holds x p × (value both (here now) m.result ≡ value both (here x) p.result)) told.0
+      (told.1 m from.1 (second_of (beq v truth) rest inner)))
+
   -- a path that holds before a statement comes from one that holds after it, with the same value
   pub path_tells : (body : FlatStatement) (later : BitSet) (p q : Path) (now : State)
       → IsTrue (all_are b body)
@@ -380,36 +401,23 @@ module _ (signals : List SignalForm) (in_block b : Bool) (target : ℕ) (z : Env
       let in_no = map (under (step_of place tree false)) (before_marked second later p) in
       ⊎_elim
       (λ taken. ⊎_elim
-      (λ l.
-      let from = Contains-from_map (under (step_of place tree true))
-      (before_marked first later p) q l in
-      let m = from.0 in
-      let inner = subst (Holds now) (sym from.2) h in
-      let is = same ∙ same_truth v true
-      (first_of (beq v true) (steps_hold both (here now) m.steps) inner) in
-      subst (Tells whole now p) from.2
-      (subst (λ (x : State).
-      Holds x p × (value both (here now) m.result ≡ value both (here x) p.result))
-      (sym (cond_true c (run signals first now) (run signals second now) is))
-      (path_tells first later p m now (first_of (all_are b first) (all_are b second) kind)
-      (second_of (well_formed signals condition) (statement_sound signals first) front)
-      (follows.1 is) tidy from.1
-      (second_of (beq v true) (steps_hold both (here now) m.steps) inner))))
-      (λ r.
-      let from = Contains-from_map (under (step_of place tree false))
-      (before_marked second later p) q r in
-      let m = from.0 in
-      let inner = subst (Holds now) (sym from.2) h in
-      let is = same ∙ same_truth v false
-      (first_of (beq v false) (steps_hold both (here now) m.steps) inner) in
-      subst (Tells whole now p) from.2
-      (subst (λ (x : State).
-      Holds x p × (value both (here now) m.result ≡ value both (here x) p.result))
-      (sym (cond_false c (run signals first now) (run signals second now) is))
-      (path_tells second later p m now (second_of (all_are b first) (all_are b second) kind)
-      (second_of (well_formed signals condition && statement_sound signals first)
-      (statement_sound signals second) sound) (follows.2 is) tidy
-      from.1 (second_of (beq v false) (steps_hold both (here now) m.steps) inner))))
+      (λ l. arm_tells whole first later place tree true p q now (λ holds.
+      let is = same ∙ same_truth v true holds in (
+        sym (cond_true c (run signals first now) (run signals second now) is),
+        λ m m_at m_holds. path_tells first later p m now
+            (first_of (all_are b first) (all_are b second) kind)
+            (second_of (well_formed signals condition) (statement_sound signals first) front)
+            (follows.1 is) tidy m_at m_holds,
+      )) l h)
+      (λ r. arm_tells whole second later place tree false p q now (λ holds.
+      let is = same ∙ same_truth v false holds in (
+        sym (cond_false c (run signals first now) (run signals second now) is),
+        λ m m_at m_holds. path_tells second later p m now
+            (second_of (all_are b first) (all_are b second) kind)
+            (second_of (well_formed signals condition && statement_sound signals first)
+            (statement_sound signals second) sound)
+            (follows.2 is) tidy m_at m_holds,
+      )) r h)
       (Contains-either in_yes in_no q taken.1))
       (λ kept.
       let is = only p q kept.1 in

@@ -1,11 +1,8 @@
 -- Expressions in which something of the same width stands for names are well formed.
-use Rattle.std.proofs.Common.{◌≡◌, ℕ, ◌+◌, ◌*◌, Bool, ◌&&◌, not, nat_le, nat_lt}
-use Rattle.std.proofs.Common.{List, refl, sym, ap, subst}
+use Rattle.std.proofs.Common.{◌≡◌, ℕ, ◌*◌, Bool, ◌&&◌, not, nat_le, nat_lt}
+use Rattle.std.proofs.Common.{List, sym, subst}
 use Rattle.std.specs.Prelude.{IsTrue}
 use Rattle.sv_num.specs.declared.faults.Place.{Place}
-use Rattle.sv_num.specs.declared.operators.UnOp.{UnOp}
-use Rattle.sv_num.specs.declared.operators.OpClass.{OpClass}
-use Rattle.sv_num.specs.declared.operators.OpClass.TheVariants.{Context, Compare, Logical, Shift}
 use Rattle.sv_num.specs.BinaryValues.{class_of, is_division}
 use Rattle.sv_flat.specs.Design.{SignalForm, TypedTree, typed, NodeTree, constant, read, read_bit}
 use Rattle.sv_flat.specs.Design.{read_part, unary, binary, choice, join, replication, held}
@@ -17,6 +14,8 @@ use Rattle.sv_flat.specs.Readings.{ReadForm, whole_read, indexed_read, is_consta
 use Rattle.sv_flat.proofs.Depths.{first_of, second_of}
 use Rattle.sv_obl.specs.Exchange.{Instead, name, content, for_whole, for_bit, for_part, exchanged}
 use Rattle.sv_obl.specs.Exchange.{exchanged_node, exchanged_parts}
+use Rattle.sv_obl.proofs.ExchangedTypes.{parts_same, unary_same, binary_same, type_same}
+use Rattle.sv_obl.proofs.ExchangedTypes.{part_same, piece_same}
 use Rattle.sv_obl.proofs.PathLists.{both_true}
 use Rattle.sv_obl.proofs.TreeFacts.{held_below, node_held_below, parts_held_below, indexed_is}
 
@@ -36,37 +35,6 @@ module _ (A B : List SignalForm) (instead : ReadForm → Instead) (n : ℕ)
     (same : (s : ℕ) → IsTrue (nat_lt s n) →
     IsTrue (is_signal B s) × (signal_width B s ≡ signal_width A s))
     (fits : (r : ReadForm) → IsTrue (is_signal A r.signal) → Fits A B r.signal (instead r)) where
-  -- ---- lengths
-
-  parts_same : (es : TypedTrees) → parts_width (exchanged_parts A instead es) ≡ parts_width es
-  parts_same no_parts = refl
-  parts_same (more_parts (typed w signed node) es) = ap (λ k. w + k) (parts_same es)
-
-  unary_same : (op : UnOp) (w : ℕ) (signed : Bool) (a : TypedTree) →
-      IsTrue (unary_typed op w signed a) → IsTrue (unary_typed op w signed (exchanged A instead a))
-  unary_same op w signed (typed w1 s1 node) h = h
-
-  binary_same : (c : OpClass) (w : ℕ) (signed : Bool) (a b : TypedTree) →
-      IsTrue (binary_typed c w signed a b) →
-      IsTrue (binary_typed c w signed (exchanged A instead a) (exchanged A instead b))
-  binary_same Context w signed (typed w1 s1 n1) (typed w2 s2 n2) h = h
-  binary_same Compare w signed (typed w1 s1 n1) (typed w2 s2 n2) h = h
-  binary_same Logical w signed a b h = h
-  binary_same Shift w signed (typed w1 s1 n1) b h = h
-
-  type_same : (w : ℕ) (signed : Bool) (a : TypedTree) → IsTrue (has_type w signed a) →
-      IsTrue (has_type w signed (exchanged A instead a))
-  type_same w signed (typed w1 s1 node) h = h
-
-  part_same : (w high low : ℕ) (e : TypedTree) → IsTrue (is_part_of (expression_width e) w high low)
-      → IsTrue (is_part_of (expression_width (exchanged A instead e)) w high low)
-  part_same w high low (typed w1 s1 node) h = h
-
-  piece_same : (n high low : ℕ) (piece : TypedTree) →
-      IsTrue (is_part_of n (expression_width piece) high low) →
-      IsTrue (is_part_of n (expression_width (exchanged A instead piece)) high low)
-  piece_same n high low (typed w1 s1 node) h = h
-
   -- ---- well formed
 
   whole_formed : (s w : ℕ) (signed : Bool) (p : Place) (i : Instead) → Fits A B s i
@@ -138,7 +106,8 @@ module _ (A B : List SignalForm) (instead : ReadForm → Instead) (n : ℕ)
     node_formed w signed (unary op a) below h =
         both_true (unary_typed op w signed (exchanged A instead a))
         (well_formed B (exchanged A instead a))
-        (unary_same op w signed a (first_of (unary_typed op w signed a) (well_formed A a) h))
+        (unary_same A instead op w signed a
+        (first_of (unary_typed op w signed a) (well_formed A a) h))
         (exchanged_formed a below (second_of (unary_typed op w signed a) (well_formed A a) h))
     node_formed w signed (binary op a b) below h =
         let x = exchanged A instead a in
@@ -151,7 +120,8 @@ module _ (A B : List SignalForm) (instead : ReadForm → Instead) (n : ℕ)
         both_true (not (is_division op) && new && well_formed B x) (well_formed B y)
         (both_true (not (is_division op) && new) (well_formed B x)
         (both_true (not (is_division op)) new (first_of (not (is_division op)) types two)
-        (binary_same (class_of op) w signed a b (second_of (not (is_division op)) types two)))
+        (binary_same A instead (class_of op) w signed a b
+        (second_of (not (is_division op)) types two)))
         (exchanged_formed a (first_of (held_below n a) (held_below n b) below)
         (second_of front (well_formed A a) three)))
         (exchanged_formed b (second_of (held_below n a) (held_below n b) below)
@@ -171,8 +141,8 @@ module _ (A B : List SignalForm) (instead : ReadForm → Instead) (n : ℕ)
         (both_true (has_type w signed x && has_type w signed y && well_formed B z) (well_formed B x)
         (both_true (has_type w signed x && has_type w signed y) (well_formed B z)
         (both_true (has_type w signed x) (has_type w signed y)
-        (type_same w signed a (first_of one two h2))
-        (type_same w signed b (second_of one two h2)))
+        (type_same A instead w signed a (first_of one two h2))
+        (type_same A instead w signed b (second_of one two h2)))
         (exchanged_formed c (first_of (held_below n c) (held_below n a) held_two)
         (second_of (one && two) (well_formed A c) h3)))
         (exchanged_formed a (second_of (held_below n c) (held_below n a) held_two)
@@ -182,7 +152,7 @@ module _ (A B : List SignalForm) (instead : ReadForm → Instead) (n : ℕ)
     node_formed w signed (join es) below h =
         let new = exchanged_parts A instead es in
         both_true (nat_le (parts_width new) w) (parts_well_formed B new)
-        (subst (λ k. IsTrue (nat_le k w)) (sym (parts_same es))
+        (subst (λ k. IsTrue (nat_le k w)) (sym (parts_same A instead es))
         (first_of (nat_le (parts_width es) w) (parts_well_formed A es) h))
         (parts_formed es below (second_of (nat_le (parts_width es) w) (parts_well_formed A es) h))
     node_formed w signed (replication count es) below h =
@@ -192,7 +162,7 @@ module _ (A B : List SignalForm) (instead : ReadForm → Instead) (n : ℕ)
         both_true (few && nat_le (count * parts_width new) w) (parts_well_formed B new)
         (both_true few (nat_le (count * parts_width new) w)
         (first_of few (nat_le (count * parts_width es) w) front)
-        (subst (λ k. IsTrue (nat_le (count * k) w)) (sym (parts_same es))
+        (subst (λ k. IsTrue (nat_le (count * k) w)) (sym (parts_same A instead es))
         (second_of few (nat_le (count * parts_width es) w) front)))
         (parts_formed es below
         (second_of (few && nat_le (count * parts_width es) w) (parts_well_formed A es) h))
@@ -248,7 +218,7 @@ module _ (A B : List SignalForm) (instead : ReadForm → Instead) (n : ℕ)
         (both_true (is_signal B s) (nat_le (signal_width B s) w) known.0
         (subst (λ k. IsTrue (nat_le k w)) (sym known.1)
         (second_of (is_signal A s) low_enough h2)))
-        (piece_same (signal_width B s) high low piece
+        (piece_same A instead (signal_width B s) high low piece
         (subst (λ k. IsTrue (is_part_of k (expression_width piece) high low)) (sym known.1)
         (second_of (is_signal A s && low_enough) part h3))))
         (exchanged_formed e (second_of (nat_lt s n) (held_below n e) held_e)
@@ -259,7 +229,7 @@ module _ (A B : List SignalForm) (instead : ReadForm → Instead) (n : ℕ)
     node_formed w signed (slice e high low) below h =
         let x = exchanged A instead e in
         both_true (is_part_of (expression_width x) w high low) (well_formed B x)
-        (part_same w high low e (first_of (is_part_of (expression_width e) w high low)
+        (part_same A instead w high low e (first_of (is_part_of (expression_width e) w high low)
         (well_formed A e) h))
         (exchanged_formed e below (second_of (is_part_of (expression_width e) w high low)
         (well_formed A e) h))

@@ -17,18 +17,11 @@ use Rattle.sv_paths.specs.Trails.{with_right_put, whole_from, with_value, with_o
 use Rattle.sv_paths.specs.Trails.{with_own_put, with_assign, trails_before}
 use Rattle.sv_obl.specs.Wanted.{put_in, closed_tree}
 use Rattle.sv_obl.proofs.PathRuns.{step_of, whole_way}
+use Rattle.sv_paths.proofs.RouteFacts.{reversed_map}
 use Rattle.sv_paths.proofs.TrailPuts.{Lone}
 use Rattle.sv_paths.proofs.TrailOwn.{covers_own, covers_is, one_whole, no_whole_from}
 use Rattle.sv_paths.proofs.TrailTells.{mark_of, Tells, AllTell, open_tells, chosen_tells, taken_is}
 use Rattle.sv_paths.proofs.TrailPaths.{AssignsSignals, LonePieces, before_tell}
-
-map_reverse : {X Y : Type 0} (f : X → Y) (xs : List X) → map f (reverse xs) ≡ reverse (map f xs)
-map_reverse f [] = refl
-map_reverse f (x ∷ xs) =
-    ap (map f) (reverse-append (x ∷ []) xs)
-    ∙ map-append f (reverse xs) (x ∷ [])
-    ∙ ap (λ ys. ys ++ f x ∷ []) (map_reverse f xs)
-    ∙ sym (reverse-append (f x ∷ []) (map f xs))
 
 module _ (signals : List SignalForm) (s : ℕ) where
   -- the trail without its choices
@@ -183,7 +176,7 @@ module _ (signals : List SignalForm) (s : ℕ) where
       trail = bare u;
       steps = steps;
       arms = rest;
-    }) (map_reverse (step_with (put_in signals pieces right)) p.steps)
+    }) (reversed_map (step_with (put_in signals pieces right)) p.steps)
 
     module _ (from : ℕ) where
       abbrev walk_of : TypedTree → WayForm → WayForm
@@ -416,5 +409,5 @@ module _ (signals : List SignalForm) (s : ℕ) where
       (ap (λ arms. along signals s body (open_way s arms))
       (there.choices ∙ sym (append-nil there.arms))
       ∙ there.goes [])
-      ∙ ap reverse (map_reverse (step_with (closed_tree signals false)) p.steps)
+      ∙ ap reverse (reversed_map (step_with (closed_tree signals false)) p.steps)
       ∙ reverse-reverse (map (step_with (closed_tree signals false)) p.steps)

@@ -2,7 +2,7 @@
 -- obligations.
 use Rattle.std.proofs.Common.{◌≡◌, ℕ, zero, suc, ◌%◌, ◌^◌, ◌<◌, Bool, true, false, List, [], ◌∷◌}
 use Rattle.std.proofs.Common.{map, ⊎_elim, refl, sym, ap, subst, ◌∙◌, arith, Some, None}
-use Rattle.std.specs.Prelude.{IsFalse}
+use Rattle.std.specs.Prelude.{IsTrue, IsFalse}
 use Rattle.std.proofs.lemmas.Bool.{false≢true}
 use Rattle.std.proofs.lemmas.List.Elements.{All-nil, All-cons}
 use Rattle.sv_num.specs.Vectors.{is_true}
@@ -58,6 +58,33 @@ within zero x = omega arith
 within (suc zero) x = omega arith
 within (suc (suc i)) x = absurd (omega arith)
 
+-- the points lie as their numbers do
+join_is : (a b c : ℕ) → c < 2 → FlowsTo table a c → FlowsTo table b c →
+    ((d : ℕ) → FlowsTo table a d → FlowsTo table b d → FlowsTo table c d) →
+    HasJoin 2 (FlowsTo table) a b
+join_is a b c point first second least = (
+  c,
+  record {
+    is_point = point;
+    above_first = first;
+    above_second = second;
+    least = λ d below h k. least d h k;
+  },
+)
+
+meet_is : (a b c : ℕ) → c < 2 → FlowsTo table c a → FlowsTo table c b →
+    ((d : ℕ) → FlowsTo table d a → FlowsTo table d b → FlowsTo table d c) →
+    HasMeet 2 (FlowsTo table) a b
+meet_is a b c point first second greatest = (
+  c,
+  record {
+    is_point = point;
+    below_first = first;
+    below_second = second;
+    greatest = λ d below h k. greatest d h k;
+  },
+)
+
 is_lattice : IsLatticeTable table
 is_lattice = record {
   count = (omega arith, omega arith);
@@ -66,72 +93,16 @@ is_lattice = record {
   lattice = record {
     apart = two_points (IsApart (FlowsTo table))
         (λ h k. refl) (λ h k. absurd (false≢true k)) (λ h k. absurd (false≢true h)) (λ h k. refl);
-    joins = two_points (HasJoin 2 (FlowsTo table)) (
-      0,
-      record {
-        is_point = omega arith;
-        above_first = refl;
-        above_second = refl;
-        least = λ d below h k. h;
-      },
-    ) (
-      1,
-      record {
-        is_point = omega arith;
-        above_first = refl;
-        above_second = refl;
-        least = λ d below h k. k;
-      },
-    ) (
-      1,
-      record {
-        is_point = omega arith;
-        above_first = refl;
-        above_second = refl;
-        least = λ d below h k. h;
-      },
-    ) (
-      1,
-      record {
-        is_point = omega arith;
-        above_first = refl;
-        above_second = refl;
-        least = λ d below h k. h;
-      },
-    );
-    meets = two_points (HasMeet 2 (FlowsTo table)) (
-      0,
-      record {
-        is_point = omega arith;
-        below_first = refl;
-        below_second = refl;
-        greatest = λ d below h k. h;
-      },
-    ) (
-      0,
-      record {
-        is_point = omega arith;
-        below_first = refl;
-        below_second = refl;
-        greatest = λ d below h k. h;
-      },
-    ) (
-      0,
-      record {
-        is_point = omega arith;
-        below_first = refl;
-        below_second = refl;
-        greatest = λ d below h k. k;
-      },
-    ) (
-      1,
-      record {
-        is_point = omega arith;
-        below_first = refl;
-        below_second = refl;
-        greatest = λ d below h k. h;
-      },
-    );
+    joins = two_points (HasJoin 2 (FlowsTo table))
+        (join_is 0 0 0 (omega arith) refl refl (λ d h k. h))
+        (join_is 0 1 1 (omega arith) refl refl (λ d h k. k))
+        (join_is 1 0 1 (omega arith) refl refl (λ d h k. h))
+        (join_is 1 1 1 (omega arith) refl refl (λ d h k. h));
+    meets = two_points (HasMeet 2 (FlowsTo table))
+        (meet_is 0 0 0 (omega arith) refl refl (λ d h k. h))
+        (meet_is 0 1 0 (omega arith) refl refl (λ d h k. h))
+        (meet_is 1 0 0 (omega arith) refl refl (λ d h k. k))
+        (meet_is 1 1 1 (omega arith) refl refl (λ d h k. h));
   };
 }
 
@@ -205,39 +176,38 @@ turn_is truth read v f =
 abbrev Stays : ℕ → ℕ → Type 0
 Stays point turn = IsFalse (flow_test table point (row_of (map_of maps 0) turn).0)
 
--- where the turn is 1, turn and b flow to H
-first_valid : IsValid turns (obligation true 2)
-first_valid v f =
-    let one = ap (λ (e : Environment ℕ). e 0) f.in_frame
-    ∙ one_bit (f.now 0) (turn_fits (obligation true 2) v f) (turn_is true 2 v f) in
+-- the other way round
+abbrev Goes : ℕ → ℕ → Type 0
+Goes point turn = IsTrue (flow_test table point (row_of (map_of maps 0) turn).0)
+
+-- at a value of the turn at which the turn and a name of a point flow to H
+valid_at : (truth : Bool) (read point value : ℕ) →
+    ((x : ℕ) → x < 2 → is_true (x % 2) ≡ truth → x ≡ value) →
+    ((e : Environment ℕ) → (flat_system turns).label read e ≡ point) →
+    Goes 0 value → Goes point value → IsValid turns (obligation truth read)
+valid_at truth read point value value_of labelled own other v f =
+    let is = ap (λ (e : Environment ℕ). e 0) f.in_frame
+    ∙ value_of (f.now 0) (turn_fits (obligation truth read) v f) (turn_is truth read v f) in
     let stays = f.fails in
     ⊎_elim
-    (λ is.
-    false≢true (sym (subst (Stays 0) one
+    (λ first.
+    false≢true (sym (subst (Stays 0) is
     (subst (λ t. IsFalse ((flat_system turns).flows ((flat_system turns).label t f.now)
-    ((flat_system turns).label 3 f.there))) (sym is) stays.2))))
-    (λ later. false≢true
-    (sym (subst (Stays 1) one
-    (subst (λ t. IsFalse ((flat_system turns).flows ((flat_system turns).label t f.now)
-    ((flat_system turns).label 3 f.there))) (sym (only 2 stays.0 later)) stays.2))))
-    (Contains-cases 0 (2 ∷ []) stays.0 stays.1)
+    ((flat_system turns).label 3 f.there))) (sym first) stays.2)) ∙ own))
+    (λ later.
+    false≢true (sym (subst (Stays point) is
+    (subst (λ p. IsFalse ((flat_system turns).flows p ((flat_system turns).label 3 f.there)))
+    (ap (λ t. (flat_system turns).label t f.now) (sym (only read stays.0 later))
+    ∙ labelled f.now) stays.2)) ∙ other))
+    (Contains-cases 0 (read ∷ []) stays.0 stays.1)
+
+-- where the turn is 1, turn and b flow to H
+first_valid : IsValid turns (obligation true 2)
+first_valid = valid_at true 2 1 1 one_bit (λ e. refl) refl refl
 
 -- where it is 0, turn and a flow to L
 second_valid : IsValid turns (obligation false 1)
-second_valid v f =
-    let none = ap (λ (e : Environment ℕ). e 0) f.in_frame
-    ∙ no_bit (f.now 0) (turn_fits (obligation false 1) v f) (turn_is false 1 v f) in
-    let stays = f.fails in
-    ⊎_elim
-    (λ is.
-    false≢true (sym (subst (Stays 0) none
-    (subst (λ t. IsFalse ((flat_system turns).flows ((flat_system turns).label t f.now)
-    ((flat_system turns).label 3 f.there))) (sym is) stays.2))))
-    (λ later. false≢true
-    (sym (subst (Stays 0) none
-    (subst (λ t. IsFalse ((flat_system turns).flows ((flat_system turns).label t f.now)
-    ((flat_system turns).label 3 f.there))) (sym (only 1 stays.0 later)) stays.2))))
-    (Contains-cases 0 (1 ∷ []) stays.0 stays.1)
+second_valid = valid_at false 1 0 0 no_bit (λ e. refl) refl refl
 
 turns_valid : AllValid [] turns
 turns_valid = All-cons (IsValid turns) (obligation true 2) (obligation false 1 ∷ []) first_valid

@@ -11,6 +11,7 @@ pub mod MoreCycles
 pub mod OneText
 pub mod OrderExamples
 pub mod OrderedRuns
+pub mod PieceTurns
 pub mod Pieces
 pub mod ProgressFacts
 pub mod Reached

@@ -6,6 +6,5 @@ pub mod OneFinding
 pub mod PairFacts
 pub mod RunFacts
 pub mod RunTraces
-pub mod SightFacts
 pub mod StimFacts
 pub mod TraceFacts

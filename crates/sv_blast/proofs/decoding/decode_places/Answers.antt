@@ -6,6 +6,7 @@ use Rattle.sv_flat.specs.Views.{design_of}
 use Rattle.sv_flat.specs.FlatSystem.{flat_system}
 use Rattle.sv_flat.specs.SignalLists.{registers, inputs}
 use Rattle.sv_design.specs.Numbers.{numbers}
+use Rattle.sv_obl.specs.declared.valuations.Valuation.{Valuation}
 use Rattle.sv_gates.specs.Formulas.{value_of}
 use Rattle.sv_blast.specs.Coded.{place_form}
 use Rattle.sv_blast.proofs.DecodedLists.{those_rise, bits_small, variables_there}
@@ -60,52 +61,34 @@ decode_listed-requires-3-clause-variables c =
     variables_there (design_of c.args.design.now) (length c.args.values.now) c.args.bits.now
     c.requires.bits
 
-pub returns-clause-decoded : goal.returns-clause-decoded
-returns-clause-decoded c =
+pub returns : goal.returns
+returns c =
     let design = design_of c.args.design.now in
     let values = value_of c.args.values.now in
     let bits = c.args.bits.now in
+    let into = c.args.into.now in
     let regs = c.registers-registers in
     let ins = c.inputs-inputs in
-    lists_values design (map place_form bits) values (record {
-      regs = with_items c.args.into.now.regs c.decode_listed.new.into;
-      inputs = with_items c.args.into.now.inputs c.decode_listed-2.new.into;
-      next_inputs = with_items c.args.into.now.next_inputs c.decode_listed-3.new.into;
-    })
-    (with_items_is c.args.into.now.regs c.decode_listed.new.into
+    let listed : Valuation = record {
+      regs = with_items into.regs c.decode_listed.new.into;
+      inputs = with_items into.inputs c.decode_listed-2.new.into;
+      next_inputs = with_items into.next_inputs c.decode_listed-3.new.into;
+    } in
+    let of_registers = with_items_is into.regs c.decode_listed.new.into
     (c.decode_listed.auto.into ∙ c.as_mut_slice.ensures.len)
     ∙ listed_values values false bits (numbers regs.result.now) (registers design)
-    c.decode_listed.new.into regs.ensures.registers c.decode_listed.ensures)
-    (with_items_is c.args.into.now.inputs c.decode_listed-2.new.into
+    c.decode_listed.new.into regs.ensures.registers c.decode_listed.ensures in
+    let of_inputs = with_items_is into.inputs c.decode_listed-2.new.into
     (c.decode_listed-2.auto.into ∙ c.as_mut_slice-2.ensures.len)
     ∙ listed_values values false bits (numbers ins.result.now) (inputs design)
-    c.decode_listed-2.new.into ins.ensures.inputs c.decode_listed-2.ensures)
-    (with_items_is c.args.into.now.next_inputs c.decode_listed-3.new.into
+    c.decode_listed-2.new.into ins.ensures.inputs c.decode_listed-2.ensures in
+    let of_next = with_items_is into.next_inputs c.decode_listed-3.new.into
     (c.decode_listed-3.auto.into ∙ c.as_mut_slice-3.ensures.len)
     ∙ listed_values values true bits (numbers ins.result.now) (inputs design)
-    c.decode_listed-3.new.into ins.ensures.inputs c.decode_listed-3.ensures)
-
-pub returns-clause-fits : goal.returns-clause-fits
-returns-clause-fits c =
-    let design = design_of c.args.design.now in
-    let values = value_of c.args.values.now in
-    let bits = c.args.bits.now in
-    let regs = c.registers-registers in
-    let ins = c.inputs-inputs in
-    lists_fit design (length c.args.values.now) (map place_form bits) c.requires.bits values (record {
-      regs = with_items c.args.into.now.regs c.decode_listed.new.into;
-      inputs = with_items c.args.into.now.inputs c.decode_listed-2.new.into;
-      next_inputs = with_items c.args.into.now.next_inputs c.decode_listed-3.new.into;
-    })
-    (with_items_is c.args.into.now.regs c.decode_listed.new.into
-    (c.decode_listed.auto.into ∙ c.as_mut_slice.ensures.len)
-    ∙ listed_values values false bits (numbers regs.result.now) (registers design)
-    c.decode_listed.new.into regs.ensures.registers c.decode_listed.ensures)
-    (with_items_is c.args.into.now.inputs c.decode_listed-2.new.into
-    (c.decode_listed-2.auto.into ∙ c.as_mut_slice-2.ensures.len)
-    ∙ listed_values values false bits (numbers ins.result.now) (inputs design)
-    c.decode_listed-2.new.into ins.ensures.inputs c.decode_listed-2.ensures)
-    (with_items_is c.args.into.now.next_inputs c.decode_listed-3.new.into
-    (c.decode_listed-3.auto.into ∙ c.as_mut_slice-3.ensures.len)
-    ∙ listed_values values true bits (numbers ins.result.now) (inputs design)
-    c.decode_listed-3.new.into ins.ensures.inputs c.decode_listed-3.ensures)
+    c.decode_listed-3.new.into ins.ensures.inputs c.decode_listed-3.ensures in
+    record {
+      decoded = lists_values design (map place_form bits) values listed of_registers of_inputs
+          of_next;
+      fits = lists_fit design (length c.args.values.now) (map place_form bits) c.requires.bits values
+          listed of_registers of_inputs of_next;
+    }

@@ -1,9 +1,11 @@
-use Rattle.std.proofs.Common.{◌≡◌, ◌-◌, [], Some, inl, refl, sym, subst}
-use Rattle.std.specs.Prelude.{slice_get}
+use Rattle.std.proofs.Common.{◌≡◌, ◌-◌, ℕ, Bool, List, [], Option, Some, inl, refl, subst}
+use Rattle.std.specs.Prelude.{slice_get, Result, Ok, IsErrAnd}
 use Rattle.std.specs.Option.{option_copied}
 use Rattle.sv_clause.specs.Logs.{plain_log}
+use Rattle.sv_flat.specs.Design.{FlatDesign}
 use Rattle.sv_flat.specs.Views.{design_of}
-use Rattle.sv_io.specs.Traffic.{files_by}
+use Rattle.sv_io.specs.Exchange.{Exchange}
+use Rattle.sv_io.specs.Traffic.{Files, files_by}
 use Rattle.sv_obl.specs.DesignQueries.{IsQueryOf}
 use Rattle.sv_obl.specs.Obligations.{obligations, Obligation}
 use Rattle.sv_obl.specs.Validity.{Falsifies}
@@ -16,6 +18,10 @@ use Rattle.sv_judge.specs.Verdicts.{EndsTooLarge, IsSpent}
 use Rattle.sv_judge.specs.declared.verdicts.Failure.{Failure}
 use Rattle.sv_judge.specs.declared.verdicts.Spent.{Spent}
 use Rattle.sv_report.specs.Styles.{accepted_in}
+use Rattle.sv_report.specs.declared.styles.Style.{Style}
+use Rattle.sv_cli.specs.declared.prepared.NoReport.{NoReport}
+use Rattle.sv_cli.specs.declared.prepared.NoReport.TheVariants.{OutOfMemory}
+use Rattle.sv_cli.specs.declared.report.Report.{Report}
 use Rattle.sv_cli.specs.Answer.{done}
 use Rattle.sv_cli.specs.Checks.{Decides}
 use Rattle.sv_cli.specs.Prepared.{Readies, Says, MayStoreOwn, MayStoreBytes, StoresBytes}
@@ -63,15 +69,31 @@ report_of_failure-requires-clause-falsifies g c =
 
 -- ---- returns
 
+module _ (style : Style) (name : Option (List ℕ)) (budget : ℕ) (design : FlatDesign)
+    (tells : Bool) (files : Files) where
+  abbrev Made : List Exchange → Report → Type 0
+  Made exchanges = Says (Decides style name budget design exchanges)
+
+  -- memory ran out before anything was exchanged
+  fails_so : (r : Result Report NoReport) → IsErrAnd r (λ (f : NoReport). f ≡ OutOfMemory) →
+      Readies (MayStoreOwn name design budget) Made tells files files r
+  fails_so r is =
+      spent_readied (MayStoreOwn name design budget) Made tells files files [] r
+      (none_passed tells files) (inl refl) is
+
+  -- the report says so, and nothing is exchanged
+  says_so : (report : Report) → Says (Decides style name budget design []) report →
+      (let r : Result Report NoReport = Ok report in
+      Readies (MayStoreOwn name design budget) Made tells files files r)
+  says_so report says =
+      made_readied (MayStoreOwn name design budget) Made tells files report (inl refl) says
+
 pub returns-in_err-count : goal.returns-in_err-count
 returns-in_err-count g c =
     let C = g.C.Cabinet in
-    let design = design_of c.args.design.now in
-    let name = option_copied c.args.proof in
     let files = files_by C.exchanges C.held C.fetch_faults C.store_faults c.args.cabinet.now in
-    spent_readied (MayStoreOwn name design c.args.budget)
-    (λ exchanges. Says (Decides c.args.style name c.args.budget design exchanges)) C.tells files files []
-    c.from_residual.result (none_passed C.tells files) (inl refl) c.from_residual.ensures.1
+    fails_so c.args.style (option_copied c.args.proof) c.args.budget (design_of c.args.design.now)
+    C.tells files c.from_residual.result c.from_residual.ensures.1
 
 pub returns-in-Accepted : goal.returns-in-Accepted
 returns-in-Accepted g c =
@@ -108,31 +130,25 @@ returns-in-Accepted g c =
 pub returns-in_err-report_of_failure-in-Fails : goal.returns-in_err-report_of_failure-in-Fails
 returns-in_err-report_of_failure-in-Fails g c =
     let C = g.C.Cabinet in
-    let design = design_of c.args.design.now in
-    let name = option_copied c.args.proof in
     let files = files_by C.exchanges C.held C.fetch_faults C.store_faults c.args.cabinet.now in
-    spent_readied (MayStoreOwn name design c.args.budget)
-    (λ exchanges. Says (Decides c.args.style name c.args.budget design exchanges)) C.tells files files []
-    c.from_residual-in_err-report_of_failure-in-Fails.result (none_passed C.tells files) (inl refl)
+    fails_so c.args.style (option_copied c.args.proof) c.args.budget (design_of c.args.design.now)
+    C.tells files c.from_residual-in_err-report_of_failure-in-Fails.result
     c.from_residual-in_err-report_of_failure-in-Fails.ensures.1
 
 pub returns-in_ok-report_of_failure-in-Fails : goal.returns-in_ok-report_of_failure-in-Fails
 returns-in_ok-report_of_failure-in-Fails g c =
     let C = g.C.Cabinet in
-    let design = design_of c.args.design.now in
-    let name = option_copied c.args.proof in
     let files = files_by C.exchanges C.held C.fetch_faults C.store_faults c.args.cabinet.now in
-    let failure = c.in-Fails.failure in
+    let design = design_of c.args.design.now in
+    let budget = c.args.budget in
     let report = c.in_ok-report_of_failure-in-Fails.field-0 in
-    made_readied (MayStoreOwn name design c.args.budget)
-    (λ exchanges. Says (Decides c.args.style name c.args.budget design exchanges)) C.tells files report
-    (inl refl)
-    (by_falsified c.args.style design name c.args.budget report
-    (falsified_told design c.args.style c.args.budget failure.number failure.valuation
-    (obligation_of failure.query)
+    says_so c.args.style (option_copied c.args.proof) c.args.budget (design_of c.args.design.now)
+    C.tells files report
+    (by_falsified c.args.style design (option_copied c.args.proof) budget report
+    (falsified_told design c.args.style budget c.in-Fails.failure.number
+    c.in-Fails.failure.valuation (obligation_of c.in-Fails.failure.query)
     (subst (WhereFails (λ (f : Failure).
-    IsFalsified design c.args.budget f.number f.valuation)) c.in-Fails.is
-    c.in_ok-count.ensures.fails)
+    IsFalsified design budget f.number f.valuation)) c.in-Fails.is c.in_ok-count.ensures.fails)
     (subst (WhereFails (λ (f : Failure).
     slice_get (obligations [] design) (f.number - 1) ≡ Some (obligation_of f.query)))
     c.in-Fails.is c.in_ok-count.ensures.query)
@@ -141,56 +157,48 @@ returns-in_ok-report_of_failure-in-Fails g c =
 pub returns-in_err-report_of_large-in-TooLarge : goal.returns-in_err-report_of_large-in-TooLarge
 returns-in_err-report_of_large-in-TooLarge g c =
     let C = g.C.Cabinet in
-    let design = design_of c.args.design.now in
-    let name = option_copied c.args.proof in
     let files = files_by C.exchanges C.held C.fetch_faults C.store_faults c.args.cabinet.now in
-    spent_readied (MayStoreOwn name design c.args.budget)
-    (λ exchanges. Says (Decides c.args.style name c.args.budget design exchanges)) C.tells files files []
-    c.from_residual-in_err-report_of_large-in-TooLarge.result (none_passed C.tells files) (inl refl)
+    fails_so c.args.style (option_copied c.args.proof) c.args.budget (design_of c.args.design.now)
+    C.tells files c.from_residual-in_err-report_of_large-in-TooLarge.result
     c.from_residual-in_err-report_of_large-in-TooLarge.ensures.1
 
 pub returns-in_ok-report_of_large-in-TooLarge : goal.returns-in_ok-report_of_large-in-TooLarge
 returns-in_ok-report_of_large-in-TooLarge g c =
     let C = g.C.Cabinet in
-    let design = design_of c.args.design.now in
-    let name = option_copied c.args.proof in
     let files = files_by C.exchanges C.held C.fetch_faults C.store_faults c.args.cabinet.now in
+    let design = design_of c.args.design.now in
+    let budget = c.args.budget in
     let report = c.in_ok-report_of_large-in-TooLarge.field-0 in
-    made_readied (MayStoreOwn name design c.args.budget)
-    (λ exchanges. Says (Decides c.args.style name c.args.budget design exchanges)) C.tells files report
-    (inl refl)
-    (by_too_large c.args.style design name c.args.budget report
-    (too_large_told design c.args.style c.args.budget c.in-TooLarge.number
-    (subst (WhereTooLarge (EndsTooLarge design c.args.budget)) c.in-TooLarge.is
+    says_so c.args.style (option_copied c.args.proof) c.args.budget (design_of c.args.design.now)
+    C.tells files report
+    (by_too_large c.args.style design (option_copied c.args.proof) budget report
+    (too_large_told design c.args.style budget c.in-TooLarge.number
+    (subst (WhereTooLarge (EndsTooLarge design budget)) c.in-TooLarge.is
     c.in_ok-count.ensures.too_large)
     report c.in_ok-report_of_large-in-TooLarge.ensures))
 
 pub returns-in_err-report_of_spent-in-Unknown : goal.returns-in_err-report_of_spent-in-Unknown
 returns-in_err-report_of_spent-in-Unknown g c =
     let C = g.C.Cabinet in
-    let design = design_of c.args.design.now in
-    let name = option_copied c.args.proof in
     let files = files_by C.exchanges C.held C.fetch_faults C.store_faults c.args.cabinet.now in
-    spent_readied (MayStoreOwn name design c.args.budget)
-    (λ exchanges. Says (Decides c.args.style name c.args.budget design exchanges)) C.tells files files []
-    c.from_residual-in_err-report_of_spent-in-Unknown.result (none_passed C.tells files) (inl refl)
+    fails_so c.args.style (option_copied c.args.proof) c.args.budget (design_of c.args.design.now)
+    C.tells files c.from_residual-in_err-report_of_spent-in-Unknown.result
     c.from_residual-in_err-report_of_spent-in-Unknown.ensures.1
 
 pub returns-in_ok-report_of_spent-in-Unknown : goal.returns-in_ok-report_of_spent-in-Unknown
 returns-in_ok-report_of_spent-in-Unknown g c =
     let C = g.C.Cabinet in
-    let design = design_of c.args.design.now in
-    let name = option_copied c.args.proof in
     let files = files_by C.exchanges C.held C.fetch_faults C.store_faults c.args.cabinet.now in
-    let spent = c.in-Unknown.spent in
+    let design = design_of c.args.design.now in
+    let budget = c.args.budget in
     let report = c.in_ok-report_of_spent-in-Unknown.field-0 in
-    made_readied (MayStoreOwn name design c.args.budget)
-    (λ exchanges. Says (Decides c.args.style name c.args.budget design exchanges)) C.tells files report
-    (inl refl)
-    (by_spent c.args.style design name c.args.budget report
-    (spent_told design c.args.style c.args.budget spent.obligation (plain_log spent.log)
+    says_so c.args.style (option_copied c.args.proof) c.args.budget (design_of c.args.design.now)
+    C.tells files report
+    (by_spent c.args.style design (option_copied c.args.proof) budget report
+    (spent_told design c.args.style budget c.in-Unknown.spent.obligation
+    (plain_log c.in-Unknown.spent.log)
     (subst (WhereUnknown (λ (s : Spent).
-    IsSpent design c.args.budget s.obligation (plain_log s.log))) c.in-Unknown.is
+    IsSpent design budget s.obligation (plain_log s.log))) c.in-Unknown.is
     c.in_ok-count.ensures.unknown)
     report c.in_ok-report_of_spent-in-Unknown.ensures.answer
     c.in_ok-report_of_spent-in-Unknown.ensures.text))

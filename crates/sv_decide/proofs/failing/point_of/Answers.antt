@@ -1,6 +1,6 @@
 use Rattle.std.proofs.Common.{◌<◌, length, sym, subst, ◌∙◌, arith}
 use Rattle.sv_lattice.specs.declared.points.Point.{Point}
-use Rattle.sv_decide.proofs.LabelPoints.{readable_there, point_there, label_seen}
+use Rattle.sv_encoding_laws.proofs.LabelPoints.{readable_there, point_there, label_seen}
 use Rattle.sv_decide.proofs.failing.point_of.Goals as goal
 
 pub label_at-requires : goal.label_at-requires

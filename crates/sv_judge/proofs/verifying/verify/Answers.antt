@@ -17,66 +17,31 @@ verify_logs-requires-clause-lines c =
     subst (λ (ls : List Log). length (proof_lines (plain_logs ls)) < 2 ^ 63)
     (sym c.deref.ensures.value) c.in-Ok.ensures.lines
 
-pub returns-in-Ok-clause-accepted : goal.returns-in-Ok-clause-accepted
-returns-in-Ok-clause-accepted c =
-    let design = design_of c.args.design.now in
-    accepted_of design c.args.bytes.now c.args.count c.verify_logs.result
-    (subst (λ (bs : List ℕ). IfOk c.verify_logs.result (IsVerdict design bs c.args.count))
-    (ap (λ (ls : List Log). proof_text (plain_logs ls)) c.deref.ensures.value
-    ∙ sym c.in-Ok.ensures.text) c.verify_logs.ensures)
-
-pub returns-in-Ok-clause-count : goal.returns-in-Ok-clause-count
-returns-in-Ok-clause-count c =
-    let design = design_of c.args.design.now in
-    count_of design c.args.bytes.now c.args.count c.verify_logs.result
-    (subst (λ (bs : List ℕ). IfOk c.verify_logs.result (IsVerdict design bs c.args.count))
-    (ap (λ (ls : List Log). proof_text (plain_logs ls)) c.deref.ensures.value
-    ∙ sym c.in-Ok.ensures.text) c.verify_logs.ensures)
-
-pub returns-in-Ok-clause-fault : goal.returns-in-Ok-clause-fault
-returns-in-Ok-clause-fault c =
-    let design = design_of c.args.design.now in
-    fault_of design c.args.bytes.now c.args.count c.verify_logs.result
-    (subst (λ (bs : List ℕ). IfOk c.verify_logs.result (IsVerdict design bs c.args.count))
-    (ap (λ (ls : List Log). proof_text (plain_logs ls)) c.deref.ensures.value
-    ∙ sym c.in-Ok.ensures.text) c.verify_logs.ensures)
-
-pub returns-in-Ok-clause-too_large : goal.returns-in-Ok-clause-too_large
-returns-in-Ok-clause-too_large c =
-    let design = design_of c.args.design.now in
-    large_of design c.args.bytes.now c.args.count c.verify_logs.result
-    (subst (λ (bs : List ℕ). IfOk c.verify_logs.result (IsVerdict design bs c.args.count))
-    (ap (λ (ls : List Log). proof_text (plain_logs ls)) c.deref.ensures.value
-    ∙ sym c.in-Ok.ensures.text) c.verify_logs.ensures)
-
-pub returns-in-Err-clause-accepted : goal.returns-in-Err-clause-accepted
-returns-in-Err-clause-accepted c =
+pub returns-in-Ok : goal.returns-in-Ok
+returns-in-Ok c =
     let design = design_of c.args.design.now in
     let bytes = c.args.bytes.now in
-    accepted_of design bytes c.args.count c.broken.result
-    (subst (λ r. IfOk r (IsVerdict design bytes c.args.count)) (sym c.broken.ensures)
-    (broken_is design c.args.count bytes c.in-Err.fault c.in-Err.ensures.fault))
+    let count = c.args.count in
+    let verdict = subst (λ (bs : List ℕ). IfOk c.verify_logs.result (IsVerdict design bs count))
+    (ap (λ (ls : List Log). proof_text (plain_logs ls)) c.deref.ensures.value
+    ∙ sym c.in-Ok.ensures.text) c.verify_logs.ensures in
+    record {
+      accepted = accepted_of design bytes count c.verify_logs.result verdict;
+      count = count_of design bytes count c.verify_logs.result verdict;
+      fault = fault_of design bytes count c.verify_logs.result verdict;
+      too_large = large_of design bytes count c.verify_logs.result verdict;
+    }
 
-pub returns-in-Err-clause-count : goal.returns-in-Err-clause-count
-returns-in-Err-clause-count c =
+pub returns-in-Err : goal.returns-in-Err
+returns-in-Err c =
     let design = design_of c.args.design.now in
     let bytes = c.args.bytes.now in
-    count_of design bytes c.args.count c.broken.result
-    (subst (λ r. IfOk r (IsVerdict design bytes c.args.count)) (sym c.broken.ensures)
-    (broken_is design c.args.count bytes c.in-Err.fault c.in-Err.ensures.fault))
-
-pub returns-in-Err-clause-fault : goal.returns-in-Err-clause-fault
-returns-in-Err-clause-fault c =
-    let design = design_of c.args.design.now in
-    let bytes = c.args.bytes.now in
-    fault_of design bytes c.args.count c.broken.result
-    (subst (λ r. IfOk r (IsVerdict design bytes c.args.count)) (sym c.broken.ensures)
-    (broken_is design c.args.count bytes c.in-Err.fault c.in-Err.ensures.fault))
-
-pub returns-in-Err-clause-too_large : goal.returns-in-Err-clause-too_large
-returns-in-Err-clause-too_large c =
-    let design = design_of c.args.design.now in
-    let bytes = c.args.bytes.now in
-    large_of design bytes c.args.count c.broken.result
-    (subst (λ r. IfOk r (IsVerdict design bytes c.args.count)) (sym c.broken.ensures)
-    (broken_is design c.args.count bytes c.in-Err.fault c.in-Err.ensures.fault))
+    let count = c.args.count in
+    let verdict = subst (λ r. IfOk r (IsVerdict design bytes count)) (sym c.broken.ensures)
+    (broken_is design count bytes c.in-Err.fault c.in-Err.ensures.fault) in
+    record {
+      accepted = accepted_of design bytes count c.broken.result verdict;
+      count = count_of design bytes count c.broken.result verdict;
+      fault = fault_of design bytes count c.broken.result verdict;
+      too_large = large_of design bytes count c.broken.result verdict;
+    }

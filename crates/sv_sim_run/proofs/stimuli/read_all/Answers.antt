@@ -1,19 +1,17 @@
 use Rattle.std.proofs.Common.{◌≡◌, ◌+◌, ◌-◌, [], ◌++◌, length, take, refl, sym}
-use Rattle.std.proofs.Common.{ap, ◌∙◌, arith, rules, subst, Option}
-use Rattle.std.specs.Prelude.{Ok, Err}
+use Rattle.std.proofs.Common.{ap, ◌∙◌, arith, rules}
+use Rattle.std.specs.Prelude.{Err}
 use Rattle.std.proofs.lemmas.Result.{IfOk-from_err}
 use Rattle.sv_sim.proofs.Simulated.{written}
-use Rattle.sv_sim_run.specs.declared.endings.Ending.{Ending}
-use Rattle.sv_sim_run.specs.Fronts.{PieceReads}
 use Rattle.sv_sim_run.specs.Simulated.{largest_stimulus}
 use Rattle.sv_sim_run.proofs.CallFacts.{on_error}
-use Rattle.sv_sim_run.proofs.Loops.{same_itself, same_twice, under_way, takes_none, takes_more}
-use Rattle.sv_sim_run.proofs.Loops.{stops_taken, stops_piece, ends_piece, large_ends, all_taken}
-use Rattle.sv_sim_run.proofs.Loops.{stops_with_same, all_same, piece_open, large_open}
-use Rattle.sv_sim_run.proofs.Loops.{stops_open, piece_stops_open, open_same}
+use Rattle.sv_sim_run.proofs.Loops.{same_itself, same_twice, under_way, takes_none}
+use Rattle.sv_sim_run.proofs.Loops.{stops_taken, large_ends, all_taken}
+use Rattle.sv_sim_run.proofs.Loops.{stops_with_same, all_same, large_open}
+use Rattle.sv_sim_run.proofs.Loops.{stops_open, open_same}
 use Rattle.sv_sim_run.proofs.Pieces.{handed_on, full_no_read, full_no_write, read_no_write}
-use Rattle.sv_sim_run.proofs.Pieces.{takes_no_more, piece_length, piece_fits, piece_few, piece_end}
-use Rattle.sv_sim_run.proofs.Pieces.{takes_piece, way_fits, piece_shown, still_open, open_twice}
+use Rattle.sv_sim_run.proofs.Pieces.{takes_no_more, piece_length, piece_fits, piece_few}
+use Rattle.sv_sim_run.proofs.Pieces.{still_open, open_twice}
 use Rattle.sv_sim_run.proofs.Pieces.{some_taken}
 use Rattle.sv_sim_run.proofs.StepFacts.{rose_then}
 use Rattle.sv_sim_run.proofs.stimuli.read_all.Goals as goal
@@ -247,18 +245,12 @@ read_piece-requires-clause-some g c =
 
 pub read_piece-requires-clause-way : goal.read_piece-requires-clause-way
 read_piece-requires-clause-way g c =
-    let value : c.deref.result.now ≡ c.take_piece.new.buffer =
-    c.deref.ensures.value
+    let value : c.deref.result.now ≡ c.take_piece.new.buffer = c.deref.ensures.value
     ∙ written c.pieces.buffer.len c.take_piece.new.buffer
-    c.pieces.buffer.items (c.take_piece.auto.buffer ∙ c.deref_mut.ensures.len) in
-    let before = g.K.Sink.accepted c.args.out.now in
-    let way = c.pieces.invariant.way in
-    let fits = piece_fits c.in_ok-count.count c.pieces.left c.take_piece.new.buffer
-    c.deref.result.now value c.in_ok-count.ensures.within in (
-      way.0,
-      before,
-      way_fits way.0 before (g.K.Sink.accepted c.pieces.out) c.pieces.left _ c.pieces.simulation
-          fits way.2,
+    c.pieces.buffer.items (c.take_piece.auto.buffer ∙ c.deref_mut.ensures.len) in (
+      c.pieces.invariant.way.0,
+      g.K.Sink.accepted c.args.out.now,
+      turn_way c.pieces.invariant.way c.in_ok-count.count value c.in_ok-count.ensures.within,
     )
 
 pub returns-in_err-ending-clause-same : goal.returns-in_err-ending-clause-same
@@ -276,39 +268,18 @@ returns-in_err-ending-clause-to_the_end g c goes_on taken more given =
 
 pub returns-in_err-ending-clause-stops : goal.returns-in_err-ending-clause-stops
 returns-in_err-ending-clause-stops g c =
-    let tells = g.S.Source.tells in
-    let given = g.S.Source.given in
-    let left = g.S.Source.left in
-    let before = g.K.Sink.accepted c.args.out.now in
-    let count = c.in_ok-count.count in
-    let buffer = c.take_piece.new.buffer in
-    let now = c.deref.result.now in
-    let value : c.deref.result.now ≡ c.take_piece.new.buffer =
-    c.deref.ensures.value
+    let value : c.deref.result.now ≡ c.take_piece.new.buffer = c.deref.ensures.value
     ∙ written c.pieces.buffer.len c.take_piece.new.buffer
     c.pieces.buffer.items (c.take_piece.auto.buffer ∙ c.deref_mut.ensures.len) in
-    let within = c.in_ok-count.ensures.within in
-    let rest = c.pieces.left - count in
-    let way = c.pieces.invariant.way in
-    let fits = piece_fits count c.pieces.left buffer now value within in
-    let more = takes_piece tells (given c.pieces.input) (given c.take_piece.new.input)
-    (left c.pieces.input) (left c.take_piece.new.input) count buffer now value
-    c.in_ok-count.ensures.taken in
-    let reads = c.in_err-ending.ensures.reads way.0 before
-    (way_fits way.0 before (g.K.Sink.accepted c.pieces.out) c.pieces.left _ c.pieces.simulation
-    fits way.2) in
+    let reads = c.in_err-ending.ensures.reads c.pieces.invariant.way.0
+    (g.K.Sink.accepted c.args.out.now)
+    (turn_way c.pieces.invariant.way c.in_ok-count.count value c.in_ok-count.ensures.within) in
     on_error c.from_residual-in_err-ending.result
-    (stops_with_same tells (given c.args.input.now) (given c.take_piece.new.input)
-    (left c.args.input.now) (left c.take_piece.new.input) before
-    (g.K.Sink.accepted c.read_piece.new.out) c.args.simulation.now c.pieces.simulation
+    (stops_with_same _ _ _ _ _ _ _ c.args.simulation.now c.pieces.simulation
     c.pieces.invariant.same
-    (stops_piece tells (given c.args.input.now) (given c.pieces.input) (left c.args.input.now)
-    (left c.pieces.input) way.0 c.pieces.left before (g.K.Sink.accepted c.pieces.out)
-    c.pieces.simulation way.1 way.2 (given c.take_piece.new.input) (left c.take_piece.new.input)
-    (take count now) rest (g.K.Sink.accepted c.read_piece.new.out) c.read_piece.new.simulation more
-    (piece_end tells count c.pieces.left buffer now (left c.take_piece.new.input) value within
-    c.in_ok-count.ensures.end)
-    fits c.in_err-ending.field-0.0 reads))
+    (turn_stops c.pieces.invariant.way c.in_ok-count.count value c.in_ok-count.ensures.within
+    c.in_ok-count.ensures.taken c.in_ok-count.ensures.end (g.K.Sink.accepted c.read_piece.new.out)
+    c.read_piece.new.simulation c.in_err-ending.field-0.0 reads))
 
 pub returns-in_err-ending-clause-prompt : goal.returns-in_err-ending-clause-prompt
 returns-in_err-ending-clause-prompt g c = λ read.
@@ -337,40 +308,19 @@ returns-in_err-ending-clause-write_fault g c = λ write.
 pub returns-in_err-ending-clause-front_to_the_end :
     goal.returns-in_err-ending-clause-front_to_the_end
 returns-in_err-ending-clause-front_to_the_end g c =
-    let tells = g.S.Source.tells in
-    let given = g.S.Source.given in
-    let left = g.S.Source.left in
-    let before = g.K.Sink.accepted c.args.out.now in
-    let accepted = g.K.Sink.accepted c.read_piece.new.out in
-    let ended = g.S.Source.ended c.take_piece.new.input in
-    let count = c.in_ok-count.count in
-    let buffer = c.take_piece.new.buffer in
-    let now = c.deref.result.now in
-    let value : c.deref.result.now ≡ c.take_piece.new.buffer =
-    c.deref.ensures.value
+    let value : c.deref.result.now ≡ c.take_piece.new.buffer = c.deref.ensures.value
     ∙ written c.pieces.buffer.len c.take_piece.new.buffer
     c.pieces.buffer.items (c.take_piece.auto.buffer ∙ c.deref_mut.ensures.len) in
-    let within = c.in_ok-count.ensures.within in
-    let rest = c.pieces.left - count in
-    let way = c.pieces.invariant.way in
-    let fits = piece_fits count c.pieces.left buffer now value within in
-    let more = takes_piece tells (given c.pieces.input) (given c.take_piece.new.input)
-    (left c.pieces.input) (left c.take_piece.new.input) count buffer now value
-    c.in_ok-count.ensures.taken in
-    let all = takes_more tells (given c.args.input.now) (given c.pieces.input)
-    (given c.take_piece.new.input) (left c.args.input.now) (left c.pieces.input)
-    (left c.take_piece.new.input) way.0 (take count now) way.1 more in
-    let reads = c.in_err-ending.ensures.reads way.0 before
-    (way_fits way.0 before (g.K.Sink.accepted c.pieces.out) c.pieces.left _ c.pieces.simulation
-    fits way.2) in
-    open_same c.from_residual-in_err-ending.result ended (given c.args.input.now)
-    (given c.take_piece.new.input) before accepted c.args.simulation.now c.pieces.simulation
-    c.pieces.invariant.same
-    (piece_stops_open (given c.args.input.now) (given c.take_piece.new.input) way.0
-    (take count now) rest before accepted ended c.in_err-ending.field-0.0 c.pieces.simulation
-    c.read_piece.new.simulation all.given
-    (piece_shown ended count c.pieces.left buffer now value within c.in_ok-count.ensures.ended)
-    reads)
+    let reads = c.in_err-ending.ensures.reads c.pieces.invariant.way.0
+    (g.K.Sink.accepted c.args.out.now)
+    (turn_way c.pieces.invariant.way c.in_ok-count.count value c.in_ok-count.ensures.within) in
+    open_same c.from_residual-in_err-ending.result (g.S.Source.ended c.take_piece.new.input) _ _ _ _
+    c.args.simulation.now c.pieces.simulation c.pieces.invariant.same
+    (turn_stops_open c.pieces.invariant.way c.in_ok-count.count value c.in_ok-count.ensures.within
+    c.in_ok-count.ensures.taken (g.S.Source.ended c.take_piece.new.input)
+    c.in_ok-count.ensures.ended
+    (g.K.Sink.accepted c.read_piece.new.out)
+    c.read_piece.new.simulation c.in_err-ending.field-0.0 reads)
 
 pub returns-in_err-ending-clause-unfailed : goal.returns-in_err-ending-clause-unfailed
 returns-in_err-ending-clause-unfailed g c =
@@ -398,77 +348,29 @@ returns-in-Some-clause-same g c =
 
 pub returns-in-Some-clause-ends : goal.returns-in-Some-clause-ends
 returns-in-Some-clause-ends g c =
-    let tells = g.S.Source.tells in
-    let given = g.S.Source.given in
-    let left = g.S.Source.left in
-    let before = g.K.Sink.accepted c.args.out.now in
-    let count = c.in_ok-count.count in
-    let buffer = c.take_piece.new.buffer in
-    let now = c.deref.result.now in
-    let value : c.deref.result.now ≡ c.take_piece.new.buffer =
-    c.deref.ensures.value
+    let value : c.deref.result.now ≡ c.take_piece.new.buffer = c.deref.ensures.value
     ∙ written c.pieces.buffer.len c.take_piece.new.buffer
     c.pieces.buffer.items (c.take_piece.auto.buffer ∙ c.deref_mut.ensures.len) in
-    let within = c.in_ok-count.ensures.within in
-    let rest = c.pieces.left - count in
-    let way = c.pieces.invariant.way in
-    let fits = piece_fits count c.pieces.left buffer now value within in
-    let more = takes_piece tells (given c.pieces.input) (given c.take_piece.new.input)
-    (left c.pieces.input) (left c.take_piece.new.input) count buffer now value
-    c.in_ok-count.ensures.taken in
-    let reads = c.in_ok-ending.ensures.reads way.0 before
-    (way_fits way.0 before (g.K.Sink.accepted c.pieces.out) c.pieces.left _ c.pieces.simulation
-    fits way.2) in
-    let reached = subst
-    (λ (found : Option Ending). PieceReads way.0 (take count now) rest before
-    (g.K.Sink.accepted c.read_piece.new.out) (Ok found) c.pieces.simulation
-    c.read_piece.new.simulation)
-    c.in-Some.is reads in
-    ends_piece tells (given c.args.input.now) (given c.pieces.input) (left c.args.input.now)
-    (left c.pieces.input) way.0 c.pieces.left before (g.K.Sink.accepted c.pieces.out)
-    c.pieces.simulation way.1 way.2 (given c.take_piece.new.input) (left c.take_piece.new.input)
-    (take count now) rest (g.K.Sink.accepted c.read_piece.new.out) c.read_piece.new.simulation more
-    (piece_end tells count c.pieces.left buffer now (left c.take_piece.new.input) value within
-    c.in_ok-count.ensures.end)
-    fits c.in-Some.ending reached
+    let reads = c.in_ok-ending.ensures.reads c.pieces.invariant.way.0
+    (g.K.Sink.accepted c.args.out.now)
+    (turn_way c.pieces.invariant.way c.in_ok-count.count value c.in_ok-count.ensures.within) in
+    turn_ends c.pieces.invariant.way c.in_ok-count.count value c.in_ok-count.ensures.within
+    c.in_ok-count.ensures.taken c.in_ok-count.ensures.end (g.K.Sink.accepted c.read_piece.new.out)
+    c.read_piece.new.simulation c.in-Some.ending _ c.in-Some.is reads
 
 pub returns-in-Some-clause-to_the_end : goal.returns-in-Some-clause-to_the_end
 returns-in-Some-clause-to_the_end g c =
-    let tells = g.S.Source.tells in
-    let given = g.S.Source.given in
-    let left = g.S.Source.left in
-    let before = g.K.Sink.accepted c.args.out.now in
-    let count = c.in_ok-count.count in
-    let buffer = c.take_piece.new.buffer in
-    let now = c.deref.result.now in
-    let value : c.deref.result.now ≡ c.take_piece.new.buffer =
-    c.deref.ensures.value
+    let value : c.deref.result.now ≡ c.take_piece.new.buffer = c.deref.ensures.value
     ∙ written c.pieces.buffer.len c.take_piece.new.buffer
     c.pieces.buffer.items (c.take_piece.auto.buffer ∙ c.deref_mut.ensures.len) in
-    let within = c.in_ok-count.ensures.within in
-    let rest = c.pieces.left - count in
-    let way = c.pieces.invariant.way in
-    let fits = piece_fits count c.pieces.left buffer now value within in
-    let more = takes_piece tells (given c.pieces.input) (given c.take_piece.new.input)
-    (left c.pieces.input) (left c.take_piece.new.input) count buffer now value
-    c.in_ok-count.ensures.taken in
-    let all = takes_more tells (given c.args.input.now) (given c.pieces.input)
-    (given c.take_piece.new.input) (left c.args.input.now) (left c.pieces.input)
-    (left c.take_piece.new.input) way.0 (take count now) way.1 more in
-    let reads = c.in_ok-ending.ensures.reads way.0 before
-    (way_fits way.0 before (g.K.Sink.accepted c.pieces.out) c.pieces.left _ c.pieces.simulation
-    fits way.2) in
-    let reached = subst
-    (λ (found : Option Ending). PieceReads way.0 (take count now) rest before
-    (g.K.Sink.accepted c.read_piece.new.out) (Ok found) c.pieces.simulation
-    c.read_piece.new.simulation)
-    c.in-Some.is reads in
-    piece_open (given c.args.input.now) (given c.take_piece.new.input) way.0 (take count now) rest
-    before (g.K.Sink.accepted c.read_piece.new.out) (g.S.Source.ended c.take_piece.new.input)
-    c.in-Some.ending c.pieces.simulation c.read_piece.new.simulation all.given
-    (piece_shown (g.S.Source.ended c.take_piece.new.input) count c.pieces.left buffer now value
-    within c.in_ok-count.ensures.ended)
-    reached
+    let reads = c.in_ok-ending.ensures.reads c.pieces.invariant.way.0
+    (g.K.Sink.accepted c.args.out.now)
+    (turn_way c.pieces.invariant.way c.in_ok-count.count value c.in_ok-count.ensures.within) in
+    turn_open c.pieces.invariant.way c.in_ok-count.count value c.in_ok-count.ensures.within
+    c.in_ok-count.ensures.taken (g.S.Source.ended c.take_piece.new.input)
+    c.in_ok-count.ensures.ended
+    (g.K.Sink.accepted c.read_piece.new.out)
+    c.read_piece.new.simulation c.in-Some.ending _ c.in-Some.is reads
 
 pub returns-in-Some-clause-prompt : goal.returns-in-Some-clause-prompt
 returns-in-Some-clause-prompt g c = λ read. absurd (cc)
@@ -502,65 +404,43 @@ returns-in-Some-clause-no_write_fault g c = λ read. absurd (cc)
 
 pub pieces-smaller : goal.pieces-smaller
 pieces-smaller g c =
-    let before = g.K.Sink.accepted c.args.out.now in
-    let count = c.in_ok-count.count in
-    let buffer = c.take_piece.new.buffer in
-    let now = c.deref.result.now in
-    let value : c.deref.result.now ≡ c.take_piece.new.buffer =
-    c.deref.ensures.value
+    let value : c.deref.result.now ≡ c.take_piece.new.buffer = c.deref.ensures.value
     ∙ written c.pieces.buffer.len c.take_piece.new.buffer
     c.pieces.buffer.items (c.take_piece.auto.buffer ∙ c.deref_mut.ensures.len) in
+    let reads = c.in_ok-ending.ensures.reads c.pieces.invariant.way.0
+    (g.K.Sink.accepted c.args.out.now)
+    (turn_way c.pieces.invariant.way c.in_ok-count.count value c.in_ok-count.ensures.within) in
+    let found = turn_on c.pieces.invariant.way c.in_ok-count.count value
+    c.in_ok-count.ensures.within (g.K.Sink.accepted c.read_piece.new.out)
+    c.read_piece.new.simulation _ c.in_default.is reads in
     let within = c.in_ok-count.ensures.within in
-    let rest = c.pieces.left - count in
-    let way = c.pieces.invariant.way in
-    let fits = piece_fits count c.pieces.left buffer now value within in
-    let reads = c.in_ok-ending.ensures.reads way.0 before
-    (way_fits way.0 before (g.K.Sink.accepted c.pieces.out) c.pieces.left _ c.pieces.simulation
-    fits way.2) in
-    let next = subst
-    (λ (found : Option Ending). PieceReads way.0 (take count now) rest before
-    (g.K.Sink.accepted c.read_piece.new.out) (Ok found) c.pieces.simulation
-    c.read_piece.new.simulation)
-    c.in_default.is reads in
-    omega (arith, next.0, piece_length count c.pieces.left buffer now value within, within.0)
+    omega (
+      arith,
+      found.0,
+      piece_length c.in_ok-count.count c.pieces.left c.take_piece.new.buffer c.deref.result.now
+          value within,
+      within.0,
+    )
 
 pub pieces-preserved : goal.pieces-preserved
 pieces-preserved g c =
-    let tells = g.S.Source.tells in
-    let given = g.S.Source.given in
-    let left = g.S.Source.left in
-    let before = g.K.Sink.accepted c.args.out.now in
-    let count = c.in_ok-count.count in
-    let buffer = c.take_piece.new.buffer in
-    let now = c.deref.result.now in
-    let value : c.deref.result.now ≡ c.take_piece.new.buffer =
-    c.deref.ensures.value
+    let value : c.deref.result.now ≡ c.take_piece.new.buffer = c.deref.ensures.value
     ∙ written c.pieces.buffer.len c.take_piece.new.buffer
     c.pieces.buffer.items (c.take_piece.auto.buffer ∙ c.deref_mut.ensures.len) in
-    let within = c.in_ok-count.ensures.within in
-    let rest = c.pieces.left - count in
-    let way = c.pieces.invariant.way in
-    let fits = piece_fits count c.pieces.left buffer now value within in
-    let more = takes_piece tells (given c.pieces.input) (given c.take_piece.new.input)
-    (left c.pieces.input) (left c.take_piece.new.input) count buffer now value
-    c.in_ok-count.ensures.taken in
-    let reads = c.in_ok-ending.ensures.reads way.0 before
-    (way_fits way.0 before (g.K.Sink.accepted c.pieces.out) c.pieces.left _ c.pieces.simulation
-    fits way.2) in
-    let next = subst
-    (λ (found : Option Ending). PieceReads way.0 (take count now) rest before
-    (g.K.Sink.accepted c.read_piece.new.out) (Ok found) c.pieces.simulation
-    c.read_piece.new.simulation)
-    c.in_default.is reads in
+    let reads = c.in_ok-ending.ensures.reads c.pieces.invariant.way.0
+    (g.K.Sink.accepted c.args.out.now)
+    (turn_way c.pieces.invariant.way c.in_ok-count.count value c.in_ok-count.ensures.within) in
+    let found = turn_on c.pieces.invariant.way c.in_ok-count.count value
+    c.in_ok-count.ensures.within (g.K.Sink.accepted c.read_piece.new.out)
+    c.read_piece.new.simulation _ c.in_default.is reads in
     record {
       same = same_twice c.args.simulation.now c.pieces.simulation c.read_piece.new.simulation
           c.pieces.invariant.same c.read_piece.ensures.same;
       way = (
-        way.0 ++ take count now,
-        takes_more tells (given c.args.input.now) (given c.pieces.input)
-            (given c.take_piece.new.input) (left c.args.input.now) (left c.pieces.input)
-            (left c.take_piece.new.input) way.0 (take count now) way.1 more,
-        next.1,
+        c.pieces.invariant.way.0 ++ take c.in_ok-count.count c.deref.result.now,
+        turn_takes c.pieces.invariant.way c.in_ok-count.count value c.in_ok-count.ensures.within
+            c.in_ok-count.ensures.taken,
+        found.1,
       );
       room = c.pieces.invariant.room;
       sink_kept = c.in_ok-ending.ensures.kept ∙ c.pieces.invariant.sink_kept;
@@ -569,7 +449,7 @@ pieces-preserved g c =
           (g.S.Source.ended c.take_piece.new.input) c.pieces.invariant.unended
           (still_open (g.S.Source.ended c.pieces.input) (g.S.Source.ended c.take_piece.new.input)
           c.in_ok-count.ensures.shows
-          (some_taken count now next.0));
+          (some_taken c.in_ok-count.count c.deref.result.now found.0));
     }
 
 -- ---- too many bytes

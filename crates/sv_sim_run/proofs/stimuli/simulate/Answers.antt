@@ -9,192 +9,79 @@ use Rattle.sv_sim_run.proofs.WholeRuns.{refused_stops, refused_left, none_taken,
 use Rattle.sv_sim_run.proofs.WholeRuns.{open_front_at}
 use Rattle.sv_sim_run.proofs.stimuli.simulate.Goals as goal
 
-pub returns-in-Some-clause-answer : goal.returns-in-Some-clause-answer
-returns-in-Some-clause-answer g c =
-    run_answer (design_of c.args.design.now) (option_copied c.args.level) c.in-Some.shown
-    c.args.order g.S.Source.tells (g.S.Source.given c.args.input.now)
-    (g.S.Source.given c.simulate_at.new.input) (g.S.Source.left c.args.input.now)
-    (g.K.Sink.accepted c.args.out.now) (g.K.Sink.accepted c.simulate_at.new.out)
-    c.simulate_at.result c.simulate_at.ensures.admitted (sym c.in-Some.ensures.asked)
-    c.simulate_at.ensures.runs
+pub returns-in-Some : goal.returns-in-Some
+returns-in-Some g c =
+    let design = design_of c.args.design.now in
+    let level = option_copied c.args.level in
+    let shown = c.in-Some.shown in
+    let order = c.args.order in
+    let tells = g.S.Source.tells in
+    let ended = g.S.Source.ended c.simulate_at.new.input in
+    let given = g.S.Source.given c.args.input.now in
+    let taken = g.S.Source.given c.simulate_at.new.input in
+    let left = g.S.Source.left c.args.input.now in
+    let old = g.K.Sink.accepted c.args.out.now in
+    let new = g.K.Sink.accepted c.simulate_at.new.out in
+    let r = c.simulate_at.result in
+    let told = c.simulate_at.ensures in
+    let admitted = told.admitted in
+    let asked = sym c.in-Some.ensures.asked in
+    let runs = told.runs in
+    record {
+      answer = run_answer design level shown order tells given taken left old new r admitted asked
+          runs;
+      told = run_told design level shown order tells given taken left old new r admitted asked runs;
+      to_the_end = open_at design level shown order ended given taken old new r asked
+          told.to_the_end;
+      only = run_only design level shown order tells given taken left old new r admitted asked runs;
+      front = run_front design level shown order tells given taken left old new r admitted asked
+          runs;
+      told_front = run_told_front design level shown order tells given taken left old new r
+          admitted asked runs;
+      front_to_the_end = open_front_at design level shown order ended given taken old new r asked
+          told.front_to_the_end;
+      prompt = run_prompt design level shown order tells given taken left old new r admitted asked
+          runs;
+      most = run_most design level shown order tells given taken left old new r admitted asked runs;
+      untouched = run_touched design level shown order tells given taken left old new r admitted
+          asked runs;
+      read_fault = told.read_fault;
+      write_fault = told.write_fault;
+      unfailed = told.unfailed;
+      unended = told.unended;
+      no_write_fault = told.no_write_fault;
+    }
 
-pub returns-in-Some-clause-told : goal.returns-in-Some-clause-told
-returns-in-Some-clause-told g c =
-    run_told (design_of c.args.design.now) (option_copied c.args.level) c.in-Some.shown
-    c.args.order g.S.Source.tells (g.S.Source.given c.args.input.now)
-    (g.S.Source.given c.simulate_at.new.input) (g.S.Source.left c.args.input.now)
-    (g.K.Sink.accepted c.args.out.now) (g.K.Sink.accepted c.simulate_at.new.out)
-    c.simulate_at.result c.simulate_at.ensures.admitted (sym c.in-Some.ensures.asked)
-    c.simulate_at.ensures.runs
-
-pub returns-in-Some-clause-to_the_end : goal.returns-in-Some-clause-to_the_end
-returns-in-Some-clause-to_the_end g c =
-    open_at (design_of c.args.design.now) (option_copied c.args.level) c.in-Some.shown
-    c.args.order (g.S.Source.ended c.simulate_at.new.input) (g.S.Source.given c.args.input.now)
-    (g.S.Source.given c.simulate_at.new.input) (g.K.Sink.accepted c.args.out.now)
-    (g.K.Sink.accepted c.simulate_at.new.out) c.simulate_at.result (sym c.in-Some.ensures.asked)
-    c.simulate_at.ensures.to_the_end
-
-pub returns-in-Some-clause-only : goal.returns-in-Some-clause-only
-returns-in-Some-clause-only g c =
-    run_only (design_of c.args.design.now) (option_copied c.args.level) c.in-Some.shown
-    c.args.order g.S.Source.tells (g.S.Source.given c.args.input.now)
-    (g.S.Source.given c.simulate_at.new.input) (g.S.Source.left c.args.input.now)
-    (g.K.Sink.accepted c.args.out.now) (g.K.Sink.accepted c.simulate_at.new.out)
-    c.simulate_at.result c.simulate_at.ensures.admitted (sym c.in-Some.ensures.asked)
-    c.simulate_at.ensures.runs
-
-pub returns-in-Some-clause-front : goal.returns-in-Some-clause-front
-returns-in-Some-clause-front g c =
-    run_front (design_of c.args.design.now) (option_copied c.args.level) c.in-Some.shown
-    c.args.order g.S.Source.tells (g.S.Source.given c.args.input.now)
-    (g.S.Source.given c.simulate_at.new.input) (g.S.Source.left c.args.input.now)
-    (g.K.Sink.accepted c.args.out.now) (g.K.Sink.accepted c.simulate_at.new.out)
-    c.simulate_at.result c.simulate_at.ensures.admitted (sym c.in-Some.ensures.asked)
-    c.simulate_at.ensures.runs
-
-pub returns-in-Some-clause-told_front : goal.returns-in-Some-clause-told_front
-returns-in-Some-clause-told_front g c =
-    run_told_front (design_of c.args.design.now) (option_copied c.args.level) c.in-Some.shown
-    c.args.order g.S.Source.tells (g.S.Source.given c.args.input.now)
-    (g.S.Source.given c.simulate_at.new.input) (g.S.Source.left c.args.input.now)
-    (g.K.Sink.accepted c.args.out.now) (g.K.Sink.accepted c.simulate_at.new.out)
-    c.simulate_at.result c.simulate_at.ensures.admitted (sym c.in-Some.ensures.asked)
-    c.simulate_at.ensures.runs
-
-pub returns-in-Some-clause-prompt : goal.returns-in-Some-clause-prompt
-returns-in-Some-clause-prompt g c =
-    run_prompt (design_of c.args.design.now) (option_copied c.args.level) c.in-Some.shown
-    c.args.order g.S.Source.tells (g.S.Source.given c.args.input.now)
-    (g.S.Source.given c.simulate_at.new.input) (g.S.Source.left c.args.input.now)
-    (g.K.Sink.accepted c.args.out.now) (g.K.Sink.accepted c.simulate_at.new.out)
-    c.simulate_at.result c.simulate_at.ensures.admitted (sym c.in-Some.ensures.asked)
-    c.simulate_at.ensures.runs
-
-pub returns-in-Some-clause-most : goal.returns-in-Some-clause-most
-returns-in-Some-clause-most g c =
-    run_most (design_of c.args.design.now) (option_copied c.args.level) c.in-Some.shown
-    c.args.order g.S.Source.tells (g.S.Source.given c.args.input.now)
-    (g.S.Source.given c.simulate_at.new.input) (g.S.Source.left c.args.input.now)
-    (g.K.Sink.accepted c.args.out.now) (g.K.Sink.accepted c.simulate_at.new.out)
-    c.simulate_at.result c.simulate_at.ensures.admitted (sym c.in-Some.ensures.asked)
-    c.simulate_at.ensures.runs
-
-pub returns-in-Some-clause-untouched : goal.returns-in-Some-clause-untouched
-returns-in-Some-clause-untouched g c =
-    run_touched (design_of c.args.design.now) (option_copied c.args.level) c.in-Some.shown
-    c.args.order g.S.Source.tells (g.S.Source.given c.args.input.now)
-    (g.S.Source.given c.simulate_at.new.input) (g.S.Source.left c.args.input.now)
-    (g.K.Sink.accepted c.args.out.now) (g.K.Sink.accepted c.simulate_at.new.out)
-    c.simulate_at.result c.simulate_at.ensures.admitted (sym c.in-Some.ensures.asked)
-    c.simulate_at.ensures.runs
-
-pub returns-in-Some-clause-read_fault : goal.returns-in-Some-clause-read_fault
-returns-in-Some-clause-read_fault g c = c.simulate_at.ensures.read_fault
-
-pub returns-in-Some-clause-write_fault : goal.returns-in-Some-clause-write_fault
-returns-in-Some-clause-write_fault g c = c.simulate_at.ensures.write_fault
-
-pub returns-in-None-clause-answer : goal.returns-in-None-clause-answer
-returns-in-None-clause-answer g c =
-    refused_answer (design_of c.args.design.now) (option_copied c.args.level) c.args.order
-    (g.S.Source.given c.args.input.now) (g.K.Sink.accepted c.args.out.now)
-    (g.K.Sink.accepted c.refuse_level.new.out) c.refuse_level.result (sym c.in-None.ensures.asked)
-    c.refuse_level.ensures.whole
-
-pub returns-in-None-clause-told : goal.returns-in-None-clause-told
-returns-in-None-clause-told g c =
-    λ told. refused_told (design_of c.args.design.now) (option_copied c.args.level) c.args.order
-    (g.S.Source.given c.args.input.now) (g.K.Sink.accepted c.args.out.now)
-    (g.K.Sink.accepted c.refuse_level.new.out) c.refuse_level.result (sym c.in-None.ensures.asked)
-    c.refuse_level.ensures.whole (g.S.Source.left c.args.input.now)
-
-pub returns-in-None-clause-to_the_end : goal.returns-in-None-clause-to_the_end
-returns-in-None-clause-to_the_end g c =
-    λ goes_on taken more given.
-    refused_told (design_of c.args.design.now) (option_copied c.args.level) c.args.order
-    (g.S.Source.given c.args.input.now) (g.K.Sink.accepted c.args.out.now)
-    (g.K.Sink.accepted c.refuse_level.new.out) c.refuse_level.result (sym c.in-None.ensures.asked)
-    c.refuse_level.ensures.whole (taken ++ more)
-
-pub returns-in-None-clause-only : goal.returns-in-None-clause-only
-returns-in-None-clause-only g c =
-    λ taken printed other given simulated.
-    refused_alone (design_of c.args.design.now) (option_copied c.args.level) c.args.order
-    (g.S.Source.given c.args.input.now) (g.K.Sink.accepted c.args.out.now)
-    (g.K.Sink.accepted c.refuse_level.new.out) c.refuse_level.result (sym c.in-None.ensures.asked)
-    c.refuse_level.ensures.whole taken printed other simulated
-
-pub returns-in-None-clause-front : goal.returns-in-None-clause-front
-returns-in-None-clause-front g c =
-    refused_stops (design_of c.args.design.now) (option_copied c.args.level) c.args.order
-    (g.S.Source.given c.args.input.now) (g.K.Sink.accepted c.args.out.now)
-    (g.K.Sink.accepted c.refuse_level.new.out) c.refuse_level.result (sym c.in-None.ensures.asked)
-    c.refuse_level.ensures.front
-
-pub returns-in-None-clause-told_front : goal.returns-in-None-clause-told_front
-returns-in-None-clause-told_front g c =
-    λ told. refused_left (design_of c.args.design.now) (option_copied c.args.level) c.args.order
-    (g.S.Source.left c.args.input.now) (g.K.Sink.accepted c.args.out.now)
-    (g.K.Sink.accepted c.refuse_level.new.out) c.refuse_level.result (sym c.in-None.ensures.asked)
-    c.refuse_level.ensures.front
-
-pub returns-in-None-clause-prompt : goal.returns-in-None-clause-prompt
-returns-in-None-clause-prompt g c =
-    λ read. absurd (c.refuse_level.ensures.read read)
-
-pub returns-in-None-clause-most : goal.returns-in-None-clause-most
-returns-in-None-clause-most g c =
-    λ taken given. none_taken (g.S.Source.given c.args.input.now) taken given
-
-pub returns-in-None-clause-untouched : goal.returns-in-None-clause-untouched
-returns-in-None-clause-untouched g c =
-    λ asked. refl
-
-pub returns-in-None-clause-read_fault : goal.returns-in-None-clause-read_fault
-returns-in-None-clause-read_fault g c =
-    λ read. absurd (c.refuse_level.ensures.read read)
-
-pub returns-in-None-clause-write_fault : goal.returns-in-None-clause-write_fault
-returns-in-None-clause-write_fault g c =
-    c.refuse_level.ensures.failed
-
--- ---- whatever follows
-
-pub returns-in-Some-clause-front_to_the_end : goal.returns-in-Some-clause-front_to_the_end
-returns-in-Some-clause-front_to_the_end g c =
-    open_front_at (design_of c.args.design.now) (option_copied c.args.level) c.in-Some.shown
-    c.args.order (g.S.Source.ended c.simulate_at.new.input) (g.S.Source.given c.args.input.now)
-    (g.S.Source.given c.simulate_at.new.input) (g.K.Sink.accepted c.args.out.now)
-    (g.K.Sink.accepted c.simulate_at.new.out) c.simulate_at.result (sym c.in-Some.ensures.asked)
-    c.simulate_at.ensures.front_to_the_end
-
-pub returns-in-None-clause-front_to_the_end : goal.returns-in-None-clause-front_to_the_end
-returns-in-None-clause-front_to_the_end g c =
-    λ goes_on taken more given.
-    refused_left (design_of c.args.design.now) (option_copied c.args.level) c.args.order
-    (taken ++ more) (g.K.Sink.accepted c.args.out.now) (g.K.Sink.accepted c.refuse_level.new.out)
-    c.refuse_level.result (sym c.in-None.ensures.asked) c.refuse_level.ensures.front
-
--- ---- faults
-
-pub returns-in-Some-clause-unfailed : goal.returns-in-Some-clause-unfailed
-returns-in-Some-clause-unfailed g c = c.simulate_at.ensures.unfailed
-
-pub returns-in-Some-clause-unended : goal.returns-in-Some-clause-unended
-returns-in-Some-clause-unended g c = c.simulate_at.ensures.unended
-
-pub returns-in-Some-clause-no_write_fault : goal.returns-in-Some-clause-no_write_fault
-returns-in-Some-clause-no_write_fault g c = c.simulate_at.ensures.no_write_fault
-
-pub returns-in-None-clause-unfailed : goal.returns-in-None-clause-unfailed
-returns-in-None-clause-unfailed g c =
-    on_ok_weaker c.refuse_level.result (λ put. (refl, put)) c.refuse_level.ensures.kept
-
-pub returns-in-None-clause-unended : goal.returns-in-None-clause-unended
-returns-in-None-clause-unended g c =
-    λ read. absurd (c.refuse_level.ensures.read read)
-
-pub returns-in-None-clause-no_write_fault : goal.returns-in-None-clause-no_write_fault
-returns-in-None-clause-no_write_fault g c =
-    λ read. absurd (c.refuse_level.ensures.read read)
+pub returns-in-None : goal.returns-in-None
+returns-in-None g c =
+    let design = design_of c.args.design.now in
+    let level = option_copied c.args.level in
+    let order = c.args.order in
+    let given = g.S.Source.given c.args.input.now in
+    let left = g.S.Source.left c.args.input.now in
+    let old = g.K.Sink.accepted c.args.out.now in
+    let new = g.K.Sink.accepted c.refuse_level.new.out in
+    let r = c.refuse_level.result in
+    let told = c.refuse_level.ensures in
+    let asked = sym c.in-None.ensures.asked in
+    record {
+      answer = refused_answer design level order given old new r asked told.whole;
+      told = λ tells. refused_told design level order given old new r asked told.whole left;
+      to_the_end = λ goes_on taken more is.
+          refused_told design level order given old new r asked told.whole (taken ++ more);
+      only = λ taken printed other is simulated.
+          refused_alone design level order given old new r asked told.whole taken printed other
+          simulated;
+      front = refused_stops design level order given old new r asked told.front;
+      told_front = λ tells. refused_left design level order left old new r asked told.front;
+      front_to_the_end = λ goes_on taken more is.
+          refused_left design level order (taken ++ more) old new r asked told.front;
+      prompt = λ read. absurd (told.read read);
+      most = λ taken is. none_taken given taken is;
+      untouched = λ unknown. refl;
+      read_fault = λ read. absurd (told.read read);
+      write_fault = told.failed;
+      unfailed = on_ok_weaker r (λ put. (refl, put)) told.kept;
+      unended = λ read. absurd (told.read read);
+      no_write_fault = λ read. absurd (told.read read);
+    }

@@ -1,6 +1,6 @@
 use Rattle.std.proofs.Common.{length, ap, arith}
 use Rattle.sv_lattice.specs.declared.points.Point.{Point}
-use Rattle.sv_tworun.proofs.SightFacts.{readable_there, point_there}
+use Rattle.sv_encoding_laws.proofs.LabelPoints.{readable_there, point_there}
 use Rattle.sv_tworun.proofs.sights.sight.Goals as goal
 
 pub label_at-label-requires : goal.label_at-label-requires

@@ -1,4 +1,4 @@
-use Rattle.std.proofs.Common.{rules, ◌≡◌, ◌∙◌, ◌≤◌, List, length, map, take, drop, sym, ap, arith}
+use Rattle.std.proofs.Common.{rules, ◌∙◌, map, take, drop, ap, arith}
 use Rattle.std.specs.Result.{IsErrOf}
 use Rattle.sv_gates.specs.Formulas.{Formula}
 use Rattle.sv_gates.specs.declared.gates.GateFault.TheVariants.{Full}
@@ -7,9 +7,9 @@ use Rattle.sv_blast.specs.Coded.{place_form}
 use Rattle.sv_blast.specs.Encoders.{design_in, obligation_in}
 use Rattle.sv_blast.specs.Framed.{literals_of}
 use Rattle.sv_blast.proofs.FramedSteps.{now_path, next_path, places_path}
-use Rattle.sv_blast.proofs.RestSteps.{gates_made, framed_last, facts_there, conditions_there}
-use Rattle.sv_blast.proofs.RestSteps.{facts_inside, conditions_inside}
-use Rattle.sv_blast.proofs.WholeEncodings.{encoding_path, units_path, last_same, conditions_within}
+use Rattle.sv_blast.proofs.RestSteps.{gates_made, framed_last, units_there, facts_inside}
+use Rattle.sv_blast.proofs.RestSteps.{conditions_inside}
+use Rattle.sv_blast.proofs.WholeEncodings.{encoding_path, last_same, conditions_within}
 use Rattle.sv_blast.proofs.encoding.Encoder.rest.Goals as goal
 
 pub failing-requires-clause-now : goal.failing-requires-clause-now
@@ -43,51 +43,30 @@ add_units-requires-clause-conditions c =
     (c.deref-4.ensures.value ∙ c.in_ok-conditions.ensures
     ∙ ap literals_of (c.split_at.ensures.back ∙ ap (drop c.len.result) c.deref.ensures.value))
 
-pub returns-clause-framed : goal.returns-clause-framed
-returns-clause-framed c =
-    let design = design_in c.args.self.now in
-    let o = obligation_in c.args.self.now in
+pub returns : goal.returns
+returns c =
     let made = c.make_truths.new.made in
     let begun = c.in_ok-make_truths.ensures.begun in
     let checked = c.know_design.ensures.checked in
     let query = c.requires.encoder.query in
     let all = c.in_ok-make_truths.ensures.all in
-    let count : c.len.result ≡ length c.args.self.now.query.now.facts.items = omega arith in
-    let facts = c.deref-2.ensures.value ∙ c.in_ok-facts.ensures
-    ∙ ap literals_of (c.split_at.ensures.front ∙ ap (take c.len.result) c.deref.ensures.value)
-    ∙ facts_there c.args.self.now made begun checked query all c.len.result count in
-    let conditions = c.deref-4.ensures.value ∙ c.in_ok-conditions.ensures
-    ∙ ap literals_of (c.split_at.ensures.back ∙ ap (drop c.len.result) c.deref.ensures.value)
-    ∙ conditions_there c.args.self.now made begun checked query all c.len.result count in
-    let path = units_path design o c.deref-2.result.now c.deref-4.result.now
-    (map step_form c.deref-3.result.now) (c.failing.new.gates, c.in_ok-fails.fails) facts
-    (ap (map step_form) c.deref-3.ensures.value) conditions (sym c.in_ok-fails.ensures.made) in
-    framed_last c.args.self.now made begun checked query all c.add_units.new.gates
-    (c.in_ok-add_units.ensures.made ∙ path)
-
-pub returns-clause-coded : goal.returns-clause-coded
-returns-clause-coded c =
-    let design = design_in c.args.self.now in
-    let o = obligation_in c.args.self.now in
-    let made = c.make_truths.new.made in
-    let begun = c.in_ok-make_truths.ensures.begun in
-    let checked = c.know_design.ensures.checked in
-    let query = c.requires.encoder.query in
-    let all = c.in_ok-make_truths.ensures.all in
-    let count : c.len.result ≡ length c.args.self.now.query.now.facts.items = omega arith in
-    let facts = c.deref-2.ensures.value ∙ c.in_ok-facts.ensures
-    ∙ ap literals_of (c.split_at.ensures.front ∙ ap (take c.len.result) c.deref.ensures.value)
-    ∙ facts_there c.args.self.now made begun checked query all c.len.result count in
-    let conditions = c.deref-4.ensures.value ∙ c.in_ok-conditions.ensures
-    ∙ ap literals_of (c.split_at.ensures.back ∙ ap (drop c.len.result) c.deref.ensures.value)
-    ∙ conditions_there c.args.self.now made begun checked query all c.len.result count in
-    let path = units_path design o c.deref-2.result.now c.deref-4.result.now
-    (map step_form c.deref-3.result.now) (c.failing.new.gates, c.in_ok-fails.fails) facts
-    (ap (map step_form) c.deref-3.ensures.value) conditions (sym c.in_ok-fails.ensures.made) in
+    let path = units_there c.args.self.now made begun checked query all c.len.result (omega arith)
+    c.deref-2.result.now c.deref-4.result.now
+    (c.deref-2.ensures.value ∙ c.in_ok-facts.ensures
+    ∙ ap literals_of (c.split_at.ensures.front ∙ ap (take c.len.result) c.deref.ensures.value))
+    (c.deref-4.ensures.value ∙ c.in_ok-conditions.ensures
+    ∙ ap literals_of (c.split_at.ensures.back ∙ ap (drop c.len.result) c.deref.ensures.value))
+    (map step_form c.deref-3.result.now) (ap (map step_form) c.deref-3.ensures.value)
+    c.failing.new.gates c.in_ok-fails.fails c.in_ok-fails.ensures.made in
     let last = c.in_ok-add_units.ensures.made ∙ path in
-    encoding_path design o c.add_units.new.gates.variables (map place_form made.bits.items)
-    c.add_units.new.gates.clauses (ap (λ (z : Formula). z.variables) last)
-    (places_path c.args.self.now made begun.frames) (ap (λ (z : Formula). z.clauses) last)
+    record {
+      framed = framed_last c.args.self.now made begun checked query all c.add_units.new.gates last;
+      coded = encoding_path (design_in c.args.self.now) (obligation_in c.args.self.now)
+          c.add_units.new.gates.variables (map place_form made.bits.items)
+          c.add_units.new.gates.clauses (ap (λ (z : Formula). z.variables) last)
+          (places_path c.args.self.now made begun.frames) (ap (λ (z : Formula). z.clauses) last);
+      full = search rules;
+    }
 
 pub returns-in_err-make_truths-clause-full : goal.returns-in_err-make_truths-clause-full
 returns-in_err-make_truths-clause-full c =

@@ -10,7 +10,7 @@ use Rattle.sv_parse_machine.proofs.OneText.{one_meaning}
 use Rattle.sv_parse_machine.proofs.Syntax.{text_breaks_nothing, one_syntax_rule}
 use Rattle.sv_flat.specs.Design.{FlatDesign}
 use Rattle.sv_flat.specs.Admission.{IsRefused}
-use Rattle.sv_elab_rules.specs.Walks.{Step}
+use Rattle.sv_elab_rules.specs.Walks.{WalkStep}
 use Rattle.sv_elab_rules.specs.Rules.{step}
 use Rattle.sv_elab_rules.specs.Texts.{flat_of, value_in, BreaksRule}
 use Rattle.sv_report.specs.Styles.{refusal_in}
@@ -77,7 +77,7 @@ module _ (top : Option (List ℕ)) where
   abbrev pub IsOneRule : (n m : ℕ) (p q : Place) (ns ms : List (List ℕ)) → Type 0
   IsOneRule n m p q ns ms = (n ≡ m) × (p ≡ q) × ((ns ≡ ms) ⊎ AreFromOne n ns ms)
 
-  same_step : {A : Type 0} (x y : Step) → ◌≡◌ {A = Result A Step} (Err x) (Err y) → x ≡ y
+  same_step : {A : Type 0} (x y : WalkStep) → ◌≡◌ {A = Result A WalkStep} (Err x) (Err y) → x ≡ y
   same_step x y e = cc
 
   module _ (text : List ℕ) (n m : ℕ) (p q : Place) (ns ms : List (List ℕ)) where
@@ -95,9 +95,9 @@ module _ (top : Option (List ℕ)) where
         let first : BreaksRule n p ns b.tree top =
         subst (λ (t : TextTree). BreaksRule n p ns t top) same a.broken in
         let steps : step n p ns ≡ step m q ms = same_step _ _ (sym first ∙ b.broken) in (
-          ap (λ (s : Step). s.rule) steps,
-          ap (λ (s : Step). s.place) steps,
-          inl (ap (λ (s : Step). s.names) steps),
+          ap (λ (s : WalkStep). s.rule) steps,
+          ap (λ (s : WalkStep). s.place) steps,
+          inl (ap (λ (s : WalkStep). s.names) steps),
         )
 
     designs : BreaksAdmission top text n p ns → BreaksAdmission top text m q ms

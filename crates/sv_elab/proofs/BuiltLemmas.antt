@@ -16,7 +16,7 @@ use Rattle.sv_flat.specs.declared.designs.Process.{Process}
 use Rattle.sv_flat.specs.Views.{process_form}
 use Rattle.sv_flat.specs.Design.{SignalForm, ProcessForm, TypedTree, FlatStatement, ProcessKind}
 use Rattle.sv_flat.specs.Design.{continuous}
-use Rattle.sv_elab_rules.specs.Walks.{Step}
+use Rattle.sv_elab_rules.specs.Walks.{WalkStep}
 use Rattle.sv_elab_rules.specs.Rules.{unknown_name}
 use Rattle.sv_elab_rules.specs.Names.{Names}
 use Rattle.sv_elab_rules.specs.ExpressionSteps.{expression_walk}
@@ -42,7 +42,7 @@ module _ (names : Names) (built : Built) where
       unfolding value_walk
       value_found v h = rw (is, h) refl
 
-      pub value_broken : (s : Step)
+      pub value_broken : (s : WalkStep)
           → (expression_walk names e (width_of (names.scope d.name))).end ≡ Err s
           → (value_walk names built d o).end ≡ Err s
       unfolding value_walk
@@ -55,7 +55,7 @@ module _ (names : Names) (built : Built) where
     unfolding assign_walk
     assign_found body h = rw h refl
 
-    pub assign_broken : (s : Step) → (assignment_walk names ts p true e).end ≡ Err s
+    pub assign_broken : (s : WalkStep) → (assignment_walk names ts p true e).end ≡ Err s
         → (assign_walk names built ts p e).end ≡ Err s
     unfolding assign_walk
     assign_broken s h = rw h refl
@@ -88,7 +88,7 @@ module _ (names : Names) (built : Built) where
             Ok (with_process built (record { place = p; kind = r; body = body }))) (cc k))
         by (Some c) k l = tested c (is_signal (names.scope c.name)) refl k l
 
-    pub always_unclocked : (t : Step) → (always_kind_walk names clock).end ≡ Err t →
+    pub always_unclocked : (t : WalkStep) → (always_kind_walk names clock).end ≡ Err t →
         (always_walk names built p clock s).end ≡ Err t
     unfolding always_walk
     always_unclocked t = by clock
@@ -99,7 +99,7 @@ module _ (names : Names) (built : Built) where
         tested c true h k = absurd (cc (rw h at k))
         tested c false h k =
             let e : unknown_name c.place c.name ≡ t = cc (rw h at k) in
-            rw h (ap (λ (u : Step). Err u) e)
+            rw h (ap (λ (u : WalkStep). Err u) e)
 
         by : (o : Option PlacedName) → (always_kind_walk names o).end ≡ Err t →
             (always_walk names built p o s).end ≡ Err t
@@ -107,19 +107,19 @@ module _ (names : Names) (built : Built) where
         by (Some c) k = tested c (is_signal (names.scope c.name)) refl k
 
     pub always_broken : (kind : ProcessKind) → (always_kind_walk names clock).end ≡ Ok kind
-        → (t : Step)
+        → (t : WalkStep)
         → (statement_walk names s).end ≡ Err t → (always_walk names built p clock s).end ≡ Err t
     unfolding always_walk
     always_broken kind = by clock
       where
         tested : (c : PlacedName) (b : Bool) → is_signal (names.scope c.name) ≡ b
-            → (always_kind_walk names (Some c)).end ≡ Ok kind → (t : Step)
+            → (always_kind_walk names (Some c)).end ≡ Ok kind → (t : WalkStep)
             → (statement_walk names s).end ≡ Err t
             → (always_walk names built p (Some c) s).end ≡ Err t
         tested c true h k t l = rw (h, l) refl
         tested c false h k t l = absurd (cc (rw h at k))
 
-        by : (o : Option PlacedName) → (always_kind_walk names o).end ≡ Ok kind → (t : Step)
+        by : (o : Option PlacedName) → (always_kind_walk names o).end ≡ Ok kind → (t : WalkStep)
             → (statement_walk names s).end ≡ Err t
             → (always_walk names built p o s).end ≡ Err t
         by None k t l = rw l refl

@@ -11,27 +11,27 @@ use Rattle.sv_ast.specs.Scopes.{Number, parameter, signal}
 use Rattle.sv_ast.specs.Instances.{entry, all_items, span_width, in_range}
 use Rattle.sv_ast.specs.Parts.{declarations, declaration_of}
 use Rattle.sv_flat.specs.Design.{SignalForm}
-use Rattle.sv_elab_rules.specs.Walks.{Step, Walk, ask, done, then_walk, ◌>>=◌}
+use Rattle.sv_elab_rules.specs.Walks.{WalkStep, Walk, ask, done, then_walk, ◌>>=◌}
 use Rattle.sv_elab_rules.specs.Rules.{twice}
 use Rattle.sv_elab_rules.specs.Names.{Names, names_at, is_bound}
 use Rattle.sv_elab_rules.specs.Declarations.{Site, Declared, nothing_declared, range_steps, override_of}
 use Rattle.sv_elab_rules.specs.Declarations.{final_walk, parameter_walk}
 use Rattle.sv_elab_rules.specs.Declarations.{declaration_walk, declarations_walk}
-use Rattle.sv_elab_rules.specs.LabelSteps.{Tables, given_label, labels_walk}
+use Rattle.sv_elab_rules.specs.LabelSteps.{SharedTables, given_label, labels_walk}
 use Rattle.sv_elab_decl.proofs.SameSites.{signal_signals}
 
 -- where the walk ends well, the measure of what it found is this number
-record Measures {X : Type 0} (size : X → ℕ) (k : ℕ) (r : Result X Step) : Type 0 where
+record Measures {X : Type 0} (size : X → ℕ) (k : ℕ) (r : Result X WalkStep) : Type 0 where
   says : (x : X) → r ≡ Ok x → size x ≡ k
 
 here : {X : Type 0} (size : X → ℕ) (k : ℕ) (x : X) → size x ≡ k → Measures size k (Ok x)
 here size k x h = record { says = λ y e. let same : x ≡ y = cc e in ap size (sym same) ∙ h }
 
-nowhere : {X : Type 0} (size : X → ℕ) (k : ℕ) (s : Step) → Measures size k (Err s)
+nowhere : {X : Type 0} (size : X → ℕ) (k : ℕ) (s : WalkStep) → Measures size k (Err s)
 nowhere size k s = record { says = λ y e. absurd (cc e) }
 
-always : {X Y : Type 0} (size : Y → ℕ) (k : ℕ) (passed : List Step) (r : Result X Step) (more : X
-    → Walk Y)
+always : {X Y : Type 0} (size : Y → ℕ) (k : ℕ) (passed : List WalkStep) (r : Result X WalkStep)
+    (more : X → Walk Y)
     → ((x : X) → Measures size k (more x).end) → Measures size k (then_walk passed r more).end
 always size k passed (Ok x) more h = h x
 always size k passed (Err s) more h = nowhere size k s
@@ -114,7 +114,8 @@ module _ (base least : ℕ) (s : Site) where
       (by (declaration_walk base least s d item).end (one_counted d item) (λ next.
       all_counted next items))
     where
-      by : (r : Result Declared Step) → Measures signals_of (length d.signals + count (item ∷ [])) r
+      by : (r : Result Declared WalkStep)
+          → Measures signals_of (length d.signals + count (item ∷ [])) r
           → ((next : Declared)
           → Measures signals_of (length next.signals + count items)
           (declarations_walk base least s next items).end)
@@ -158,7 +159,7 @@ all_declared base least s m w h =
 abbrev how_many : List SignalForm → ℕ
 how_many signals = length signals
 
-module _ (tables : Tables) (names : Names) where
+module _ (tables : SharedTables) (names : Names) where
   labels_counted : (ds : List DeclarationTree) (signals : List SignalForm)
       → Measures how_many (length signals) (labels_walk tables names ds signals).end
   unfolding labels_walk
@@ -168,7 +169,7 @@ module _ (tables : Tables) (names : Names) where
       by (given_label tables names d.label s).end (labels_walk tables names ds signals).end
       (labels_counted ds signals)
     where
-      second : (first : SignalForm) (r : Result (List SignalForm) Step)
+      second : (first : SignalForm) (r : Result (List SignalForm) WalkStep)
           → Measures how_many (length signals) r
           → Measures how_many (length (s ∷ signals))
           (then_walk (labels_walk tables names ds signals).passed r (λ rest.
@@ -176,7 +177,7 @@ module _ (tables : Tables) (names : Names) where
       second first (Ok rest) h = here _ _ (first ∷ rest) (ap suc (h.says rest refl))
       second first (Err t) h = nowhere _ _ t
 
-      by : (a : Result SignalForm Step) (b : Result (List SignalForm) Step)
+      by : (a : Result SignalForm WalkStep) (b : Result (List SignalForm) WalkStep)
           → Measures how_many (length signals) b
           → Measures how_many (length (s ∷ signals))
           (then_walk (given_label tables names d.label s).passed a

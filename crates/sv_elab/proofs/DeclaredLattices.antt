@@ -12,9 +12,9 @@ use Rattle.sv_num.specs.declared.faults.Fault.TheVariants.{Rule, OutOfMemory}
 use Rattle.sv_lattice.specs.Flows.{IsKnown}
 use Rattle.sv_ast.specs.Tree.{PlacedName, PairTree, LatticeTree}
 use Rattle.sv_ast.specs.Views.{placed_name, pair_tree}
-use Rattle.sv_elab_rules.specs.Walks.{Step, Walk, ask, ◌>>=◌}
+use Rattle.sv_elab_rules.specs.Walks.{WalkStep, Walk, ask, ◌>>=◌}
 use Rattle.sv_elab_rules.specs.Rules.{lattice_size}
-use Rattle.sv_elab_rules.specs.Lattices.{Order, point_questions, pair_questions, point_names}
+use Rattle.sv_elab_rules.specs.Lattices.{PointOrder, point_questions, pair_questions, point_names}
 use Rattle.sv_elab_rules.specs.Lattices.{numbered_pair, table_of, declared_order, checked_order}
 use Rattle.sv_elab_rules.specs.Lattices.{lattice_walk}
 use Rattle.sv_elab_rules.proofs.WalkLemmas.{end_after, end_broken}
@@ -24,8 +24,8 @@ use Rattle.sv_elab.proofs.EarliestLemmas.{end_at, ordered_end, earliest_append}
 use Rattle.sv_elab.proofs.NameLemmas.{KnowSame}
 
 -- what breaks one walk breaks another
-pub breach_on : {X Y : Type 0} (f : Fault) (d : Result X Step) (e : Result Y Step)
-    → ((s : Step) → d ≡ Err s → e ≡ Err s)
+pub breach_on : {X Y : Type 0} (f : Fault) (d : Result X WalkStep) (e : Result Y WalkStep)
+    → ((s : WalkStep) → d ≡ Err s → e ≡ Err s)
     → IsBreach d f → IsBreach e f
 breach_on (Rule r) d e on h = on _ h
 breach_on OutOfMemory d e on h = tt
@@ -35,14 +35,14 @@ breach_on OutOfMemory d e on h = tt
 abbrev pub count_test : LatticeTree → Bool
 count_test t = nat_le 1 (length t.points) && nat_le (length t.points) 32
 
-asked_ok : (b : Bool) (s : Step) → b ≡ true → (ask b s).end ≡ Ok tt
+asked_ok : (b : Bool) (s : WalkStep) → b ≡ true → (ask b s).end ≡ Ok tt
 asked_ok b s h = rw h refl
 
-asked_err : (b : Bool) (s : Step) → b ≡ false → (ask b s).end ≡ Err s
+asked_err : (b : Bool) (s : WalkStep) → b ≡ false → (ask b s).end ≡ Err s
 asked_err b s h = rw h refl
 
 module _ (t : LatticeTree) where
-  rest : Unit {0} → Walk Order
+  rest : Unit {0} → Walk PointOrder
   rest u = name_steps t >>= λ _. checked_order t.place (declared_order t)
 
   walk_is : lattice_walk (Some t) ≡ (ask (count_test t) (lattice_size t.place) >>= rest)
@@ -51,16 +51,16 @@ module _ (t : LatticeTree) where
 
   pub size_end : count_test t ≡ false → (lattice_walk (Some t)).end ≡ Err (lattice_size t.place)
   size_end h =
-      ap (λ (w : Walk Order). w.end) walk_is
+      ap (λ (w : Walk PointOrder). w.end) walk_is
       ∙ end_broken (ask (count_test t) (lattice_size t.place)) rest (lattice_size t.place)
       (asked_err (count_test t) _ h)
 
   counted : count_test t ≡ true → (lattice_walk (Some t)).end ≡ (rest tt).end
   counted h =
-      ap (λ (w : Walk Order). w.end) walk_is
+      ap (λ (w : Walk PointOrder). w.end) walk_is
       ∙ end_after (ask (count_test t) (lattice_size t.place)) rest tt (asked_ok (count_test t) _ h)
 
-  pub names_end : count_test t ≡ true → (s : Step) → (name_steps t).end ≡ Err s →
+  pub names_end : count_test t ≡ true → (s : WalkStep) → (name_steps t).end ≡ Err s →
       (lattice_walk (Some t)).end ≡ Err s
   unfolding rest
   names_end h s e =
@@ -88,7 +88,7 @@ pairs_along xs ys same (p ∷ ps) =
 -- where the questions about names end
 pub asked_names : (place : Place) (points : List (List ℕ × Place))
     (pairs : List (List ℕ × Place × List ℕ × Place))
-    (keys : List (List ℕ)) (w v : Option Step)
+    (keys : List (List ℕ)) (w v : Option WalkStep)
     → w ≡ earliest (point_questions [] (map placed_name points)) → KnowSame keys (names_of points)
     → v ≡ earlier w (earliest (pair_questions keys (map pair_tree pairs)))
     → (name_steps (record {
@@ -101,7 +101,8 @@ asked_names place points pairs keys w v w_is known v_is =
     let names = map (λ (p : PlacedName). p.name) (map placed_name points) in
     ordered_end (own ++ pair_questions names (map pair_tree pairs))
     ∙ ap end_at (earliest_append own (pair_questions names (map pair_tree pairs))
-    ∙ ap (λ (o : Option Step). earlier o (earliest (pair_questions names (map pair_tree pairs))))
+    ∙ ap (λ (o : Option WalkStep).
+    earlier o (earliest (pair_questions names (map pair_tree pairs))))
     (sym w_is)
     ∙ ap (λ ns. earlier w (earliest (pair_questions ns (map pair_tree pairs))))
     (point_names_are points)

@@ -5,7 +5,7 @@ use Rattle.std.proofs.Common.{sym, ap, ◌∙◌, arith}
 use Rattle.std.specs.Prelude.{if◌then◌else◌, Result, Ok, Err}
 use Rattle.std.proofs.lemmas.Bool.Decides.{nat_tests}
 use Rattle.sv_num.specs.declared.faults.Place.{Place}
-use Rattle.sv_elab_rules.specs.Walks.{Step, ask, each, ◌>>=◌}
+use Rattle.sv_elab_rules.specs.Walks.{WalkStep, ask, each, ◌>>=◌}
 use Rattle.sv_elab_rules.specs.Lattices.{Question, stands_before, placed, in_textual_order, answered}
 use Rattle.sv_elab.specs.Earliest.{broken_step, earlier, earliest}
 
@@ -44,10 +44,10 @@ module _ {X : Type 0} (before : X → X → Bool)
   pub pick_assoc : pick before (pick before a b) c ≡ pick before a (pick before b c)
   pick_assoc = picked (before b a) (before c b) (before c a) refl refl refl
 
-abbrev pub step_before : Step → Step → Bool
+abbrev pub step_before : WalkStep → WalkStep → Bool
 step_before a b = stands_before a.place b.place
 
-pub earlier_assoc : (a b c : Option Step) → earlier (earlier a b) c ≡ earlier a (earlier b c)
+pub earlier_assoc : (a b c : Option WalkStep) → earlier (earlier a b) c ≡ earlier a (earlier b c)
 earlier_assoc None b c = refl
 earlier_assoc (Some a) None c = refl
 earlier_assoc (Some a) (Some b) None = refl
@@ -58,15 +58,15 @@ earlier_assoc (Some a) (Some b) (Some c) =
 -- ---- where a walk over questions ends
 
 -- the first broken step
-abbrev pub first_broken : List Question → Option Step
+abbrev pub first_broken : List Question → Option WalkStep
 first_broken [] = None
 first_broken (q ∷ qs) = if q.holds then first_broken qs else Some q.step
 
-abbrev pub end_at : Option Step → Result (Unit {0}) Step
+abbrev pub end_at : Option WalkStep → Result (Unit {0}) WalkStep
 end_at None = Ok tt
 end_at (Some s) = Err s
 
-asked_one : (b : Bool) (s : Step) (qs : List Question)
+asked_one : (b : Bool) (s : WalkStep) (qs : List Question)
     → (each answered qs).end ≡ end_at (first_broken qs)
     → (ask b s >>= λ _. each answered qs).end ≡ end_at (if b then first_broken qs else Some s)
 unfolding each answered
@@ -124,7 +124,7 @@ ordered (q ∷ qs) = placed_ordered q (in_textual_order qs) (ordered qs)
 
 -- what is broken among questions none of which stands before a step's place is not picked before
 -- that step
-kept_first : (s : Step) (qs : List Question) → NoneBefore s.place qs →
+kept_first : (s : WalkStep) (qs : List Question) → NoneBefore s.place qs →
     earlier (Some s) (first_broken qs) ≡ Some s
 kept_first s [] n = refl
 kept_first s (q ∷ qs) n = by q.holds (kept_first s qs n.1)

@@ -13,10 +13,10 @@ use Rattle.sv_ast.specs.Shape.{is_shaped_parameter, are_ports, is_shaped_declara
 use Rattle.sv_ast.specs.Tree.{InstanceTree, ItemTree, ModuleTree}
 use Rattle.sv_ast.specs.Instances.{module_named}
 use Rattle.sv_flat.specs.Design.{ProcessForm}
-use Rattle.sv_elab_rules.specs.Walks.{Step, Walk, ask, done, found, then_walk, ◌>>=◌}
+use Rattle.sv_elab_rules.specs.Walks.{WalkStep, Walk, ask, done, found, then_walk, ◌>>=◌}
 use Rattle.sv_elab_rules.specs.Names.{Names}
 use Rattle.sv_elab_rules.specs.Declarations.{Site, Declared, nothing_declared, declarations_walk}
-use Rattle.sv_elab_rules.specs.LabelSteps.{Tables}
+use Rattle.sv_elab_rules.specs.LabelSteps.{SharedTables}
 use Rattle.sv_elab_rules.specs.Overrides.{overrides_walk}
 use Rattle.sv_elab_rules.specs.Links.{Ports, links_walk}
 use Rattle.sv_elab_rules.specs.InstanceSteps.{Built, ports_of, instance_names, item_walk, items_from}
@@ -28,8 +28,8 @@ use Rattle.sv_elab.proofs.InstanceEnds.{same_after, ports_same, opened_same, hea
 
 -- ---- an instance up to its items
 
-module _ (tables : Tables) (outer : Names) (path : List (List ℕ)) (m : ModuleTree) (built : Built)
-    (i : InstanceTree) where
+module _ (tables : SharedTables) (outer : Names) (path : List (List ℕ)) (m : ModuleTree)
+    (built : Built) (i : InstanceTree) where
   with_links : List ProcessForm → Built
   with_links ps =
       record { signals = built.signals; processes = ps; instances = built.instances + 1 }
@@ -52,7 +52,7 @@ module _ (tables : Tables) (outer : Names) (path : List (List ℕ)) (m : ModuleT
   unfolding set_up_walk linking linked opening alone with_links
   whole = refl
 
-  pub unset : (s : Step) → (overrides_walk outer m i.overrides).end ≡ Err s
+  pub unset : (s : WalkStep) → (overrides_walk outer m i.overrides).end ≡ Err s
       → (set_up_walk tables outer path m built i).end ≡ Err s
   unset s h =
       ap (λ (w : Walk Opened). w.end) whole
@@ -82,7 +82,7 @@ module _ (tables : Tables) (outer : Names) (path : List (List ℕ)) (m : ModuleT
         declarations_walk (length built.signals) tables.least there nothing_declared
         (header_items there.master)
 
-    pub unlinked : (s : Step)
+    pub unlinked : (s : WalkStep)
         → (linked_walk outer tables.least there base built.processes i.links).end ≡ Err s
         → (set_up_walk tables outer path m built i).end ≡ Err s
     unfolding linked opening header with_links
@@ -90,22 +90,22 @@ module _ (tables : Tables) (outer : Names) (path : List (List ℕ)) (m : ModuleT
         from_links ∙ by (linked there (length built.signals)).end
         (ap (λ b. (linked_walk outer tables.least there b built.processes i.links).end) sized ∙ h)
       where
-        by_header : (ps : List ProcessForm) (r : Result Declared Step) → header.end ≡ r
+        by_header : (ps : List ProcessForm) (r : Result Declared WalkStep) → header.end ≡ r
             → (then_walk header.passed r (λ d. done ps)).end ≡ Err s
             → (opening there ps).end ≡ Err s
         by_header ps (Ok d) e k = absurd (cc k)
         by_header ps (Err t) e k =
             let same_step : t ≡ s = cc k in
             header_unopened tables there (with_links ps) s
-            (e ∙ ap (λ (u : Step). Err u) same_step)
+            (e ∙ ap (λ (u : WalkStep). Err u) same_step)
 
-        by : (r : Result (List ProcessForm) Step)
+        by : (r : Result (List ProcessForm) WalkStep)
             → (then_walk (linked there (length built.signals)).passed r (λ ps.
             header >>= λ _. done ps)).end ≡ Err s
             → (then_walk (linked there (length built.signals)).passed r (opening there)).end ≡
             Err s
         by (Ok ps) k = by_header ps header.end refl k
-        by (Err t) k = let same_step : t ≡ s = cc k in ap (λ (u : Step). Err u) same_step
+        by (Err t) k = let same_step : t ≡ s = cc k in ap (λ (u : WalkStep). Err u) same_step
 
     pub from_opened : (ps : List ProcessForm)
         → (links_walk outer (ports_of tables.least there base) built.processes i.links).end ≡ Ok ps
@@ -130,7 +130,7 @@ items_shaped m h =
 
 -- ---- items one after another
 
-module _ (inside : Site → Built → Walk Built) (tables : Tables) (site : Site) (names : Names)
+module _ (inside : Site → Built → Walk Built) (tables : SharedTables) (site : Site) (names : Names)
     (taken : List (List ℕ)) (built : Built) where
   pub items_none : (items_from inside tables site names taken built []).end ≡ Ok built
   unfolding items_from
@@ -144,7 +144,7 @@ module _ (inside : Site → Built → Walk Built) (tables : Tables) (site : Site
     unfolding items_from
     items_more next h = rw h refl
 
-    pub items_broken : (s : Step)
+    pub items_broken : (s : WalkStep)
         → (item_walk inside tables site names taken built item).end ≡ Err s
         → (items_from inside tables site names taken built (item ∷ items)).end ≡ Err s
     unfolding items_from
@@ -152,14 +152,14 @@ module _ (inside : Site → Built → Walk Built) (tables : Tables) (site : Site
 
 -- ---- a name that is taken
 
-name_passes : {X : Type 0} (o : Option X) (a b c : Bool) (s t u v : Step) (x : X)
+name_passes : {X : Type 0} (o : Option X) (a b c : Bool) (s t u v : WalkStep) (x : X)
     → (found o s >>= λ y. ask a t >>= λ _. ask b u >>= λ _. ask c v >>= λ _. done y).end ≡ Ok x
     → a ≡ true
 name_passes None a b c s t u v x h = absurd (cc h)
 name_passes (Some y) true b c s t u v x h = refl
 name_passes (Some y) false b c s t u v x h = absurd (cc h)
 
-pub name_free : (tables : Tables) (around declared keys : List (List ℕ)) (instances : ℕ)
+pub name_free : (tables : SharedTables) (around declared keys : List (List ℕ)) (instances : ℕ)
     (i : InstanceTree) (m : ModuleTree)
     → (master_walk tables around (declared ++ keys) instances i).end ≡ Ok m
     → list_any (bytes_eq i.name) keys ≡ false

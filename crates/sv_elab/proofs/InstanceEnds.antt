@@ -11,11 +11,11 @@ use Rattle.sv_ast.specs.Tree.{ModuleTree}
 use Rattle.sv_ast.specs.Instances.{entry, all_items, module_named}
 use Rattle.sv_ast.specs.Parts.{declarations, most_levels}
 use Rattle.sv_flat.specs.Design.{SignalForm, ProcessForm}
-use Rattle.sv_elab_rules.specs.Walks.{Step, Walk, ask, done, found, then_walk, ◌>>=◌}
+use Rattle.sv_elab_rules.specs.Walks.{WalkStep, Walk, ask, done, found, then_walk, ◌>>=◌}
 use Rattle.sv_elab_rules.specs.Rules.{unknown_module, twice, recursive, too_many}
 use Rattle.sv_elab_rules.specs.Names.{Names, names_of}
 use Rattle.sv_elab_rules.specs.Declarations.{Site, Declared, nothing_declared, declarations_walk}
-use Rattle.sv_elab_rules.specs.LabelSteps.{Tables, labels_walk}
+use Rattle.sv_elab_rules.specs.LabelSteps.{SharedTables, labels_walk}
 use Rattle.sv_elab_rules.specs.Overrides.{overrides_walk}
 use Rattle.sv_elab_rules.specs.Links.{Ports, links_walk}
 use Rattle.sv_elab_rules.specs.InstanceSteps.{Built, ports_of, instance_walk, instance_names, item_walk}
@@ -27,12 +27,12 @@ use Rattle.sv_elab_decl.specs.Sites.{SameSite, header_items}
 use Rattle.sv_elab_decl.proofs.SameSites.{same_walk, same_until}
 use Rattle.sv_elab.specs.Instances.{master_walk, set_up_walk, Opened, opened_walk, nothing_built}
 use Rattle.sv_elab.specs.Instances.{top_site}
-use Rattle.sv_elab.specs.Nests.{Nesting, entered, site_at}
+use Rattle.sv_elab.specs.Nests.{InstanceNesting, entered, site_at}
 
 -- ---- the walk of items asks of a site where it stands alone
 
-module _ (inside : Site → Built → Walk Built) (tables : Tables) (site other : Site) (names : Names)
-    (path : site.path ≡ other.path) (around : site.around ≡ other.around) where
+module _ (inside : Site → Built → Walk Built) (tables : SharedTables) (site other : Site)
+    (names : Names) (path : site.path ≡ other.path) (around : site.around ≡ other.around) where
   instance_there : (taken : List (List ℕ)) (built : Built) (i : InstanceTree)
       → instance_walk inside tables site names taken built i ≡
       instance_walk inside tables other names taken built i
@@ -69,7 +69,7 @@ module _ (inside : Site → Built → Walk Built) (tables : Tables) (site other 
 
 -- ---- steps taken together
 
-four_joined : {X Y : Type 0} (o : Option X) (a b c : Bool) (s t u v : Step) (more : X → Walk Y)
+four_joined : {X Y : Type 0} (o : Option X) (a b c : Bool) (s t u v : WalkStep) (more : X → Walk Y)
     → (found o s >>= λ x. ask a t >>= λ _. ask b u >>= λ _. ask c v >>= λ _. more x).end
     ≡ ((found o s >>= λ x. ask a t >>= λ _. ask b u >>= λ _. ask c v >>= λ _. done x) >>= more).end
 four_joined None a b c s t u v more = refl
@@ -83,13 +83,13 @@ two_joined : {A B C D : Type 0} (w : Walk A) (v : A → Walk B) (f : A → B →
     >>= more).end
 two_joined {A} {B} {C} {D} w v f more = by_first w.end
   where
-    by_first : (r : Result A Step)
+    by_first : (r : Result A WalkStep)
         → (then_walk w.passed r (λ a. v a >>= λ b. more (f a b))).end
         ≡ (then_walk w.passed r (λ a. v a >>= λ b. done (f a b)) >>= more).end
     by_first (Err s) = refl
     by_first (Ok a) = by_second (v a).end
       where
-        by_second : (r : Result B Step)
+        by_second : (r : Result B WalkStep)
             → (then_walk (v a).passed r (λ b. more (f a b))).end
             ≡ (then_walk (w.passed ++ (then_walk (v a).passed r (λ b. done (f a b))).passed)
             (then_walk (v a).passed r (λ b. done (f a b))).end more).end
@@ -101,13 +101,14 @@ pub same_after : {X Y : Type 0} (w : Walk X) (f g : X → Walk Y) → ((x : X) �
     → (w >>= f).end ≡ (w >>= g).end
 same_after {X} {Y} w f g same = by w.end
   where
-    by : (r : Result X Step) → (then_walk w.passed r f).end ≡ (then_walk w.passed r g).end
+    by : (r : Result X WalkStep) → (then_walk w.passed r f).end ≡ (then_walk w.passed r g).end
     by (Ok x) = same x
     by (Err s) = refl
 
 -- ---- all of one instance
 
-module _ (inside : Site → Built → Walk Built) (tables : Tables) (site : Site) (built : Built) where
+module _ (inside : Site → Built → Walk Built) (tables : SharedTables) (site : Site)
+    (built : Built) where
   pub module_ends : (module_walk inside tables site built).end
       ≡ (opened_walk tables site built >>= λ (o : Opened).
       items_from inside tables site o.names o.taken o.built site.master.items).end
@@ -125,7 +126,7 @@ module _ (inside : Site → Built → Walk Built) (tables : Tables) (site : Site
       (λ o. items_from inside tables site o.names o.taken o.built site.master.items)
 
 -- sites that declare the same have the same ports, and open the same
-module _ (tables : Tables) (s t : Site) (same : SameSite s t) where
+module _ (tables : SharedTables) (s t : Site) (same : SameSite s t) where
   pub ports_same : (base : ℕ) → ports_of tables.least s base ≡ ports_of tables.least t base
   unfolding ports_of
   ports_same base = λ j. record {
@@ -158,7 +159,7 @@ module _ (tables : Tables) (s t : Site) (same : SameSite s t) where
         (all_items m))) same.master
 
 -- a header that breaks a rule opens nothing
-pub header_unopened : (tables : Tables) (site : Site) (built : Built) (s : Step)
+pub header_unopened : (tables : SharedTables) (site : Site) (built : Built) (s : WalkStep)
     → (declarations_walk (length built.signals) tables.least site nothing_declared
     (header_items site.master)).end ≡ Err s
     → (opened_walk tables site built).end ≡ Err s
@@ -174,7 +175,7 @@ header_unopened tables site built s h =
     end_broken all _ s stops
 
 -- the same, from a site that declares the same
-module _ (inside : Site → Built → Walk Built) (tables : Tables) (site there : Site)
+module _ (inside : Site → Built → Walk Built) (tables : SharedTables) (site there : Site)
     (same : SameSite site there) (built : Built) where
   items_of : Opened → Walk Built
   items_of o = items_from inside tables site o.names o.taken o.built site.master.items
@@ -186,7 +187,7 @@ module _ (inside : Site → Built → Walk Built) (tables : Tables) (site there 
       module_ends inside tables site built
       ∙ ap (λ (w : Walk Opened). (w >>= items_of).end) (opened_same tables site there same built)
 
-  pub opened_stops : (s : Step) → (opened_walk tables there built).end ≡ Err s →
+  pub opened_stops : (s : WalkStep) → (opened_walk tables there built).end ≡ Err s →
       (module_walk inside tables site built).end ≡ Err s
   opened_stops s h = ends_there ∙ end_broken (opened_walk tables there built) items_of s h
 
@@ -206,16 +207,17 @@ module _ (inside : Site → Built → Walk Built) (tables : Tables) (site there 
       (items_from inside tables other o.names o.taken o.built m.items).end) same.master)
 
 -- a level of instances more
-levels_more : (n levels : ℕ) → n ≡ suc levels → (tables : Tables) (site : Site) (built : Built)
+levels_more : (n levels : ℕ) → n ≡ suc levels
+    → (tables : SharedTables) (site : Site) (built : Built)
     → site_walk n tables site built ≡ module_walk (site_walk levels tables) tables site built
 unfolding site_walk
 levels_more n levels e tables site built = ap (λ k. site_walk k tables site built) e
 
 -- ---- an instance in another one
 
-module _ (tables : Tables) (names : Names) (taken : List (List ℕ)) (built : Built)
+module _ (tables : SharedTables) (names : Names) (taken : List (List ℕ)) (built : Built)
     (i : InstanceTree)
-    (nest : Nesting) (n : ℕ) where
+    (nest : InstanceNesting) (n : ℕ) where
   next : ModuleTree → List (List ℕ × Number) → Site
   next m set =
       record {
@@ -256,7 +258,7 @@ module _ (tables : Tables) (names : Names) (taken : List (List ℕ)) (built : Bu
       (too_many i.place)
       setting
 
-  pub master_broken : (s : Step)
+  pub master_broken : (s : WalkStep)
       → (master_walk tables nest.around taken built.instances i).end ≡ Err s
       → (instance_walk (site_walk n tables) tables (site_at nest) names taken built i).end ≡ Err s
   unfolding the_walk the_master
@@ -316,7 +318,7 @@ module _ (tables : Tables) (names : Names) (taken : List (List ℕ)) (built : Bu
         (λ set. placing set >>= own_items) linking_is
         ∙ sym (joined_ends (overrides_walk names m i.overrides) placing own_items)
 
-    pub set_up_broken : (s : Step) → (set_up_walk tables names path m built i).end ≡ Err s
+    pub set_up_broken : (s : WalkStep) → (set_up_walk tables names path m built i).end ≡ Err s
         → (instance_walk (site_walk n tables) tables (site_at nest) names taken built i).end ≡ Err s
     unfolding the_walk
     set_up_broken s h =
@@ -333,8 +335,8 @@ module _ (tables : Tables) (names : Names) (taken : List (List ℕ)) (built : Bu
 -- ---- the top
 
 -- a header that breaks a rule, at a site that declares the same
-pub header_stops : (tables : Tables) (site there : Site) → SameSite site there
-    → (built : Built) (s : Step)
+pub header_stops : (tables : SharedTables) (site there : Site) → SameSite site there
+    → (built : Built) (s : WalkStep)
     → (declarations_walk (length built.signals) tables.least there nothing_declared
     (header_items there.master)).end ≡ Err s
     → (opened_walk tables site built).end ≡ Err s
@@ -342,7 +344,7 @@ header_stops tables site there same built s h =
     ap (λ (w : Walk Opened). w.end) (opened_same tables site there same built)
     ∙ header_unopened tables there built s h
 
-module _ (tables : Tables) (m : ModuleTree) where
+module _ (tables : SharedTables) (m : ModuleTree) where
   around_top : Site
   around_top = record { path = []; around = m.name ∷ []; master = m; set = [] }
 
@@ -362,7 +364,7 @@ module _ (tables : Tables) (m : ModuleTree) where
       })
       (record { signals = []; processes = []; instances = 1 }))
 
-  pub top_broken : (s : Step) → (opened_walk tables (top_site m) nothing_built).end ≡ Err s
+  pub top_broken : (s : WalkStep) → (opened_walk tables (top_site m) nothing_built).end ≡ Err s
       → (top_walk tables m).end ≡ Err s
   top_broken s h =
       top_module ∙ opened_stops (site_walk 1024 tables) tables around_top (top_site m) same_top

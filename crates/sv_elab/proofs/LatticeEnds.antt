@@ -17,9 +17,10 @@ use Rattle.sv_lattice.specs.declared.points.LatticeFault.TheVariants.{Size, Unkn
 use Rattle.sv_lattice.specs.declared.points.LatticeFault.TheVariants.{NoMeet}
 use Rattle.sv_lattice.proofs.BoundLemmas.{turned_round, apart_along, join_along, meet_along}
 use Rattle.sv_lattice.proofs.OrderLemmas.{same_meets}
-use Rattle.sv_elab_rules.specs.Walks.{Step, Steps, Walk, done, ◌>>=◌}
+use Rattle.sv_elab_rules.specs.Walks.{WalkStep, Steps, Walk, done, ◌>>=◌}
 use Rattle.sv_elab_rules.specs.Rules.{circle, no_join, no_meet}
-use Rattle.sv_elab_rules.specs.Lattices.{Order, are_apart, have_join, flowing_to, turned, table_of}
+use Rattle.sv_elab_rules.specs.Lattices.{PointOrder, are_apart, have_join, flowing_to, turned}
+use Rattle.sv_elab_rules.specs.Lattices.{table_of}
 use Rattle.sv_elab_rules.specs.Lattices.{pair_steps, order_steps, checked_order}
 use Rattle.sv_elab_rules.proofs.LatticeLemmas.{table_is_exact}
 use Rattle.sv_elab_rules.proofs.WalkLemmas.{end_after, end_broken}
@@ -108,7 +109,7 @@ module _ (table : List ℕ) (pairs : List (ℕ × ℕ))
 
 module _ (p : Place) (points : List (List ℕ)) (pairs : List (ℕ × ℕ)) (table : List ℕ)
     (size : length table ≡ length points) (of_pairs : IsTableOf (length table) pairs table) where
-  abbrev pub order : Order
+  abbrev pub order : PointOrder
   order = record { points = points; table = table }
 
   apart_same : EachPair (length points) (λ a b.
@@ -161,16 +162,16 @@ module _ (p : Place) (points : List (List ℕ)) (pairs : List (ℕ × ℕ)) (tab
       (HasMeet (length points) (Flows pairs)) meet_same
 
   -- the three, one after another
-  stop : (s : Step) → (aparts >>= λ _. joins >>= λ _. meets).end ≡ Err s →
+  stop : (s : WalkStep) → (aparts >>= λ _. joins >>= λ _. meets).end ≡ Err s →
       (checked_order p order).end ≡ Err s
   stop s h =
-      ap (λ (w : Walk Order). w.end) three ∙ end_broken (aparts >>= λ _. joins >>= λ _. meets) (λ _.
-      done order) s h
+      ap (λ (w : Walk PointOrder). w.end) three
+      ∙ end_broken (aparts >>= λ _. joins >>= λ _. meets) (λ _. done order) s h
 
   pub lattice_done : IsLattice (length points) (Flows pairs) →
       (checked_order p order).end ≡ Ok order
   lattice_done lattice =
-      ap (λ (w : Walk Order). w.end) three
+      ap (λ (w : Walk PointOrder). w.end) three
       ∙ end_after (aparts >>= λ _. joins >>= λ _. meets) (λ _. done order) tt
       (end_after aparts (λ _. joins >>= λ _. meets) tt (apart_done lattice.apart)
       ∙ end_after joins (λ _. meets) tt (joins_done lattice.joins) ∙ meets_done lattice.meets)
@@ -208,7 +209,7 @@ module _ (p : Place) (points : List (List ℕ)) (pairs : List (ℕ × ℕ)) (tab
 
 module _ (p : Place) (points : List (List ℕ)) (pairs : List (ℕ × ℕ))
     (known : All (IsKnown (length points)) pairs) where
-  abbrev pub walked : Walk Order
+  abbrev pub walked : Walk PointOrder
   walked = checked_order p (record { points = points; table = table_of (length points) pairs })
 
   exact : IsTableOf (length points) pairs (table_of (length points) pairs)

@@ -14,7 +14,7 @@ use Rattle.sv_ast.specs.Scopes.{width_of}
 use Rattle.sv_ast.specs.Tree.{ExpressionTree, DeclarationTree, NamedLink, named_links}
 use Rattle.sv_ast.specs.Tree.{ordered_links}
 use Rattle.sv_flat.specs.Design.{TypedTree, port_in, port_out, ProcessForm}
-use Rattle.sv_elab_rules.specs.Walks.{Step, Walk, ask, done, found, ◌>>=◌}
+use Rattle.sv_elab_rules.specs.Walks.{WalkStep, Walk, ask, done, found, ◌>>=◌}
 use Rattle.sv_elab_rules.specs.Rules.{wrong_link, links_over}
 use Rattle.sv_elab_rules.specs.Names.{Names, place_of}
 use Rattle.sv_elab_rules.specs.ExpressionSteps.{expression_walk}
@@ -33,7 +33,7 @@ module _ (outer : Names) (ports : Ports) (d : DeclarationTree) (e : ExpressionTr
   unfolding input_link
   input_found v h = rw h refl
 
-  pub input_broken : (s : Step) → (expression_walk outer e (port_width ports d)).end ≡ Err s
+  pub input_broken : (s : WalkStep) → (expression_walk outer e (port_width ports d)).end ≡ Err s
       → (input_link outer ports d e).end ≡ Err s
   unfolding input_link
   input_broken s h = rw h refl
@@ -66,7 +66,7 @@ module _ (outer : Names) (ports : Ports) (d : DeclarationTree) (e : ExpressionTr
   unfolding optional_link
   optional_linked o is p h = rw (is, h) refl
 
-  pub optional_broken : (o : Option ExpressionTree) → o ≡ Some e → (s : Step)
+  pub optional_broken : (o : Option ExpressionTree) → o ≡ Some e → (s : WalkStep)
       → (link_walk outer ports d e).end ≡ Err s
       → (optional_link outer ports d o).end ≡ Err s
   unfolding optional_link
@@ -103,7 +103,7 @@ module _ (ports : Ports) (linked : List (List ℕ)) (p : Place) (n : List ℕ) w
 
 -- ---- links by name
 
-joined : {X Y : Type 0} (o : Option X) (b : Bool) (s t : Step) (more : X → Walk Y)
+joined : {X Y : Type 0} (o : Option X) (b : Bool) (s t : WalkStep) (more : X → Walk Y)
     → (found o s >>= λ x. ask b t >>= λ _. more x).end ≡
     ((found o s >>= λ x. ask b t >>= λ _. done x) >>= more).end
 joined None b s t more = refl
@@ -122,7 +122,7 @@ module _ (outer : Names) (ports : Ports) (linked : List (List ℕ)) (processes :
   by_port = joined (port_named ports.master l.name) (not (list_any (bytes_eq l.name) linked))
       (wrong_link l.place l.name) (wrong_link l.place l.name) next
 
-  pub named_port_broken : (s : Step) → (port_walk ports linked l.place l.name).end ≡ Err s
+  pub named_port_broken : (s : WalkStep) → (port_walk ports linked l.place l.name).end ≡ Err s
       → (named_links_walk outer ports linked processes (l ∷ ls)).end ≡ Err s
   named_port_broken s h = by_port ∙ end_broken (port_walk ports linked l.place l.name) next s h
 
@@ -139,7 +139,7 @@ module _ (outer : Names) (ports : Ports) (linked : List (List ℕ)) (processes :
         ≡ (named_links_walk outer ports (linked ++ l.name ∷ []) (processes ++ more) ls).end
     named_linked more h = to_link ∙ end_after (optional_link outer ports d l.value) _ more h
 
-    pub named_link_broken : (s : Step) → (optional_link outer ports d l.value).end ≡ Err s
+    pub named_link_broken : (s : WalkStep) → (optional_link outer ports d l.value).end ≡ Err s
         → (named_links_walk outer ports linked processes (l ∷ ls)).end ≡ Err s
     named_link_broken s h = to_link ∙ end_broken (optional_link outer ports d l.value) _ s h
 
@@ -170,7 +170,7 @@ module _ (outer : Names) (ports : Ports) (processes : List ProcessForm) where
     unfolding ordered_links_walk
     ordered_linked p h = rw h refl
 
-    pub ordered_broken : (s : Step) → (link_walk outer ports d e).end ≡ Err s
+    pub ordered_broken : (s : WalkStep) → (link_walk outer ports d e).end ≡ Err s
         → (ordered_links_walk outer ports (d ∷ free) processes (e ∷ es)).end ≡ Err s
     unfolding ordered_links_walk
     ordered_broken s h = rw h refl

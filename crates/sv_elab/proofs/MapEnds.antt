@@ -14,7 +14,7 @@ use Rattle.sv_lattice.specs.declared.points.Point.{Point}
 use Rattle.sv_lattice.specs.Maps.{MapRows, IsMap}
 use Rattle.sv_ast.specs.Tree.{MapTree, SpanTree}
 use Rattle.sv_ast.specs.Instances.{span_width}
-use Rattle.sv_elab_rules.specs.Walks.{Step, Walk, ask, done, ◌>>=◌}
+use Rattle.sv_elab_rules.specs.Walks.{WalkStep, Walk, ask, done, ◌>>=◌}
 use Rattle.sv_elab_rules.specs.Rules.{map_name, map_row, map_hole}
 use Rattle.sv_elab_rules.specs.CaseChains.{numbers_below}
 use Rattle.sv_elab_rules.specs.LabelMaps.{no_names, is_map_range, is_second_range, point_at, rows_walk}
@@ -160,7 +160,7 @@ module _ (points : List (List ℕ)) (t : MapTree) where
   ranged h = rw h refl
 
   module _ (has : has_ranges t ≡ true) where
-    pub rows_broken : (s : Step) →
+    pub rows_broken : (s : WalkStep) →
         (rows_walk points t (first_width t) (second_width t) [] t.rows).end ≡ Err s →
         (own_walk points t).end ≡ Err s
     unfolding the_rows
@@ -169,7 +169,7 @@ module _ (points : List (List ℕ)) (t : MapTree) where
     module _ (rows : List (ℕ × ℕ))
         (rows_are : (rows_walk points t (first_width t) (second_width t) [] t.rows).end ≡
         Ok rows) where
-      pub other_stops : (s : Step) → (default_walk points t t.other).end ≡ Err s →
+      pub other_stops : (s : WalkStep) → (default_walk points t t.other).end ≡ Err s →
           (own_walk points t).end ≡ Err s
       unfolding the_rows rest
       other_stops s h =
@@ -231,7 +231,7 @@ module _ (points : List (List ℕ)) (maps : List (List ℕ × MapRows)) (t : Map
       ∙ end_after new (λ _.
       own_walk points t >>= more) tt (ap (λ b. (ask (not b) (map_name t.place t.name)).end) h)
 
-  pub own_broken : is_map maps t.name ≡ false → (s : Step) → (own_walk points t).end ≡ Err s →
+  pub own_broken : is_map maps t.name ≡ false → (s : WalkStep) → (own_walk points t).end ≡ Err s →
       (maps_walk points maps (t ∷ ts)).end ≡ Err s
   own_broken h s e =
       own_next h ∙ end_broken (own_walk points t) (λ rows.
@@ -252,19 +252,19 @@ maps_none points maps = refl
 -- ---- the whole map, as the code makes it
 
 module _ (points : List (List ℕ)) (t : MapTree) (r : Ranges) (has : HasWidths t r) where
-  rows_at : (end : Result (List (ℕ × ℕ)) Step)
+  rows_at : (end : Result (List (ℕ × ℕ)) WalkStep)
       → (rows_walk points t r.first r.second [] t.rows).end ≡ end
       → (rows_walk points t (first_width t) (second_width t) [] t.rows).end ≡ end
   rows_at end h =
       ap (λ n. (rows_walk points t n (second_width t) [] t.rows).end) (sym has.1)
       ∙ ap (λ o. (rows_walk points t r.first o [] t.rows).end) (sym has.2) ∙ h
 
-  pub rows_stop : (s : Step) → (rows_walk points t r.first r.second [] t.rows).end ≡ Err s →
+  pub rows_stop : (s : WalkStep) → (rows_walk points t r.first r.second [] t.rows).end ≡ Err s →
       (own_walk points t).end ≡ Err s
   rows_stop s h = rows_broken points t has.0 s (rows_at (Err s) h)
 
   module _ (table : List (Option Point)) (filled : AreFilled points t r.first r.second table) where
-    pub other_stop : (s : Step) → (default_walk points t t.other).end ≡ Err s →
+    pub other_stop : (s : WalkStep) → (default_walk points t t.other).end ≡ Err s →
         (own_walk points t).end ≡ Err s
     other_stop s h = other_stops points t has.0 filled.0 (rows_at (Ok filled.0) filled.1) s h
 

@@ -11,7 +11,7 @@ use Rattle.indexmap.specs.IndexSet.{insert_key}
 use Rattle.sv_num.specs.declared.faults.Place.{Place}
 use Rattle.sv_ast.specs.Tree.{PlacedName}
 use Rattle.sv_ast.specs.Views.{placed_name, pair_tree}
-use Rattle.sv_elab_rules.specs.Walks.{Step}
+use Rattle.sv_elab_rules.specs.Walks.{WalkStep}
 use Rattle.sv_elab_rules.specs.Rules.{lattice_name}
 use Rattle.sv_elab_rules.specs.Lattices.{Question, is_point, point_questions, pair_questions}
 use Rattle.sv_elab.specs.Earliest.{broken_step, earlier, earliest, names_of}
@@ -61,7 +61,7 @@ questions_along xs ys same (p ∷ ps) =
 abbrev pub point_question : (keys : List (List ℕ)) → List ℕ → Place → Question
 point_question keys n p = record { holds = not (is_point keys n); step = lattice_name p n }
 
-pub wrong_more : (w : Option Step) (keys : List (List ℕ)) (x : List ℕ
+pub wrong_more : (w : Option WalkStep) (keys : List (List ℕ)) (x : List ℕ
     × Place) (xs : List (List ℕ × Place))
     → earlier (earlier w (broken_step (point_question keys x.0 x.1)))
     (earliest (point_questions (insert_key bytes_eq keys x.0) (map placed_name xs)))
@@ -87,11 +87,11 @@ known_step keys n x xs =
     ap (λ (b : Bool). b || is_point (names_of xs) n) (known_more keys x.0 n)
     ∙ or_mid (is_point keys n) (bytes_eq n x.0) (is_point (names_of xs) n)
 
-none_parts : (w : Option Step) (q : Question) → earlier w (broken_step q) ≡ None →
+none_parts : (w : Option WalkStep) (q : Question) → earlier w (broken_step q) ≡ None →
     (w ≡ None) × (q.holds ≡ true)
 none_parts w q h = by w q.holds refl h
   where
-    by : (v : Option Step) (b : Bool) → q.holds ≡ b
+    by : (v : Option WalkStep) (b : Bool) → q.holds ≡ b
         → earlier v (if b then None else Some q.step) ≡ None
         → (v ≡ None) × (q.holds ≡ true)
     by None true e k = (refl, e)
@@ -107,7 +107,7 @@ fresh keys m h = by (is_point keys m) h
     by true k = absurd (cc k)
     by false k = refl
 
-pub all_step : (w : Option Step) (keys all : List (List ℕ)) (x : List ℕ
+pub all_step : (w : Option WalkStep) (keys all : List (List ℕ)) (x : List ℕ
     × Place) (xs : List (List ℕ × Place))
     → (w ≡ None → keys ++ names_of (x ∷ xs) ≡ all)
     → earlier w (broken_step (point_question keys x.0 x.1)) ≡ None
@@ -130,14 +130,14 @@ left_none [] (suc i) h = refl
 left_none (x ∷ xs) zero h = absurd (omega arith)
 left_none (x ∷ xs) (suc i) h = left_none xs i (omega arith)
 
-pub earlier_none : (w : Option Step) → earlier w None ≡ w
+pub earlier_none : (w : Option WalkStep) → earlier w None ≡ w
 earlier_none None = refl
 earlier_none (Some s) = refl
 
 -- ---- loops
 
 -- what was found and known, with what is left, is as of all points
-pub record NamesLeft (points : List (List ℕ × Place)) (w : Option Step) (keys : List (List ℕ))
+pub record NamesLeft (points : List (List ℕ × Place)) (w : Option WalkStep) (keys : List (List ℕ))
     (rest : List (List ℕ × Place)) : Type 0 where
   pub wrong : earlier w (earliest (point_questions keys (map placed_name rest))) ≡
       earliest (point_questions [] (map placed_name points))
@@ -145,7 +145,7 @@ pub record NamesLeft (points : List (List ℕ × Place)) (w : Option Step) (keys
       (is_point keys n || is_point (names_of rest) n) ≡ is_point (names_of points) n
   pub all : w ≡ None → keys ++ names_of rest ≡ names_of points
 
-pub next_left : (points : List (List ℕ × Place)) (w : Option Step) (keys : List (List ℕ))
+pub next_left : (points : List (List ℕ × Place)) (w : Option WalkStep) (keys : List (List ℕ))
     (x : List ℕ × Place) (xs : List (List ℕ × Place))
     → NamesLeft points w keys (x ∷ xs)
     → NamesLeft points (earlier w (broken_step (point_question keys x.0 x.1)))
@@ -157,7 +157,7 @@ next_left points w keys x xs left = record {
 }
 
 -- both names of a pair
-pub pair_more : (w : Option Step) (keys : List (List ℕ)) (x : List ℕ × Place × List ℕ
+pub pair_more : (w : Option WalkStep) (keys : List (List ℕ)) (x : List ℕ × Place × List ℕ
     × Place) (xs : List (List ℕ × Place × List ℕ × Place))
     → earlier (earlier (earlier w
     (broken_step (record { holds = is_point keys x.0; step = lattice_name x.1 x.0 })))

@@ -9,10 +9,10 @@ use Rattle.sv_ast.specs.Tree.{LinkTrees}
 use Rattle.sv_ast.specs.Instances.{entry, all_items}
 use Rattle.sv_ast.specs.Parts.{declarations}
 use Rattle.sv_flat.specs.Design.{SignalForm, ProcessForm}
-use Rattle.sv_elab_rules.specs.Walks.{Step}
+use Rattle.sv_elab_rules.specs.Walks.{WalkStep}
 use Rattle.sv_elab_rules.specs.Names.{Names, names_of}
 use Rattle.sv_elab_rules.specs.Declarations.{Site, Declared, nothing_declared, declarations_walk}
-use Rattle.sv_elab_rules.specs.LabelSteps.{Tables, labels_walk}
+use Rattle.sv_elab_rules.specs.LabelSteps.{SharedTables, labels_walk}
 use Rattle.sv_elab_rules.specs.InstanceSteps.{Built, ports_of}
 use Rattle.sv_elab_rules.specs.Links.{Ports, links_walk}
 use Rattle.sv_elab_rules.proofs.WalkLemmas.{end_after, end_broken}
@@ -23,9 +23,9 @@ use Rattle.sv_elab_decl.specs.Steps.{HasHeader}
 use Rattle.sv_elab_decl.proofs.NameLemmas.{bindings_same}
 use Rattle.sv_elab.specs.Instances.{opened_walk, linked_walk, ports_with}
 
-module _ (tables : Tables) (site : Site) (built : Built) (base : ℕ)
+module _ (tables : SharedTables) (site : Site) (built : Built) (base : ℕ)
     (sized : length built.signals ≡ base) where
-  pub bodies_broken : (s : Step)
+  pub bodies_broken : (s : WalkStep)
       → (declarations_walk base tables.least site nothing_declared (all_items site.master)).end ≡
       Err s
       → (opened_walk tables site built).end ≡ Err s
@@ -34,7 +34,7 @@ module _ (tables : Tables) (site : Site) (built : Built) (base : ℕ)
   module _ (d : Declared)
       (declared : (declarations_walk base tables.least site nothing_declared
       (all_items site.master)).end ≡ Ok d) where
-    pub labels_broken : (s : Step)
+    pub labels_broken : (s : WalkStep)
         → (labels_walk tables (names_of base d.bindings) (declarations site.master) d.signals).end ≡
         Err s
         → (opened_walk tables site built).end ≡ Err s
@@ -79,14 +79,14 @@ ports_are base least site known names =
 -- the links, and then the header
 module _ (outer : Names) (least : ℕ) (site : Site) (base : ℕ) (processes : List ProcessForm)
     (ls : LinkTrees) where
-  pub linked_broken : (s : Step)
+  pub linked_broken : (s : WalkStep)
       → (links_walk outer (ports_of least site base) processes ls).end ≡ Err s
       → (linked_walk outer least site base processes ls).end ≡ Err s
   linked_broken s h = end_broken (links_walk outer (ports_of least site base) processes ls) _ s h
 
   pub header_broken : (ps : List ProcessForm)
       → (links_walk outer (ports_of least site base) processes ls).end ≡ Ok ps
-      → (s : Step) → (declarations_walk base least site nothing_declared
+      → (s : WalkStep) → (declarations_walk base least site nothing_declared
       (header_items site.master)).end ≡ Err s
       → (linked_walk outer least site base processes ls).end ≡ Err s
   header_broken ps h s k =

@@ -5,7 +5,7 @@ use Rattle.std.specs.Prelude.{Result, Ok, Err, flat_map, slice_index_or}
 use Rattle.std.specs.List.{range_with_len}
 use Rattle.std.proofs.lemmas.Bool.{cases_eq, false_from_ne_true}
 use Rattle.sv_lattice.specs.Flows.{EachPair, IsFirstWithout}
-use Rattle.sv_elab_rules.specs.Walks.{Step, Steps, ask, each, then_walk}
+use Rattle.sv_elab_rules.specs.Walks.{WalkStep, Steps, ask, each, then_walk}
 use Rattle.sv_elab_rules.specs.CaseChains.{numbers_below}
 use Rattle.sv_elab_rules.specs.Lattices.{pair_steps}
 use Rattle.sv_elab_rules.proofs.WalkLemmas.{end_after, end_broken}
@@ -17,7 +17,8 @@ module _ {X : Type 0} (f : X → Steps) where
   unfolding each
   each_after x xs h = end_after (f x) (λ _. each f xs) tt h
 
-  each_broken : (x : X) (xs : List X) (s : Step) → (f x).end ≡ Err s → (each f (x ∷ xs)).end ≡ Err s
+  each_broken : (x : X) (xs : List X) (s : WalkStep) → (f x).end ≡ Err s
+      → (each f (x ∷ xs)).end ≡ Err s
   unfolding each
   each_broken x xs s h = end_broken (f x) (λ _. each f xs) s h
 
@@ -31,20 +32,20 @@ module _ {X : Type 0} (f : X → Steps) where
   append_after [] ys h = refl
   append_after (x ∷ xs) ys h = by (f x).end refl h (λ k. append_after xs ys k)
     where
-      by : (r : Result (Unit {0}) Step) → (f x).end ≡ r
+      by : (r : Result (Unit {0}) WalkStep) → (f x).end ≡ r
           → (then_walk (f x).passed r (λ _. each f xs)).end ≡ Ok tt
           → ((each f xs).end ≡ Ok tt → (each f (xs ++ ys)).end ≡ (each f ys).end)
           → (each f (x ∷ (xs ++ ys))).end ≡ (each f ys).end
       by (Ok u) e k rest = each_after x (xs ++ ys) e ∙ rest k
       by (Err s) e k rest = absurd (cc k)
 
-  append_broken : (xs ys : List X) (s : Step) → (each f xs).end ≡ Err s →
+  append_broken : (xs ys : List X) (s : WalkStep) → (each f xs).end ≡ Err s →
       (each f (xs ++ ys)).end ≡ Err s
   unfolding each
   append_broken [] ys s h = absurd (cc h)
   append_broken (x ∷ xs) ys s h = by (f x).end refl h (λ k. append_broken xs ys s k)
     where
-      by : (r : Result (Unit {0}) Step) → (f x).end ≡ r
+      by : (r : Result (Unit {0}) WalkStep) → (f x).end ≡ r
           → (then_walk (f x).passed r (λ _. each f xs)).end ≡ Err s
           → ((each f xs).end ≡ Err s → (each f (xs ++ ys)).end ≡ Err s)
           → (each f (x ∷ (xs ++ ys))).end ≡ Err s
@@ -61,7 +62,7 @@ module _ {X : Type 0} (f : X → Steps) where
         each_after (g c) (map g (range_with_len (c + 1) m)) (h c (omega arith) (omega arith))
         ∙ row_done (c + 1) m (λ b p q. h b (omega arith) (omega arith))
 
-    pub row_broken : (c m b : ℕ) (s : Step) → c ≤ b → b < c + m
+    pub row_broken : (c m b : ℕ) (s : WalkStep) → c ≤ b → b < c + m
         → ((j : ℕ) → c ≤ j → j < b → (f (g j)).end ≡ Ok tt)
         → (f (g b)).end ≡ Err s → (each f (map g (range_with_len c m))).end ≡ Err s
     row_broken c zero b s p q before h = absurd (omega arith)
@@ -89,7 +90,7 @@ module _ {X : Type 0} (f : X → Steps) where
         append_after (g c) (flat_map g (range_with_len (c + 1) m)) (h c (omega arith) (omega arith))
         ∙ rows_done (c + 1) m (λ a p q. h a (omega arith) (omega arith))
 
-    pub rows_broken : (c m a : ℕ) (s : Step) → c ≤ a → a < c + m
+    pub rows_broken : (c m a : ℕ) (s : WalkStep) → c ≤ a → a < c + m
         → ((j : ℕ) → c ≤ j → j < a → (each f (g j)).end ≡ Ok tt)
         → (each f (g a)).end ≡ Err s → (each f (flat_map g (range_with_len c m))).end ≡ Err s
     rows_broken c zero a s p q before h = absurd (omega arith)
@@ -109,13 +110,13 @@ module _ {X : Type 0} (f : X → Steps) where
 
 -- ---- pairs of points
 
-asked_ok : (b : Bool) (s : Step) → b ≡ true → (ask b s).end ≡ Ok tt
+asked_ok : (b : Bool) (s : WalkStep) → b ≡ true → (ask b s).end ≡ Ok tt
 asked_ok b s h = rw h refl
 
-asked_err : (b : Bool) (s : Step) → b ≡ false → (ask b s).end ≡ Err s
+asked_err : (b : Bool) (s : WalkStep) → b ≡ false → (ask b s).end ≡ Err s
 asked_err b s h = rw h refl
 
-module _ (test : ℕ → ℕ → Bool) (broken : (a b : List ℕ) → Step) (points : List (List ℕ))
+module _ (test : ℕ → ℕ → Bool) (broken : (a b : List ℕ) → WalkStep) (points : List (List ℕ))
     (Q : ℕ → ℕ → Type 0) (same : EachPair (length points) (λ a b. (test a b ≡ true) ↔ Q a b)) where
   step_of : ℕ × ℕ → Steps
   step_of pair =

@@ -20,8 +20,8 @@ use Rattle.sv_flat.specs.Views.{invariant_form}
 use Rattle.sv_flat.specs.declared.expressions.FExpr.{FExpr}
 use Rattle.sv_elab_rules.specs.InstanceSteps.{Built}
 use Rattle.sv_elab_rules.specs.LabelMaps.{maps_walk}
-use Rattle.sv_elab_rules.specs.LabelSteps.{Tables}
-use Rattle.sv_elab_rules.specs.Lattices.{Order, lattice_walk, least_point}
+use Rattle.sv_elab_rules.specs.LabelSteps.{SharedTables}
+use Rattle.sv_elab_rules.specs.Lattices.{PointOrder, lattice_walk, least_point}
 use Rattle.sv_elab_rules.specs.Rules.{no_top}
 use Rattle.sv_elab_rules.specs.Texts.{module_names, top_walk, tables_of, design_of, walk_of}
 use Rattle.sv_elab_rules.specs.Walks.{found}
@@ -62,10 +62,10 @@ maps_few text points ts all maps h few =
 
 -- ---- tables
 
-pub tables_same : (order : Order) (maps : List (List ℕ × MapRows)) (all ms : List Module)
+pub tables_same : (order : PointOrder) (maps : List (List ℕ × MapRows)) (all ms : List Module)
     (points : List (List ℕ)) (least : ℕ)
     → ms ≡ all → points ≡ order.points → least ≡ least_point order.table
-    → ◌≡◌ {A = Tables} (record {
+    → ◌≡◌ {A = SharedTables} (record {
       modules = map module_tree ms;
       points = points;
       least = least;
@@ -81,7 +81,7 @@ tables_same order maps all ms points least modules_are points_are least_is =
       maps = map (λ (m : List ℕ × MapRows). m.1) maps;
     }
 
-pub design_same : (order : Order) (maps : List (List ℕ × MapRows)) (modules : List ModuleTree)
+pub design_same : (order : PointOrder) (maps : List (List ℕ × MapRows)) (modules : List ModuleTree)
     (built : Built) (table : List ℕ) (points : List (List ℕ)) (all : List MapRows)
     (facts : List (Place × FExpr))
     → table ≡ order.table → points ≡ order.points
@@ -114,7 +114,8 @@ module _ (text : Text) (top : Option (List ℕ)) where
       → whole f
   lattice_breach f = breach_on f _ _ (lattice_broken (text_tree text) top)
 
-  module _ (order : Order) (ordered : (lattice_walk (text_tree text).lattice).end ≡ Ok order) where
+  module _ (order : PointOrder)
+      (ordered : (lattice_walk (text_tree text).lattice).end ≡ Ok order) where
     pub maps_breach : (ts : List MapText) → ts ≡ text.maps.items → (f : Fault)
         → IsBreach (maps_walk order.points [] (map map_tree ts)).end f → whole f
     maps_breach ts all f =
@@ -139,7 +140,7 @@ module _ (text : Text) (top : Option (List ℕ)) where
 
 -- ---- behind the lattice and the maps
 
-module _ (text : Text) (top : Option (List ℕ)) (order : Order) (maps : List (List ℕ × MapRows))
+module _ (text : Text) (top : Option (List ℕ)) (order : PointOrder) (maps : List (List ℕ × MapRows))
   where
     pub names_breach : (ms : List Module) → ms ≡ text.modules.items → (f : Fault)
         → IsBreach (module_names [] (map module_tree ms)).end f
@@ -173,7 +174,8 @@ module _ (text : Text) (top : Option (List ℕ)) (order : Order) (maps : List (L
             (modules_shaped text text.modules.items refl shaped)
             (found_some (top_of (text_tree text).modules top) no_top m at_top)
 
-        pub built_at : (tables : Tables) → tables ≡ tables_of (text_tree text).modules order maps
+        pub built_at : (tables : SharedTables)
+            → tables ≡ tables_of (text_tree text).modules order maps
             → (modules_walk (text_tree text) top order maps).end ≡ (top_walk tables m).end
         built_at tables same =
             modules_end (text_tree text) top order maps at_names m at_top

@@ -4,9 +4,9 @@ use Rattle.std.specs.Prelude.{Ok, Err}
 use Rattle.sv_lattice.specs.Maps.{MapRows}
 use Rattle.sv_ast.specs.Tree.{ModuleTree, TextTree}
 use Rattle.sv_ast.specs.Instances.{top_module}
-use Rattle.sv_elab_rules.specs.Walks.{Step, Walk, done, found, ◌>>=◌}
+use Rattle.sv_elab_rules.specs.Walks.{WalkStep, Walk, done, found, ◌>>=◌}
 use Rattle.sv_elab_rules.specs.Rules.{no_top}
-use Rattle.sv_elab_rules.specs.Lattices.{Order, lattice_walk}
+use Rattle.sv_elab_rules.specs.Lattices.{PointOrder, lattice_walk}
 use Rattle.sv_elab_rules.specs.LabelMaps.{maps_walk}
 use Rattle.sv_elab_rules.specs.InstanceSteps.{Built}
 use Rattle.sv_elab_rules.specs.Texts.{module_names, top_walk, tables_of, design_of, walk_of}
@@ -23,13 +23,13 @@ three_joined w v g more =
     ∙ sym (joined_ends w (λ _. v >>= g) more)
 
 module _ (text : TextTree) (top : Option (List ℕ)) where
-  pub lattice_broken : (s : Step) → (lattice_walk text.lattice).end ≡ Err s →
+  pub lattice_broken : (s : WalkStep) → (lattice_walk text.lattice).end ≡ Err s →
       (walk_of text top).end ≡ Err s
   unfolding walk_of
   lattice_broken s h = rw h refl
 
-  module _ (order : Order) (ordered : (lattice_walk text.lattice).end ≡ Ok order) where
-    pub maps_broken : (s : Step) → (maps_walk order.points [] text.maps).end ≡ Err s →
+  module _ (order : PointOrder) (ordered : (lattice_walk text.lattice).end ≡ Ok order) where
+    pub maps_broken : (s : WalkStep) → (maps_walk order.points [] text.maps).end ≡ Err s →
         (walk_of text top).end ≡ Err s
     unfolding walk_of
     maps_broken s h = rw (ordered, h) refl
@@ -47,7 +47,7 @@ module _ (text : TextTree) (top : Option (List ℕ)) where
           (top_walk (tables_of text.modules order maps))
           (λ built. done (design_of order (tables_of text.modules order maps) built))
 
-      pub built_broken : (s : Step) → (modules_walk text top order maps).end ≡ Err s
+      pub built_broken : (s : WalkStep) → (modules_walk text top order maps).end ≡ Err s
           → (walk_of text top).end ≡ Err s
       built_broken s h = rest ∙ end_broken (modules_walk text top order maps) _ s h
 
@@ -56,13 +56,13 @@ module _ (text : TextTree) (top : Option (List ℕ)) where
           Ok (design_of order (tables_of text.modules order maps) built)
       text_end built h = rest ∙ end_after (modules_walk text top order maps) _ built h
 
-  module _ (order : Order) (maps : List (List ℕ × MapRows)) where
-    pub names_broken : (s : Step) → (module_names [] text.modules).end ≡ Err s →
+  module _ (order : PointOrder) (maps : List (List ℕ × MapRows)) where
+    pub names_broken : (s : WalkStep) → (module_names [] text.modules).end ≡ Err s →
         (modules_walk text top order maps).end ≡ Err s
     names_broken s h = rw h refl
 
     module _ (named : (module_names [] text.modules).end ≡ Ok tt) where
-      pub top_broken : (s : Step) → (found (top_module text.modules top) no_top).end ≡ Err s →
+      pub top_broken : (s : WalkStep) → (found (top_module text.modules top) no_top).end ≡ Err s →
           (modules_walk text top order maps).end ≡ Err s
       top_broken s h = rw (named, h) refl
 

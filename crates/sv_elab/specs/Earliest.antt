@@ -5,29 +5,29 @@ use Rattle.std.specs.Prelude.{ℕ, map, List, [], ◌∷◌, ◌++◌, Option, S
 use Rattle.std.specs.Prelude.{if◌then◌else◌}
 use Rattle.sv_num.specs.declared.faults.Place.{Place}
 use Rattle.sv_ast.specs.Tree.{LatticeTree}
-use Rattle.sv_elab_rules.specs.Walks.{Step, Steps, each}
+use Rattle.sv_elab_rules.specs.Walks.{WalkStep, Steps, each}
 use Rattle.sv_elab_rules.specs.Rules.{lattice_name}
 use Rattle.sv_elab_rules.specs.Lattices.{Question, stands_before, point_questions, pair_questions}
 use Rattle.sv_elab_rules.specs.Lattices.{point_names, in_textual_order, answered}
 use Rattle.sv_elab.specs.declared.wrong_names.WrongName.{WrongName}
 
 -- the step that is broken, if the question's answer is no
-abbrev pub broken_step : Question → Option Step
+abbrev pub broken_step : Question → Option WalkStep
 broken_step q = if q.holds then None else Some q.step
 
 -- of two steps, the one that stands first; the first one where they stand at one place
-abbrev pub earlier : Option Step → Option Step → Option Step
+abbrev pub earlier : Option WalkStep → Option WalkStep → Option WalkStep
 earlier None b = b
 earlier (Some a) None = Some a
 earlier (Some a) (Some b) = Some (if stands_before b.place a.place then b else a)
 
 -- the broken step of some questions that stands first
-abbrev pub earliest : List Question → Option Step
+abbrev pub earliest : List Question → Option WalkStep
 earliest [] = None
 earliest (q ∷ qs) = earlier (broken_step q) (earliest qs)
 
 -- a wrong name of a lattice as the step that it breaks
-abbrev pub name_step : Option WrongName → Option Step
+abbrev pub name_step : Option WrongName → Option WalkStep
 name_step w = option_map (λ (n : WrongName). lattice_name n.place n.name.now) w
 
 -- the names of declared points

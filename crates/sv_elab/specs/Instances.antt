@@ -17,20 +17,20 @@ use Rattle.sv_flat.specs.Design.{ProcessKind, combinational, clocked, ProcessFor
 use Rattle.sv_flat.specs.Views.{signal_form, process_form}
 use Rattle.sv_elab_rules.specs.Declarations.{Site, nothing_declared, declarations_walk}
 use Rattle.sv_elab_rules.specs.InstanceSteps as walk
-use Rattle.sv_elab_rules.specs.LabelSteps.{Tables, labels_walk}
+use Rattle.sv_elab_rules.specs.LabelSteps.{SharedTables, labels_walk}
 use Rattle.sv_elab_rules.specs.Links as links
 use Rattle.sv_elab_rules.specs.Names.{Names, names_of}
 use Rattle.sv_elab_rules.specs.Overrides.{overrides_walk}
 use Rattle.sv_elab_rules.specs.Rules.{unknown_name, unknown_module, twice, recursive, too_many}
 use Rattle.sv_elab_rules.specs.Rules.{wrong_link}
-use Rattle.sv_elab_rules.specs.Walks.{Step, Walk, ask, done, found, ◌>>=◌}
+use Rattle.sv_elab_rules.specs.Walks.{WalkStep, Walk, ask, done, found, ◌>>=◌}
 use Rattle.sv_width.specs.Scopes as scopes
 use Rattle.sv_width.specs.Scopes.{Known}
 use Rattle.sv_width.specs.declared.meanings.KnownSignal.{KnownSignal}
 use Rattle.sv_width.specs.declared.meanings.Meaning.TheVariants as meaning
 use Rattle.sv_elab_decl.specs.Sites.{header_items, tables_of}
 use Rattle.sv_elab.specs.Modules as modules
-use Rattle.sv_elab.specs.Nests.{Nesting, site_at}
+use Rattle.sv_elab.specs.Nests.{InstanceNesting, site_at}
 use Rattle.sv_elab.specs.declared.built.Built.{Built}
 use Rattle.sv_elab.specs.declared.instances.Interior.{Interior}
 use Rattle.sv_elab.specs.declared.links.Ports.{Ports}
@@ -87,11 +87,12 @@ port_walk ports linked place name = do
   done d
 
 -- the walk ends with processes, and these were put behind the others
-abbrev pub IsLinked : Result (List ProcessForm) Step → (old new : List ProcessForm) → Type 0
+abbrev pub IsLinked : Result (List ProcessForm) WalkStep → (old new : List ProcessForm) → Type 0
 IsLinked end old new = (more : List ProcessForm) × (end ≡ Ok more) × (new ≡ old ++ more)
 
 -- the module of an instance, its name, whether its module is around it, and the limit
-abbrev pub master_walk : Tables → (around taken : List (List ℕ)) → (instances : ℕ) → InstanceTree
+abbrev pub master_walk : SharedTables → (around taken : List (List ℕ)) → (instances : ℕ)
+    → InstanceTree
     → Walk ModuleTree
 master_walk tables around taken instances i = do
   m ← found (module_named tables.modules i.master) (unknown_module i.place i.master)
@@ -115,7 +116,7 @@ pub record Opened : Type 0 where
   pub built : walk.Built
 
 -- the signals of an instance with their labels, before its items
-abbrev pub opened_walk : Tables → Site → walk.Built → Walk Opened
+abbrev pub opened_walk : SharedTables → Site → walk.Built → Walk Opened
 opened_walk tables site built = do
   all ← declarations_walk (length built.signals) tables.least site nothing_declared
       (all_items site.master)
@@ -145,7 +146,7 @@ linked_walk outer least site base processes ls = do
   done more
 
 -- an instance whose module is known, up to its items: what it sets, its links, and its signals
-unfoldable pub set_up_walk : Tables → (outer : Names) → (path : List (List ℕ)) → ModuleTree
+unfoldable pub set_up_walk : SharedTables → (outer : Names) → (path : List (List ℕ)) → ModuleTree
     → walk.Built → InstanceTree → Walk Opened
 set_up_walk tables outer path m built i = do
   set ← overrides_walk outer m i.overrides
@@ -167,16 +168,16 @@ abbrev pub top_site : ModuleTree → Site
 top_site m = record { path = []; around = []; master = m; set = [] }
 
 -- where the walk of an item ends, from what the code has in hand
-abbrev pub item_end : (levels : ℕ) → Shared → Nesting → Interior → Built → ItemTree
-    → Result walk.Built Step
+abbrev pub item_end : (levels : ℕ) → Shared → InstanceNesting → Interior → Built → ItemTree
+    → Result walk.Built WalkStep
 item_end levels shared nest inside built item =
     (walk.item_walk (walk.site_walk levels (tables_of shared.tables)) (tables_of shared.tables)
     (site_at nest) (scopes.names_of inside.scope.now) (taken_in inside) (built_form built)
     item).end
 
 -- likewise an instance
-abbrev pub instance_end : (levels : ℕ) → Shared → Nesting → Interior → Built → InstanceTree
-    → Result walk.Built Step
+abbrev pub instance_end : (levels : ℕ) → Shared → InstanceNesting → Interior → Built → InstanceTree
+    → Result walk.Built WalkStep
 instance_end levels shared nest inside built i =
     (walk.instance_walk (walk.site_walk levels (tables_of shared.tables)) (tables_of shared.tables)
     (site_at nest) (scopes.names_of inside.scope.now) (taken_in inside) (built_form built) i).end

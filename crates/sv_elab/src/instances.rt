@@ -24,14 +24,14 @@ ghost use Rattle.sv_elab.specs.Nests.{site_at};
 use crate::built::Built;
 use crate::links::add_links;
 use crate::modules::module_named;
-use crate::nests::Nest;
+use crate::nests::InstanceNest;
 use crate::processes::{add_always, add_assign, add_value};
 use crate::shared::Shared;
 use crate::wrong_names::add_name;
 use indexmap::{IndexMap, IndexSet};
 use std::alloc::Global;
 use sv_ast::{Instance, Item, Links, Module};
-use sv_elab_decl::{Declared, Header, Site, Tables, body, header, labels, overrides};
+use sv_elab_decl::{Declared, Header, Site, TextTables, body, header, labels, overrides};
 use sv_flat::Process;
 use sv_num::{Fault, Name, Rule};
 use sv_width::{Scope, refusal_naming};
@@ -63,7 +63,7 @@ impl Interior<'_> {
 fn master_of<'a>(
     alloc: Global,
     shared: &Shared<'a>,
-    nest: &Nest,
+    nest: &InstanceNest,
     inside: &Interior,
     built: &Built,
     instance: &Instance,
@@ -99,7 +99,7 @@ fn master_of<'a>(
 // first, and the header's own broken rule after them.
 fn linked(
     alloc: Global,
-    tables: &Tables,
+    tables: &TextTables,
     site: &Site,
     outer: &Scope,
     links: &Links,
@@ -134,7 +134,7 @@ fn linked(
 }
 
 // What the header of an instance declares, or the first rule that it breaks.
-fn headed(alloc: Global, tables: &Tables, site: &Site) -> Result<Declared, Fault>
+fn headed(alloc: Global, tables: &TextTables, site: &Site) -> Result<Declared, Fault>
     requires few { site.now.base ≤ 4096 }
     requires shaped { IsTrue (is_shaped_module (module_tree site.now.master.now)) }
     ensures header { IfOk result
@@ -153,7 +153,7 @@ fn headed(alloc: Global, tables: &Tables, site: &Site) -> Result<Declared, Fault
 // names stand for.
 fn opened(
     alloc: Global,
-    tables: &Tables,
+    tables: &TextTables,
     site: &Site,
     declared: Declared,
     built: &mut Built,
@@ -183,7 +183,7 @@ fn set_up(
     alloc: Global,
     shared: &Shared,
     outer: &Scope,
-    nest: &Nest,
+    nest: &InstanceNest,
     master: &Module,
     instance: &Instance,
     built: &mut Built,
@@ -220,7 +220,7 @@ fn set_up_in_box(
     alloc: Global,
     shared: &Shared,
     outer: &Scope,
-    nest: &Nest,
+    nest: &InstanceNest,
     master: &Module,
     instance: &Instance,
     built: &mut Built,
@@ -246,7 +246,7 @@ fn set_up_in_box(
 fn add_items(
     alloc: Global,
     shared: &Shared,
-    nest: &mut Nest,
+    nest: &mut InstanceNest,
     scope: &Scope,
     items: &[Item],
     built: &mut Built,
@@ -284,7 +284,7 @@ fn add_items(
 fn add_item(
     alloc: Global,
     shared: &Shared,
-    nest: &mut Nest,
+    nest: &mut InstanceNest,
     inside: &mut Interior,
     item: &Item,
     built: &mut Built,
@@ -325,7 +325,7 @@ fn add_item(
 fn add_instance(
     alloc: Global,
     shared: &Shared,
-    nest: &mut Nest,
+    nest: &mut InstanceNest,
     inside: &mut Interior,
     instance: &Instance,
     built: &mut Built,
@@ -366,7 +366,7 @@ fn add_instance(
 fn set_up_top(
     alloc: Global,
     shared: &Shared,
-    nest: &Nest,
+    nest: &InstanceNest,
     master: &Module,
     built: &mut Built,
 ) -> Result<Scope, Fault>
@@ -401,7 +401,7 @@ fn add_top(alloc: Global, shared: &Shared, master: &Module, built: &mut Built) -
     ensures broken { IfErr result
         (IsBreach (top_walk (tables_of shared.now.tables) (module_tree master.now)).end) }
 {
-    let mut nest = Nest::top(alloc, &master.name)?;
+    let mut nest = InstanceNest::top(alloc, &master.name)?;
     let scope = set_up_top(alloc, shared, &nest, master, built)?;
     let items = &master.items;
     add_items(

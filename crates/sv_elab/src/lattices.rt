@@ -7,10 +7,11 @@ ghost use Rattle.sv_num.specs.Rules.{rule_number};
 ghost use Rattle.sv_lattice.specs.Flows.{IsKnown, IsPointCount};
 ghost use Rattle.sv_lattice.specs.Tables.{IsLatticeTable};
 ghost use Rattle.sv_ast.specs.Views.{lattice_tree, pair_tree, text_tree};
-ghost use Rattle.sv_elab_rules.specs.Walks.{Step};
+ghost use Rattle.sv_elab_rules.specs.Walks.{WalkStep};
 ghost use Rattle.sv_elab_rules.specs.Rules.{step};
-ghost use Rattle.sv_elab_rules.specs.Lattices.{Order, two_points, table_of, point_number, numbered_pair};
-ghost use Rattle.sv_elab_rules.specs.Lattices.{checked_order, lattice_walk, least_point};
+ghost use Rattle.sv_elab_rules.specs.Lattices.{PointOrder, two_points, table_of, point_number};
+ghost use Rattle.sv_elab_rules.specs.Lattices.{numbered_pair, checked_order, lattice_walk};
+ghost use Rattle.sv_elab_rules.specs.Lattices.{least_point};
 ghost use Rattle.sv_width.specs.Answers.{IsBreach};
 
 use crate::wrong_names::distinct_names;
@@ -35,9 +36,9 @@ pub struct Points {
 impl Model for Points {
     ghost use Rattle.std.specs.Prelude.{◌≡◌, length};
     ghost use Rattle.sv_lattice.specs.Tables.{IsLatticeTable};
-    ghost use Rattle.sv_elab_rules.specs.Lattices.{Order};
+    ghost use Rattle.sv_elab_rules.specs.Lattices.{PointOrder};
 
-    ghost Value = { Order };
+    ghost Value = { PointOrder };
 
     ghost view = { λ p. record { points = p.names.keys; table = p.lattice } };
 
@@ -139,7 +140,7 @@ fn two_points(
 ) -> Fault
     requires a { a < length names.now.keys }
     requires b { b < length names.now.keys }
-    ensures { (end : Result Order Step)
+    ensures { (end : Result PointOrder WalkStep)
         → end ≡ Err (step (rule_number rule) place
         (slice_index_or names.now.keys a [] ∷ slice_index_or names.now.keys b [] ∷ []))
         → IsBreach end result }

@@ -2,7 +2,7 @@
 ghost use Rattle.std.specs.Prelude.{◌≡◌, ℕ, false, [], ◌∷◌, List, OnOk, IfOk};
 ghost use Rattle.std.specs.List.{list_any};
 ghost use Rattle.std.specs.Str.{bytes_eq};
-ghost use Rattle.sv_elab.specs.Nests.{Nesting, entered};
+ghost use Rattle.sv_elab.specs.Nests.{InstanceNesting, entered};
 
 use indexmap::IndexSet;
 use std::alloc::Global;
@@ -12,28 +12,28 @@ use sv_num::{Name, OutOfMemory};
 /// The instances from the top down to one: their names without the top's, and the names of the
 /// modules of all of them.
 #[derive(Drop)]
-pub struct Nest {
+pub struct InstanceNest {
     path: Vec<Name>,
     around: IndexSet<Name>,
 }
 
-impl Model for Nest {
+impl Model for InstanceNest {
     ghost use Rattle.std.specs.Prelude.{reverse};
-    ghost use Rattle.sv_elab.specs.Nests.{Nesting};
+    ghost use Rattle.sv_elab.specs.Nests.{InstanceNesting};
 
-    ghost Value = { Nesting };
+    ghost Value = { InstanceNesting };
 
     ghost view = { λ n. record { path = n.path.items; around = reverse n.around.keys } };
 }
 
-impl Nest {
+impl InstanceNest {
     /// The top, an instance of the module of this name.
-    pub fn top(alloc: Global, master: &Name) -> Result<Nest, OutOfMemory>
+    pub fn top(alloc: Global, master: &Name) -> Result<InstanceNest, OutOfMemory>
         ensures { IfOk result (λ nest. nest ≡ record { path = []; around = master.now ∷ [] }) }
     {
         let mut around = IndexSet::new(alloc);
         around.insert(master.copy(alloc)?)?;
-        Ok(Nest {
+        Ok(InstanceNest {
             path: Vec::new(alloc),
             around,
         })
@@ -65,7 +65,8 @@ impl Nest {
 
     /// Goes out of the last instance.
     pub fn leave(&mut self)
-        ensures { (outer : Nesting) (name master : List ℕ) → self.old ≡ entered outer name master
+        ensures { (outer : InstanceNesting) (name master : List ℕ)
+            → self.old ≡ entered outer name master
             → self.new ≡ outer }
     {
         self.path.pop();

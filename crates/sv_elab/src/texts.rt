@@ -22,7 +22,7 @@ use crate::shared::Shared;
 use indexmap::IndexMap;
 use std::alloc::Global;
 use sv_ast::Text;
-use sv_elab_decl::Tables;
+use sv_elab_decl::TextTables;
 use sv_flat::Flat;
 use sv_lattice::LabelMap;
 use sv_num::{Fault, Name, OutOfMemory};
@@ -85,7 +85,7 @@ fn built_under(
     let names = module_names(alloc, &text.modules)?;
     let master = top_module(alloc, &text.modules, &names, top)?;
     let shared = Shared {
-        tables: Tables {
+        tables: TextTables {
             modules: &text.modules,
             points: points.names(),
             least: points.least(),

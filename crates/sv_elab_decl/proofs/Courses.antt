@@ -4,7 +4,7 @@ use Rattle.std.proofs.Common.{◌≡◌, ℕ, List, [], ◌∷◌, ◌++◌, ref
 use Rattle.std.specs.Prelude.{Ok, Err}
 use Rattle.sv_num.specs.declared.faults.Fault.{Fault}
 use Rattle.sv_ast.specs.Tree.{ItemTree, ParameterTree, parameter_item}
-use Rattle.sv_elab_rules.specs.Walks.{Step}
+use Rattle.sv_elab_rules.specs.Walks.{WalkStep}
 use Rattle.sv_elab_rules.specs.Declarations.{Site, Declared as WalkDeclared, parameter_walk}
 use Rattle.sv_elab_rules.specs.Declarations.{declaration_walk, declarations_walk, declaration_ahead}
 use Rattle.sv_elab_rules.specs.Declarations.{declared_until}
@@ -27,7 +27,7 @@ module _ (base least : ℕ) (s : Site) where
       end_after (declaration_walk base least s d item) (λ x.
       declarations_walk base least s x items) next h
 
-  pub item_stops : (d : WalkDeclared) (item : ItemTree) (items : List ItemTree) (t : Step)
+  pub item_stops : (d : WalkDeclared) (item : ItemTree) (items : List ItemTree) (t : WalkStep)
       → (declaration_walk base least s d item).end ≡ Err t
       → (declarations_walk base least s d (item ∷ items)).end ≡ Err t
   unfolding declarations_walk
@@ -65,7 +65,7 @@ module _ (base least : ℕ) (s : Site) where
       ∙ end_after (declarations_walk base least s d xs) (λ x.
       declarations_walk base least s x ys) next h
 
-  pub end_stopped : (xs ys : List ItemTree) (d : WalkDeclared) (t : Step)
+  pub end_stopped : (xs ys : List ItemTree) (d : WalkDeclared) (t : WalkStep)
       → (declarations_walk base least s d xs).end ≡ Err t
       → (declarations_walk base least s d (xs ++ ys)).end ≡ Err t
   end_stopped xs ys d t h =
@@ -91,7 +91,7 @@ module _ (base least : ℕ) (s : Site) (from : WalkDeclared) (all : List ItemTre
     so_far = so_far;
   }
 
-  pub course_stops : (t : Step) (item : ItemTree) (left : List ItemTree)
+  pub course_stops : (t : WalkStep) (item : ItemTree) (left : List ItemTree)
       → Course base least s from all d (item ∷ left)
       → (declaration_walk base least s (declared_of d) item).end ≡ Err t
       → (declarations_walk base least s from all).end ≡ Err t
@@ -131,7 +131,7 @@ module _ (base least : ℕ) (s : Site) (from : WalkDeclared) (all : List ItemTre
         until = sym (until_next base least s ahead.so_far next.0 item left next.1) ∙ ahead.until;
       }
 
-  pub ahead_stops : (t : Step) (item : ItemTree) (left : List ItemTree)
+  pub ahead_stops : (t : WalkStep) (item : ItemTree) (left : List ItemTree)
       → Ahead base least s from all known (item ∷ left)
       → ((d : WalkDeclared) → d.bindings ≡ bindings_in known
       → (declaration_ahead base least s d item).end ≡ Err t)
@@ -169,7 +169,7 @@ module _ (base least : ℕ) (s : Site) (from : WalkDeclared) (all : List ItemTre
         (parameter_ahead base least s (declared_of d) p ∙ h)) ∙ headed.until;
   }
 
-  pub headed_stops : (e : Declared) (t : Step) (p : ParameterTree) (left : List ItemTree)
+  pub headed_stops : (e : Declared) (t : WalkStep) (p : ParameterTree) (left : List ItemTree)
       → Headed base least s from all d (parameter_item p ∷ left)
       → (parameter_walk base s (declared_of d) p).end ≡ Err t
       → declared_of d ≡ declared_of e

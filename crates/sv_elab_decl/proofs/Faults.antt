@@ -4,7 +4,7 @@ use Rattle.std.specs.Prelude.{Result, Ok, Err, OnOk, OnErr, IfOk, IfErr, is_some
 use Rattle.sv_num.specs.declared.faults.Fault.{Fault}
 use Rattle.sv_num.specs.declared.faults.Fault.TheVariants.{Rule, OutOfMemory}
 use Rattle.sv_num.specs.declared.faults.Place.{Place}
-use Rattle.sv_elab_rules.specs.Walks.{Step}
+use Rattle.sv_elab_rules.specs.Walks.{WalkStep}
 use Rattle.sv_elab_rules.specs.Rules.{twice}
 use Rattle.sv_elab_rules.specs.Declarations.{Declared as WalkDeclared}
 use Rattle.sv_width.specs.Answers.{IsBreach}
@@ -14,18 +14,18 @@ use Rattle.sv_elab_decl.specs.Sites.{declared_of}
 use Rattle.sv_elab_decl.specs.Steps.{Stops}
 
 -- what breaks one walk breaks another
-pub breach_on : {X Y : Type 0} (f : Fault) (d : Result X Step) (e : Result Y Step)
-    → ((s : Step) → d ≡ Err s → e ≡ Err s) → IsBreach d f → IsBreach e f
+pub breach_on : {X Y : Type 0} (f : Fault) (d : Result X WalkStep) (e : Result Y WalkStep)
+    → ((s : WalkStep) → d ≡ Err s → e ≡ Err s) → IsBreach d f → IsBreach e f
 breach_on (Rule r) d e on h = on _ h
 breach_on OutOfMemory d e on h = tt
 
 -- where nothing more was declared
-pub stops_at : (f : Fault) (end : Result WalkDeclared Step) (d : Declared)
+pub stops_at : (f : Fault) (end : Result WalkDeclared WalkStep) (d : Declared)
     → IsBreach end f → Stops end (declared_of d) d f
 stops_at (Rule r) end d h = (h, refl)
 stops_at OutOfMemory end d h = tt
 
-pub stops_breach : (f : Fault) (end : Result WalkDeclared Step) (until : WalkDeclared)
+pub stops_breach : (f : Fault) (end : Result WalkDeclared WalkStep) (until : WalkDeclared)
     (d : Declared)
     → Stops end until d f → IsBreach end f
 stops_breach (Rule r) end until d h = h.0
@@ -33,9 +33,10 @@ stops_breach OutOfMemory end until d h = tt
 
 -- what refuses a name that stands for something already
 pub breach_twice : {X : Type 0} (f : Fault) (known : Known) (n : List ℕ) (place : Place)
-    (end : Result X Step) → (IsTrue (is_some (meaning_of known n)) → end ≡ Err (twice place n))
+    (end : Result X WalkStep) → (IsTrue (is_some (meaning_of known n)) → end ≡ Err (twice place n))
     → IsTwice known n place f → IsBreach end f
-breach_twice (Rule r) known n place end broken h = broken h.1 ∙ ap (λ (t : Step). Err t) (sym h.0)
+breach_twice (Rule r) known n place end broken h =
+    broken h.1 ∙ ap (λ (t : WalkStep). Err t) (sym h.0)
 breach_twice OutOfMemory known n place end broken h = tt
 
 -- ---- what two clauses say of a result

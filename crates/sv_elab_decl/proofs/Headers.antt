@@ -7,7 +7,7 @@ use Rattle.sv_num.specs.declared.faults.Fault.{Fault}
 use Rattle.sv_num.specs.declared.faults.Fault.TheVariants.{Rule, OutOfMemory}
 use Rattle.sv_num.specs.declared.faults.Refusal.{Refusal}
 use Rattle.sv_ast.specs.Tree.{ItemTree, DeclarationTree, ParameterTree, parameter_item, declared}
-use Rattle.sv_elab_rules.specs.Walks.{Step}
+use Rattle.sv_elab_rules.specs.Walks.{WalkStep}
 use Rattle.sv_elab_rules.specs.Declarations.{Site, Declared as WalkDeclared, nothing_declared}
 use Rattle.sv_elab_rules.specs.Declarations.{parameter_walk, signal_ahead, signal_walk}
 use Rattle.sv_elab_rules.specs.Declarations.{declaration_walk, declarations_walk, declaration_ahead}
@@ -22,7 +22,7 @@ use Rattle.sv_elab_decl.proofs.Courses.{ahead_more, ahead_stops, Headed, headed_
 use Rattle.sv_elab_decl.proofs.StepLemmas.{signal_broken}
 
 module _ (base least : ℕ) (s : Site) where
-  abbrev port_ahead : DeclarationTree → WalkDeclared → Result WalkDeclared Step
+  abbrev port_ahead : DeclarationTree → WalkDeclared → Result WalkDeclared WalkStep
   port_ahead t so_far = (signal_ahead base least s so_far t).end
 
   -- the walk goes on, or the refusal is that of the first rule that is broken

@@ -12,11 +12,11 @@ use Rattle.sv_ast.specs.Scopes.{Binding, width_of}
 use Rattle.sv_ast.specs.Tree.{LabelTree, point_label, table_label, DeclarationTree}
 use Rattle.sv_ast.specs.Instances.{is_signal}
 use Rattle.sv_flat.specs.Design.{SignalForm}
-use Rattle.sv_elab_rules.specs.Walks.{Step, Walk, ask, done, found, then_walk, ◌>>=◌}
+use Rattle.sv_elab_rules.specs.Walks.{WalkStep, Walk, ask, done, found, then_walk, ◌>>=◌}
 use Rattle.sv_elab_rules.specs.Rules.{bad_label}
 use Rattle.sv_elab_rules.specs.Names.{Names}
 use Rattle.sv_elab_rules.specs.Lattices.{point_number}
-use Rattle.sv_elab_rules.specs.LabelSteps.{Tables, second_selector, same_number, second_fits}
+use Rattle.sv_elab_rules.specs.LabelSteps.{SharedTables, second_selector, same_number, second_fits}
 use Rattle.sv_elab_rules.specs.LabelSteps.{second_number, label_walk, given_label, labels_walk}
 use Rattle.sv_elab_rules.proofs.WalkLemmas.{end_after, end_broken}
 use Rattle.sv_width.specs.declared.meanings.KnownSignal.{KnownSignal}
@@ -28,7 +28,7 @@ use Rattle.sv_elab_decl.specs.Selectors.{IsSelector, IsSecond}
 
 -- ---- selectors
 
-pub selector_asked : (known : Known) (n : List ℕ) (s : KnownSignal) (t : Step)
+pub selector_asked : (known : Known) (n : List ℕ) (s : KnownSignal) (t : WalkStep)
     → IsSelector known n s
     → (ask (is_signal (bindings_of known n)) t).end ≡ Ok tt
 selector_asked known n s t is =
@@ -117,7 +117,7 @@ second_end known p (Some m) (Some t) (Some v) n s w a b c is =
 
 -- ---- a point
 
-module _ (tables : Tables) (names : Names) (n : List ℕ) (p : Place) where
+module _ (tables : SharedTables) (names : Names) (n : List ℕ) (p : Place) where
   pub point_found : (k : ℕ) → point_number tables.points n ≡ Some k
       → (label_walk tables names (point_label n p)).end ≡ Ok (Declared_point (record { 0 = k }))
   unfolding label_walk
@@ -130,7 +130,7 @@ module _ (tables : Tables) (names : Names) (n : List ℕ) (p : Place) where
 
 -- ---- a row of a map
 
-module _ (tables : Tables) (names : Names) (n first : List ℕ) (second : Option (List ℕ))
+module _ (tables : SharedTables) (names : Names) (n first : List ℕ) (second : Option (List ℕ))
     (p : Place) where
   made : ℕ → Walk Label
   made map = done (Table map (names.number first) (second_number names second))
@@ -167,7 +167,7 @@ module _ (tables : Tables) (names : Names) (n first : List ℕ) (second : Option
     to_first : (label_walk tables names (table_label n first second p)).end ≡ (by_first map).end
     to_first = begin ∙ ap (λ (o : Option ℕ). (found o (bad_label p n) >>= by_first).end) at
 
-    pub first_stops : (s : Step)
+    pub first_stops : (s : WalkStep)
         → (ask (is_signal (names.scope first)) (bad_label p first)).end ≡ Err s
         → (label_walk tables names (table_label n first second p)).end ≡ Err s
     unfolding by_first
@@ -184,7 +184,7 @@ module _ (tables : Tables) (names : Names) (n first : List ℕ) (second : Option
           ∙ end_after (ask (is_signal (names.scope first)) (bad_label p first)) (λ _.
           by_second map) tt first_ok
 
-      pub second_stops : (s : Step) → (second_selector names p second).end ≡ Err s
+      pub second_stops : (s : WalkStep) → (second_selector names p second).end ≡ Err s
           → (label_walk tables names (table_label n first second p)).end ≡ Err s
       unfolding by_second
       second_stops s h =
@@ -211,7 +211,7 @@ module _ (tables : Tables) (names : Names) (n first : List ℕ) (second : Option
               to_number ∙ ap (λ (b : Bool).
               (ask b (bad_label p n) >>= λ _. by_width map).end) number_ok
 
-          pub width_stops : (s : Step)
+          pub width_stops : (s : WalkStep)
               → (ask (width_of (names.scope first) == (map_of tables.maps map).first)
               (bad_label p first)).end ≡ Err s
               → (label_walk tables names (table_label n first second p)).end ≡ Err s
@@ -232,7 +232,7 @@ module _ (tables : Tables) (names : Names) (n first : List ℕ) (second : Option
                 ∙ ap (λ (b : Bool). (ask b (bad_label p first) >>= λ _. by_second_width map).end)
                 width_ok
 
-            pub second_width_stops : (s : Step)
+            pub second_width_stops : (s : WalkStep)
                 → (second_fits names p second (map_of tables.maps map).second).end ≡ Err s
                 → (label_walk tables names (table_label n first second p)).end ≡ Err s
             unfolding by_second_width
@@ -253,7 +253,7 @@ module _ (tables : Tables) (names : Names) (n first : List ℕ) (second : Option
 
 -- ---- a declaration's label
 
-module _ (tables : Tables) (names : Names) (t : Option LabelTree) (s : SignalForm) where
+module _ (tables : SharedTables) (names : Names) (t : Option LabelTree) (s : SignalForm) where
   pub label_kept : t ≡ None → (given_label tables names t s).end ≡ Ok s
   unfolding given_label
   label_kept h = ap (λ (o : Option LabelTree). (given_label tables names o s).end) h
@@ -266,7 +266,7 @@ module _ (tables : Tables) (names : Names) (t : Option LabelTree) (s : SignalFor
       ap (λ (o : Option LabelTree). (given_label tables names o s).end) h
       ∙ end_after (label_walk tables names l) (λ (x : Label). done (record s { label = x })) label k
 
-  pub label_stops : (l : LabelTree) (u : Step) → t ≡ Some l
+  pub label_stops : (l : LabelTree) (u : WalkStep) → t ≡ Some l
       → (label_walk tables names l).end ≡ Err u
       → (given_label tables names t s).end ≡ Err u
   unfolding given_label
@@ -277,7 +277,8 @@ module _ (tables : Tables) (names : Names) (t : Option LabelTree) (s : SignalFor
 -- ---- labels one after another
 
 -- some signals before those that a walk finds
-abbrev pub behind : List SignalForm → Result (List SignalForm) Step → Result (List SignalForm) Step
+abbrev pub behind : List SignalForm → Result (List SignalForm) WalkStep
+    → Result (List SignalForm) WalkStep
 behind xs (Ok ys) = Ok (xs ++ ys)
 behind xs (Err s) = Err s
 
@@ -286,13 +287,13 @@ module _ (xs : List SignalForm) (first : SignalForm) (w : Walk (List SignalForm)
       ≡ behind (xs ++ first ∷ []) w.end
   behind_more = by w.end
     where
-      by : (r : Result (List SignalForm) Step)
+      by : (r : Result (List SignalForm) WalkStep)
           → behind xs (then_walk w.passed r (λ (rest : List SignalForm). done (first ∷ rest))).end
           ≡ behind (xs ++ first ∷ []) r
       by (Ok ys) = ap (λ (zs : List SignalForm). Ok zs) (sym (append_assoc xs (first ∷ []) ys))
       by (Err s) = refl
 
-module _ (tables : Tables) (names : Names) where
+module _ (tables : SharedTables) (names : Names) where
   pub labels_more : (xs : List SignalForm) (d : DeclarationTree) (ds : List DeclarationTree)
       (s first : SignalForm) (ss : List SignalForm)
       → (given_label tables names d.label s).end ≡ Ok first
@@ -300,19 +301,19 @@ module _ (tables : Tables) (names : Names) where
       ≡ behind (xs ++ first ∷ []) (labels_walk tables names ds ss).end
   unfolding labels_walk
   labels_more xs d ds s first ss h =
-      ap (λ (r : Result (List SignalForm) Step). behind xs r)
+      ap (λ (r : Result (List SignalForm) WalkStep). behind xs r)
       (end_after (given_label tables names d.label s)
       (λ (x : SignalForm). labels_walk tables names ds ss >>= λ (rest : List SignalForm).
       done (x ∷ rest)) first h)
       ∙ behind_more xs first (labels_walk tables names ds ss)
 
   pub labels_stop : (xs : List SignalForm) (d : DeclarationTree) (ds : List DeclarationTree)
-      (s : SignalForm) (ss : List SignalForm) (u : Step)
+      (s : SignalForm) (ss : List SignalForm) (u : WalkStep)
       → (given_label tables names d.label s).end ≡ Err u
       → behind xs (labels_walk tables names (d ∷ ds) (s ∷ ss)).end ≡ Err u
   unfolding labels_walk
   labels_stop xs d ds s ss u h =
-      ap (λ (r : Result (List SignalForm) Step). behind xs r)
+      ap (λ (r : Result (List SignalForm) WalkStep). behind xs r)
       (end_broken (given_label tables names d.label s)
       (λ (x : SignalForm). labels_walk tables names ds ss >>= λ (rest : List SignalForm).
       done (x ∷ rest)) u h)

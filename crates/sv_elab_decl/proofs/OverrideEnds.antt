@@ -13,7 +13,7 @@ use Rattle.sv_ast.specs.Instances.{entry, open_parameters}
 use Rattle.sv_ast.specs.declared.modules.Overrides.{Overrides}
 use Rattle.sv_ast.specs.declared.modules.Overrides.TheVariants as overrides
 use Rattle.sv_ast.specs.Views.{expression_trees, named_override, override_trees}
-use Rattle.sv_elab_rules.specs.Walks.{Step, Walk, ask, ◌>>=◌}
+use Rattle.sv_elab_rules.specs.Walks.{WalkStep, Walk, ask, ◌>>=◌}
 use Rattle.sv_elab_rules.specs.Rules.{wrong_override, overrides_over}
 use Rattle.sv_elab_rules.specs.Names.{Names, place_of}
 use Rattle.sv_elab_rules.specs.ExpressionSteps.{constant_walk}
@@ -59,7 +59,7 @@ module _ (outer : Names) (m : ModuleTree) (set : List (List ℕ × Number)) wher
           begin ∙ ap (λ (b : Bool).
           (ask b (wrong_override o.place o.name) >>= λ _. value >>= more).end) allowed
 
-      pub named_stops : (s : Step) → (constant_walk outer o.value).end ≡ Err s
+      pub named_stops : (s : WalkStep) → (constant_walk outer o.value).end ≡ Err s
           → (named_walk outer m set (o ∷ os)).end ≡ Err s
       unfolding value
       named_stops s h = to_value ∙ end_broken value more s h
@@ -84,7 +84,7 @@ module _ (outer : Names) where
 
   module _ (p : ParameterTree) (free : List ParameterTree) (set : List (List ℕ × Number))
       (e : ExpressionTree) (es : List ExpressionTree) where
-    pub ordered_stops : (s : Step) → (constant_walk outer e).end ≡ Err s
+    pub ordered_stops : (s : WalkStep) → (constant_walk outer e).end ≡ Err s
         → (ordered_walk outer (p ∷ free) set (e ∷ es)).end ≡ Err s
     unfolding ordered_walk
     ordered_stops s h =

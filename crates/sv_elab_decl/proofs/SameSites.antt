@@ -12,7 +12,7 @@ use Rattle.sv_ast.specs.Tree.{memory_item, continuous, released, always_item, in
 use Rattle.sv_ast.specs.Tree.{instance_item, ModuleTree}
 use Rattle.sv_ast.specs.Instances.{entry, in_range, span_width}
 use Rattle.sv_ast.specs.Parts.{declaration_of}
-use Rattle.sv_elab_rules.specs.Walks.{Step, Walk, ask, done, ◌>>=◌}
+use Rattle.sv_elab_rules.specs.Walks.{WalkStep, Walk, ask, done, ◌>>=◌}
 use Rattle.sv_elab_rules.specs.Rules.{twice, too_many}
 use Rattle.sv_elab_rules.specs.Names.{Names, is_bound, names_at}
 use Rattle.sv_elab_rules.specs.Declarations.{Site, Declared, range_steps, override_of, final_walk}
@@ -111,7 +111,7 @@ module _ (base least : ℕ) (s t : Site) (same : SameSite s t) where
   same_until d (i ∷ items) =
       by (declaration_ahead base least t d i).end refl (λ x. same_until x items)
     where
-      by : (r : Result Declared Step) → (declaration_ahead base least t d i).end ≡ r
+      by : (r : Result Declared WalkStep) → (declaration_ahead base least t d i).end ≡ r
           → ((x : Declared) → declared_until base least s x items ≡
           declared_until base least t x items)
           → declared_until base least s d (i ∷ items) ≡ declared_until base least t d (i ∷ items)

@@ -8,7 +8,7 @@ use Rattle.sv_ast.specs.Scopes.{Binding, Scope, signal}
 use Rattle.sv_ast.specs.Tree.{DeclarationTree, ModuleTree}
 use Rattle.sv_ast.specs.Instances.{entry, span_width}
 use Rattle.sv_flat.specs.declared.signals.SigId.{SigId}
-use Rattle.sv_elab_rules.specs.Walks.{Step, Steps}
+use Rattle.sv_elab_rules.specs.Walks.{WalkStep, Steps}
 use Rattle.sv_elab_rules.specs.Names.{Names, is_bound, names_at}
 use Rattle.sv_elab_rules.specs.Declarations.{Site, Declared, range_steps, declared_signal, signal_ahead}
 use Rattle.sv_elab_rules.specs.Declarations.{signal_walk}
@@ -27,7 +27,7 @@ use Rattle.sv_elab_decl.proofs.StepLemmas.{signal_broken}
 
 module _ (base least : ℕ) (site : Site) (old : Known) (announced : AreAnnounced site.master old)
     (t : DeclarationTree) where
-  abbrev ends : Declared → Result Declared Step
+  abbrev ends : Declared → Result Declared WalkStep
   ends so_far = (signal_ahead base least site so_far t).end
 
   range_end : (so_far : Declared) → so_far.bindings ≡ bindings_in old
@@ -60,7 +60,7 @@ module _ (base least : ℕ) (site : Site) (old : Known) (announced : AreAnnounce
           refl,
           λ so_far same. signal_twice base least site so_far t
               (range_end so_far same ∙ ranged.0) (bound_there so_far same ∙ there.1)
-              ∙ ap (λ (s : Step). Err s) (sym there.0),
+              ∙ ap (λ (s : WalkStep). Err s) (sym there.0),
         )
     name_stops name OutOfMemory is h = tt
 

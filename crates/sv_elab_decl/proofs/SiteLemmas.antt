@@ -18,7 +18,7 @@ use Rattle.sv_ast.specs.Shape.{are_header_parameters, is_shaped_parameter, are_p
 use Rattle.sv_ast.specs.Shape.{is_shaped_declaration, is_shaped_item, is_shaped_module}
 use Rattle.sv_ast.specs.Views.{item_tree, parameter_tree, declaration_tree}
 use Rattle.sv_ast.specs.Instances.{all_items}
-use Rattle.sv_elab_rules.specs.Walks.{Step}
+use Rattle.sv_elab_rules.specs.Walks.{WalkStep}
 use Rattle.sv_elab_rules.specs.Names.{item_declares}
 use Rattle.sv_elab_rules.specs.Declarations.{Site, Declared as WalkDeclared, nothing_declared}
 use Rattle.sv_elab_rules.specs.Declarations.{parameter_walk, signal_walk, declaration_walk}
@@ -155,7 +155,7 @@ shaped_items m h =
     && list_all is_shaped_declaration m.ports) (list_all is_shaped_item m.items) h).1
 
 -- where the header breaks a rule, the whole does
-pub header_broken : (base least : ℕ) (s : Site) (t : Step)
+pub header_broken : (base least : ℕ) (s : Site) (t : WalkStep)
     → (declarations_walk base least s nothing_declared (header_items s.master)).end ≡ Err t
     → (declarations_walk base least s nothing_declared (all_items s.master)).end ≡ Err t
 header_broken base least s t h =

@@ -7,7 +7,7 @@ use Rattle.sv_ast.specs.Scopes.{Number, parameter, signal}
 use Rattle.sv_ast.specs.Tree.{ExpressionTree, SpanTree, DeclarationTree, ParameterTree}
 use Rattle.sv_ast.specs.Values.{constant_of, whole_number}
 use Rattle.sv_ast.specs.Instances.{entry, span_width, in_range}
-use Rattle.sv_elab_rules.specs.Walks.{Step, Walk, Steps, ask, done, ◌>>=◌}
+use Rattle.sv_elab_rules.specs.Walks.{WalkStep, Walk, Steps, ask, done, ◌>>=◌}
 use Rattle.sv_elab_rules.specs.Rules.{twice, too_many, bad_range}
 use Rattle.sv_elab_rules.specs.Names.{Names, is_bound, names_at, place_of}
 use Rattle.sv_elab_rules.specs.ExpressionSteps.{asked, own_divisors, constant_walk}
@@ -44,7 +44,7 @@ module _ (names : Names) (span : SpanTree) where
   low_then : Steps
   low_then = constant_walk names span.low >>= λ _. last
 
-  pub high_stops : (s : Step) → (constant_walk names span.high).end ≡ Err s
+  pub high_stops : (s : WalkStep) → (constant_walk names span.high).end ≡ Err s
       → (range_steps names (Some span)).end ≡ Err s
   unfolding range_steps
   high_stops s h =
@@ -57,7 +57,7 @@ module _ (names : Names) (span : SpanTree) where
     unfolding range_steps low_then last
     after_high = end_after (constant_walk names span.high) (λ _. low_then) high high_ok
 
-    pub low_stops : (s : Step) → (constant_walk names span.low).end ≡ Err s
+    pub low_stops : (s : WalkStep) → (constant_walk names span.low).end ≡ Err s
         → (range_steps names (Some span)).end ≡ Err s
     unfolding low_then
     low_stops s h = after_high ∙ end_broken (constant_walk names span.low) (λ _. last) s h
@@ -143,7 +143,7 @@ module _ (base : ℕ) (site : Site) (d : Declared) (p : ParameterTree) (names : 
         signals = d.signals;
       })).end) (sym are)
 
-  pub parameter_range_stops : (s : Step) → (range_steps names p.span).end ≡ Err s
+  pub parameter_range_stops : (s : WalkStep) → (range_steps names p.span).end ≡ Err s
       → (parameter_walk base site d p).end ≡ Err s
   parameter_range_stops s h =
       whole ∙ end_broken (range_steps names p.span) (λ _. value >>= rest) s h
@@ -152,7 +152,7 @@ module _ (base : ℕ) (site : Site) (d : Declared) (p : ParameterTree) (names : 
     after_range : (parameter_walk base site d p).end ≡ (value >>= rest).end
     after_range = whole ∙ end_after (range_steps names p.span) (λ _. value >>= rest) tt ranged
 
-    pub value_stops : (s : Step)
+    pub value_stops : (s : WalkStep)
         → (final_walk names (override_of site d.bindings p) p.value).end ≡ Err s
         → (parameter_walk base site d p).end ≡ Err s
     unfolding value
@@ -202,7 +202,7 @@ module _ (base least : ℕ) (site : Site) (d : Declared) (t : DeclarationTree) w
   unfolding signal_ahead new
   all = refl
 
-  pub signal_range_stops : (s : Step) → (range_steps names_there t.span).end ≡ Err s
+  pub signal_range_stops : (s : WalkStep) → (range_steps names_there t.span).end ≡ Err s
       → (signal_ahead base least site d t).end ≡ Err s
   signal_range_stops s h = all ∙ end_broken (range_steps names_there t.span) (λ _. new) s h
 
@@ -233,7 +233,7 @@ module _ (base least : ℕ) (site : Site) (d : Declared) (t : DeclarationTree) w
   unfolding signal_walk limited
   to_limit = refl
 
-  pub signal_broken : (s : Step) → (signal_ahead base least site d t).end ≡ Err s
+  pub signal_broken : (s : WalkStep) → (signal_ahead base least site d t).end ≡ Err s
       → (signal_walk base least site d t).end ≡ Err s
   signal_broken s h = to_limit ∙ end_broken (signal_ahead base least site d t) limited s h
 

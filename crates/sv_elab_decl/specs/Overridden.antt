@@ -8,12 +8,12 @@ use Rattle.sv_ast.specs.Scopes.{Number}
 use Rattle.sv_ast.specs.Tree.{DeclarationTree, ParameterTree}
 use Rattle.sv_ast.specs.Instances.{entry}
 use Rattle.sv_ast.specs.Views.{declaration_tree, parameter_tree}
-use Rattle.sv_elab_rules.specs.Walks.{Step}
+use Rattle.sv_elab_rules.specs.Walks.{WalkStep}
 use Rattle.sv_elab_decl.specs.Sites.{settings_of}
 
 -- the walk ends with values that say the same of each name; of two values of one name the first
 -- counts
-abbrev pub IsOverridden : (end : Result (List (List ℕ × Number)) Step) →
+abbrev pub IsOverridden : (end : Result (List (List ℕ × Number)) WalkStep) →
     List (List ℕ × Bits) → Type 0
 IsOverridden end values = (set : List (List ℕ × Number)) × (end ≡ Ok set)
     × ((n : List ℕ) → entry set n ≡ entry (settings_of values) n)

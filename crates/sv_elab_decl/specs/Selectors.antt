@@ -2,7 +2,7 @@
 use Rattle.std.specs.Prelude.{◌≡◌, ℕ, List, Option, Some, None, position}
 use Rattle.std.specs.Str.{bytes_eq}
 use Rattle.sv_lattice.specs.Labels.{map_of}
-use Rattle.sv_elab_rules.specs.LabelSteps.{Tables}
+use Rattle.sv_elab_rules.specs.LabelSteps.{SharedTables}
 use Rattle.sv_width.specs.declared.meanings.KnownSignal.{KnownSignal}
 use Rattle.sv_width.specs.declared.meanings.Meaning.TheVariants as meaning
 use Rattle.sv_width.specs.Scopes.{Known, meaning_of}
@@ -20,7 +20,7 @@ IsSecond known (Some n) None = ⊥
 IsSecond known (Some n) (Some s) = IsSelector known n s
 
 -- the first map of a name, with the widths of its ranges
-abbrev pub IsMapNamed : Tables → List ℕ → FoundMap → Type 0
+abbrev pub IsMapNamed : SharedTables → List ℕ → FoundMap → Type 0
 IsMapNamed tables n m = (position (bytes_eq n) tables.map_names ≡ Some m.number)
     × (m.first ≡ (map_of tables.maps m.number).first)
     × (m.second ≡ (map_of tables.maps m.number).second)

@@ -11,15 +11,15 @@ use Rattle.sv_ast.specs.Views.{module_tree}
 use Rattle.sv_flat.specs.Views.{signal_form}
 use Rattle.sv_elab_rules.specs.Names.{names_at, item_declares}
 use Rattle.sv_elab_rules.specs.Declarations as walk
-use Rattle.sv_elab_rules.specs.LabelSteps as shared
+use Rattle.sv_elab_rules.specs.LabelSteps.{SharedTables}
 use Rattle.sv_width.specs.declared.meanings.Meaning.{Meaning}
 use Rattle.sv_width.specs.Scopes.{Known, number_of, binding_of, names_ahead}
-use Rattle.sv_elab_decl.specs.declared.sites.Tables.{Tables}
+use Rattle.sv_elab_decl.specs.declared.sites.TextTables.{TextTables}
 use Rattle.sv_elab_decl.specs.declared.sites.Site.{Site}
 use Rattle.sv_elab_decl.specs.declared.sites.Declared.{Declared}
 
 -- what all instances of a text share
-abbrev pub tables_of : Tables → shared.Tables
+abbrev pub tables_of : TextTables → SharedTables
 tables_of t = record {
   modules = map module_tree t.modules.now;
   points = t.points.now.keys;

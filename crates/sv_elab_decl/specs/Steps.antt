@@ -5,7 +5,7 @@ use Rattle.std.specs.Option.{option_or}
 use Rattle.sv_num.specs.declared.faults.Fault.{Fault}
 use Rattle.sv_num.specs.declared.faults.Fault.TheVariants.{Rule, OutOfMemory}
 use Rattle.sv_num.specs.declared.faults.Refusal.{Refusal}
-use Rattle.sv_elab_rules.specs.Walks.{Step}
+use Rattle.sv_elab_rules.specs.Walks.{WalkStep}
 use Rattle.sv_elab_rules.specs.Declarations as walk
 use Rattle.sv_elab_rules.specs.Declarations.{declarations_walk, declared_until, nothing_declared}
 use Rattle.sv_width.specs.Answers.{step_of}
@@ -16,25 +16,26 @@ use Rattle.sv_elab_decl.specs.Sites.{bindings_in, declared_of, header_items, IsS
 
 -- the fault is want of memory, or refuses by the step that the walk breaks; what was declared
 -- before that step stays
-abbrev pub Stops : (end : Result walk.Declared Step) → (until : walk.Declared) → Declared →
+abbrev pub Stops : (end : Result walk.Declared WalkStep) → (until : walk.Declared) → Declared →
     Fault → Type 0
 Stops end until d (Rule r) = (end ≡ Err (step_of r)) × (until ≡ declared_of d)
 Stops end until d OutOfMemory = Unit {0}
 
 -- all is declared, or the refusal is that of the step that the walk breaks
-abbrev pub Answers : (end : Result walk.Declared Step) → Declared → Option Refusal → Type 0
+abbrev pub Answers : (end : Result walk.Declared WalkStep) → Declared → Option Refusal → Type 0
 Answers end d None = end ≡ Ok (declared_of d)
 Answers end d (Some r) = end ≡ Err (step_of r)
 
 -- from the names of one scope a declaration comes to those of another one, whatever signals there
 -- are
-abbrev pub Binds : (ends : walk.Declared → Result walk.Declared Step) → (old new : Known) → Type 0
+abbrev pub Binds : (ends : walk.Declared → Result walk.Declared WalkStep) → (old new : Known)
+    → Type 0
 Binds ends old new = (so_far : walk.Declared) → so_far.bindings ≡ bindings_in old
     → (next : walk.Declared) × (ends so_far ≡ Ok next) × (next.bindings ≡ bindings_in new)
 
 -- the fault is want of memory, or refuses by the step that is broken from the names of a scope,
 -- which stay
-abbrev pub BindsNone : (ends : walk.Declared → Result walk.Declared Step) → (old new : Known)
+abbrev pub BindsNone : (ends : walk.Declared → Result walk.Declared WalkStep) → (old new : Known)
     → Fault → Type 0
 BindsNone ends old new (Rule r) = (bindings_in old ≡ bindings_in new)
     × ((so_far : walk.Declared) → so_far.bindings ≡ bindings_in old

@@ -17,7 +17,7 @@ ghost use Rattle.sv_elab_decl.specs.Steps.{AfterHeader, IsHeaderEnd, HasHeader, 
 
 use crate::parameters::declare_param;
 use crate::signals::declare_signal;
-use crate::sites::{Declared, Header, Site, Tables};
+use crate::sites::{Declared, Header, Site, TextTables};
 use std::alloc::Global;
 use sv_ast::{Item, Module};
 use sv_lattice::Point;
@@ -137,7 +137,7 @@ fn declare_header(
 /// clauses 4.10 and 12.3), with the refusal of the first declaration that breaks a rule. Of each
 /// declaration are asked its range, its value unless the instance sets it, rule 312 and, for a
 /// signal, rule 315. The names go on behind one that breaks rule 315, and end at another rule.
-pub fn header(alloc: Global, tables: &Tables, site: &Site) -> Result<Header, OutOfMemory>
+pub fn header(alloc: Global, tables: &TextTables, site: &Site) -> Result<Header, OutOfMemory>
     requires few { site.now.base ≤ 4096 }
     requires shaped { IsTrue (is_shaped_module (module_tree site.now.master.now)) }
     ensures names { IfOk result (λ h. HasHeader site.now.base tables.now.least.0
@@ -174,7 +174,7 @@ fn refused(answer: Result<(), Fault>) -> Result<Option<Refusal>, OutOfMemory>
 /// rule is refused.
 pub fn body(
     alloc: Global,
-    tables: &Tables,
+    tables: &TextTables,
     site: &Site,
     mut declared: Declared,
 ) -> Result<Declared, Fault>

@@ -19,7 +19,7 @@ ghost use Rattle.sv_elab_decl.specs.Overridden.{declaration_trees};
 ghost use Rattle.sv_elab_decl.specs.Selectors.{IsSelector, IsSecond, IsMapNamed};
 ghost use Rattle.sv_elab_decl.specs.Sites.{tables_of};
 
-use crate::sites::Tables;
+use crate::sites::TextTables;
 use std::alloc::Global;
 use sv_ast::{Decl, Item, LabelText, Module};
 use sv_flat::Signal;
@@ -36,7 +36,7 @@ struct FoundMap {
 }
 
 // The label map of a name.
-fn find_map(tables: &Tables, name: &Name) -> Option<FoundMap>
+fn find_map(tables: &TextTables, name: &Name) -> Option<FoundMap>
     requires { length tables.now.maps.now.entries < 2 ^ 32 }
     ensures { MatchOption result
         (position (bytes_eq name.now) (tables_of tables.now).map_names ≡ None)
@@ -142,7 +142,12 @@ fn same_number(width: Option<u8>, signal: Option<KnownSignal>) -> bool
 }
 
 // The label by a point.
-fn point_label(alloc: Global, tables: &Tables, name: &Name, place: Place) -> Result<Label, Fault>
+fn point_label(
+    alloc: Global,
+    tables: &TextTables,
+    name: &Name,
+    place: Place,
+) -> Result<Label, Fault>
     requires { length tables.now.points.now.keys ≤ 32 }
     ensures found { IfOk result (λ label. (names : Names)
         → (label_walk (tables_of tables.now) names (point_label name.now place)).end ≡ Ok label) }
@@ -158,7 +163,7 @@ fn point_label(alloc: Global, tables: &Tables, name: &Name, place: Place) -> Res
 // The label by a map.
 fn table_label(
     alloc: Global,
-    tables: &Tables,
+    tables: &TextTables,
     scope: &Scope,
     map: &Name,
     first: &Name,
@@ -199,7 +204,12 @@ fn second_number(signal: Option<KnownSignal>) -> Option<u32>
 }
 
 // A label. Rule 410 refuses unknown names, and selectors whose number or widths are not the map's.
-fn label(alloc: Global, tables: &Tables, scope: &Scope, text: &LabelText) -> Result<Label, Fault>
+fn label(
+    alloc: Global,
+    tables: &TextTables,
+    scope: &Scope,
+    text: &LabelText,
+) -> Result<Label, Fault>
     requires points { length tables.now.points.now.keys ≤ 32 }
     requires maps { length tables.now.maps.now.entries < 2 ^ 32 }
     ensures found { IfOk result (λ label. (label_walk (tables_of tables.now) (names_of scope.now)
@@ -218,7 +228,7 @@ fn label(alloc: Global, tables: &Tables, scope: &Scope, text: &LabelText) -> Res
 // The label that a declaration gives, or else the one that there is.
 fn given_label(
     alloc: Global,
-    tables: &Tables,
+    tables: &TextTables,
     scope: &Scope,
     decl: &Decl,
     label_so_far: Label,
@@ -272,7 +282,7 @@ fn push_declared<'a>(decls: &mut Vec<&'a Decl>, item: &'a Item) -> Result<(), Ou
 /// map's.
 pub fn labels(
     alloc: Global,
-    tables: &Tables,
+    tables: &TextTables,
     scope: &Scope,
     master: &Module,
     mut signals: Vec<Signal>,

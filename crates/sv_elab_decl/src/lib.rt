@@ -22,4 +22,4 @@ mod sites;
 pub use declarations::{body, header};
 pub use labelling::labels;
 pub use overriding::overrides;
-pub use sites::{Declared, Header, Site, Tables};
+pub use sites::{Declared, Header, Site, TextTables};

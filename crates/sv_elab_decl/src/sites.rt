@@ -12,7 +12,7 @@ use sv_width::Scope;
 /// What all instances of a text share: its modules, the names of its points by number, the least
 /// point, and its label maps by name.
 #[derive(Clone, Copy)]
-pub struct Tables<'a> {
+pub struct TextTables<'a> {
     pub modules: &'a [Module],
     pub points: &'a IndexSet<Name>,
     pub least: Point,

@@ -11,7 +11,7 @@ use Rattle.sv_ast.specs.Parts.{Path, Part, within, PartSignal, signal_path}
 use Rattle.sv_flat.specs.Design.{SignalForm}
 use Rattle.sv_flat.specs.Values.{signal_width}
 use Rattle.sv_elab_rules.specs.Names.{Names}
-use Rattle.sv_elab_rules.specs.LabelSteps.{Tables}
+use Rattle.sv_elab_rules.specs.LabelSteps.{SharedTables}
 use Rattle.sv_width.specs.Agreement.{HaveSignals}
 use Rattle.sv_elab_laws.specs.Numbering.{IsNumbering}
 use Rattle.sv_elab_laws.proofs.PartsLists.{zip_length, zip_left, get_below, index_is}
@@ -19,7 +19,7 @@ use Rattle.sv_elab_laws.proofs.PartsMaps.{same_some}
 use Rattle.sv_elab_laws.proofs.PartsNamed.{IsNamed}
 use Rattle.sv_elab_laws.proofs.PartsGrown.{IsForm, IsNumberOf, source_of_name, number_of_name}
 
-module _ (tables : Tables) (sources : List PartSignal) (everything : List Part)
+module _ (tables : SharedTables) (sources : List PartSignal) (everything : List Part)
     (signals : List SignalForm)
     (forms : AllZip (IsForm tables sources everything) sources signals) where
   pub same_size : length sources ≡ length signals

@@ -47,7 +47,7 @@ use Rattle.sv_elab_rules.specs.Walks.{ask, found}
 use Rattle.sv_elab_rules.specs.Rules.{bad_label}
 use Rattle.sv_elab_rules.specs.Names.{Names}
 use Rattle.sv_elab_rules.specs.Lattices.{point_number}
-use Rattle.sv_elab_rules.specs.LabelSteps.{Tables, second_selector, same_number, second_fits}
+use Rattle.sv_elab_rules.specs.LabelSteps.{SharedTables, second_selector, same_number, second_fits}
 use Rattle.sv_elab_rules.specs.LabelSteps.{label_walk}
 use Rattle.sv_elab_rules.proofs.WalkLemmas.{parts_done, asked_true, found_some}
 use Rattle.sv_elab_laws.proofs.PartsLists.{zip_right, get_contains, index_is, get_map}
@@ -155,9 +155,9 @@ module _ (text : TextTree) (top : Option (List ℕ)) (design : FlatDesign)
       × (map_of side.tables.maps k ≡ m.1)
   map_at n k h =
       let names_are : side.tables.map_names ≡ map (λ (m : List ℕ × MapRows). m.0) side.maps =
-      ap (λ (t : Tables). t.map_names) side.tables_are in
+      ap (λ (t : SharedTables). t.map_names) side.tables_are in
       let maps_are : side.tables.maps ≡ map (λ (m : List ℕ × MapRows). m.1) side.maps =
-      ap (λ (t : Tables). t.maps) side.tables_are in
+      ap (λ (t : SharedTables). t.maps) side.tables_are in
       let there : position (bytes_eq n) (map (λ (m : List ℕ × MapRows). m.0) side.maps) ≡ Some k =
       ap (position (bytes_eq n)) (sym names_are) ∙ h in
       let x = position_found (bytes_eq n) (map (λ (m : List ℕ × MapRows). m.0) side.maps) k there in
@@ -216,7 +216,7 @@ module _ (text : TextTree) (top : Option (List ℕ)) (design : FlatDesign)
     Numbered t l = IsPointNumber ordered (label_point text values t) (label_in design.maps l e).0
 
     points_are : side.tables.points ≡ ordered
-    points_are = ap (λ (t : Tables). t.points) side.tables_are
+    points_are = ap (λ (t : SharedTables). t.points) side.tables_are
 
     one_selector : (n first : List ℕ) (q : Place) (k : ℕ)
         → position (bytes_eq n) side.tables.map_names ≡ Some k

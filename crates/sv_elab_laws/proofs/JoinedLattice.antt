@@ -19,8 +19,9 @@ use Rattle.sv_ast.specs.Reach.{Leads, here, step}
 use Rattle.sv_ast.specs.SourceLabels.{points, pairs, flows}
 use Rattle.sv_elab_rules.specs.Walks.{ask, each}
 use Rattle.sv_elab_rules.specs.Rules.{lattice_size, lattice_name}
-use Rattle.sv_elab_rules.specs.Lattices.{Order, point_number, is_point, Question, stands_before, placed}
-use Rattle.sv_elab_rules.specs.Lattices.{in_textual_order, point_questions, pair_questions, answered}
+use Rattle.sv_elab_rules.specs.Lattices.{PointOrder, point_number, is_point, Question}
+use Rattle.sv_elab_rules.specs.Lattices.{stands_before, placed, in_textual_order, point_questions}
+use Rattle.sv_elab_rules.specs.Lattices.{pair_questions, answered}
 use Rattle.sv_elab_rules.specs.Lattices.{order_steps, table_of, turned, point_names, numbered_pair}
 use Rattle.sv_elab_rules.specs.Lattices.{declared_order, two_points, checked_order, lattice_walk}
 use Rattle.sv_elab_rules.proofs.WalkLemmas.{parts_done, asked_true}
@@ -133,7 +134,7 @@ one_number ps p j k a b = let e : Some j ≡ Some k = sym a ∙ b in cc e
 abbrev pub IsPair : List (List ℕ) → List ℕ × List ℕ → ℕ × ℕ → Type 0
 IsPair ps names numbers = IsPointNumber ps names.0 numbers.0 × IsPointNumber ps names.1 numbers.1
 
-pub record IsOrderFrom (ps : List (List ℕ)) (prs : List (List ℕ × List ℕ)) (order : Order) :
+pub record IsOrderFrom (ps : List (List ℕ)) (prs : List (List ℕ × List ℕ)) (order : PointOrder) :
     Type 0 where
   pub points_are : ps ≡ order.points
   pub numbers : List (ℕ × ℕ)
@@ -182,7 +183,7 @@ pairs_in l =
     option_map_or (λ (t : LatticeTree).
     map (λ (p : PairTree). (p.lower.name, p.upper.name)) t.pairs) l ((codes "L", codes "H") ∷ [])
 
-order_from : (l : Option LatticeTree) (order : Order) → (lattice_walk l).end ≡ Ok order →
+order_from : (l : Option LatticeTree) (order : PointOrder) → (lattice_walk l).end ≡ Ok order →
     IsOrderFrom (points_in l) (pairs_in l) order
 unfolding lattice_walk checked_order
 order_from None order h =
@@ -214,11 +215,12 @@ order_from (Some t) order h =
       table = refl;
     })
 
-pub order_of : (text : TextTree) (order : Order) → (lattice_walk text.lattice).end ≡ Ok order →
+pub order_of : (text : TextTree) (order : PointOrder) → (lattice_walk text.lattice).end ≡ Ok order →
     IsOrderFrom (points text) (pairs text) order
 order_of text order h = order_from text.lattice order h
 
-module _ (text : TextTree) (order : Order) (is : IsOrderFrom (points text) (pairs text) order) where
+module _ (text : TextTree) (order : PointOrder)
+    (is : IsOrderFrom (points text) (pairs text) order) where
   abbrev Number : List ℕ → ℕ → Type 0
   Number p k = IsPointNumber order.points p k
 

@@ -18,10 +18,11 @@ use Rattle.sv_lattice.specs.Tables.{flow_test}
 use Rattle.sv_ast.specs.Tree.{PlacedName, LatticeTree, TextTree}
 use Rattle.sv_ast.specs.SourceLabels.{points, pairs, flows, least}
 use Rattle.sv_ast.specs.Reach.{holds, reached}
-use Rattle.sv_elab_rules.specs.Walks.{Step, Steps, ask, each}
+use Rattle.sv_elab_rules.specs.Walks.{WalkStep, Steps, ask, each}
 use Rattle.sv_elab_rules.specs.Rules.{lattice_size, lattice_name, circle, no_join, no_meet}
 use Rattle.sv_elab_rules.specs.CaseChains.{numbers_below}
-use Rattle.sv_elab_rules.specs.Lattices.{Order, Question, is_point, contains, are_apart, have_join}
+use Rattle.sv_elab_rules.specs.Lattices.{PointOrder, Question, is_point, contains, are_apart}
+use Rattle.sv_elab_rules.specs.Lattices.{have_join}
 use Rattle.sv_elab_rules.specs.Lattices.{turned, pairs_below, pair_steps, order_steps, point_questions}
 use Rattle.sv_elab_rules.specs.Lattices.{pair_questions, in_textual_order, point_names, answered}
 use Rattle.sv_elab_rules.specs.Lattices.{declared_order, checked_order, two_points, lattice_walk}
@@ -57,7 +58,7 @@ pair_listed n a b a_in b_in =
     (range_has n a a_in)
     (Contains-map (λ d. (a, d)) (numbers_below n) b (range_has n b b_in))
 
-pairs_pass : (test : ℕ → ℕ → Bool) (broken : (a b : List ℕ) → Step) (ps : List (List ℕ))
+pairs_pass : (test : ℕ → ℕ → Bool) (broken : (a b : List ℕ) → WalkStep) (ps : List (List ℕ))
     → (pair_steps test broken ps).end ≡ Ok tt
     → (a b : ℕ) → a < length ps → b < length ps → test a b ≡ true
 unfolding pair_steps
@@ -89,7 +90,7 @@ points_differ earlier (p ∷ ps) holds =
     )
 
 -- what the walk asked of an order
-record IsChecked (order : Order) : Type 0 where
+record IsChecked (order : PointOrder) : Type 0 where
   pub some : 1 ≤ length order.points
   pub differ : AllDiffer order.points
   pub apart : (a b : ℕ) → a < length order.points → b < length order.points →
@@ -97,7 +98,7 @@ record IsChecked (order : Order) : Type 0 where
   pub meets : (a b : ℕ) → a < length order.points → b < length order.points →
       have_join (turned order.table) a b ≡ true
 
-checked_from : (t : LatticeTree) (order : Order) → (lattice_walk (Some t)).end ≡ Ok order →
+checked_from : (t : LatticeTree) (order : PointOrder) → (lattice_walk (Some t)).end ≡ Ok order →
     IsChecked order
 unfolding lattice_walk checked_order order_steps
 checked_from t order h =
@@ -136,7 +137,7 @@ lead_on : (pairs : List (ℕ × ℕ)) (xs ys : List ℕ) (a b c : ℕ) → Numbe
 lead_on pairs [] ys a b c e lead = subst (λ x. NumbersLead pairs x ys c) (sym e) lead
 lead_on pairs (x ∷ xs) ys a b c first lead = (first.0, lead_on pairs xs ys x b c first.1 lead)
 
-module _ (text : TextTree) (order : Order) (is : IsOrderFrom (points text) (pairs text) order)
+module _ (text : TextTree) (order : PointOrder) (is : IsOrderFrom (points text) (pairs text) order)
     (checked : IsChecked order) where
   abbrev n : ℕ
   n = length order.points
@@ -279,7 +280,7 @@ module _ (text : TextTree) (order : Order) (is : IsOrderFrom (points text) (pair
           listed all in
           absurd (let c : None ≡ Some some.0 = sym e ∙ some.1 in cc c)
 
-two_points_are : (order : Order) → (lattice_walk None).end ≡ Ok order → two_points ≡ order
+two_points_are : (order : PointOrder) → (lattice_walk None).end ≡ Ok order → two_points ≡ order
 unfolding lattice_walk
 two_points_are order h = same_ok two_points order h
 
@@ -289,7 +290,7 @@ least_from ps prs =
     list_all (λ b. holds bytes_eq (reached bytes_eq prs (length ps) (a ∷ [])) b) ps) ps) []
 
 -- the least point has one number by the pairs of the text and by the table
-pub least_number : (text : TextTree) (order : Order)
+pub least_number : (text : TextTree) (order : PointOrder)
     → (is : IsOrderFrom (points text) (pairs text) order)
     → (lattice_walk text.lattice).end ≡ Ok order
     → IsPointNumber order.points (least text) (least_point order.table)
@@ -300,17 +301,17 @@ least_number text order is = by_lattice text.lattice refl
         IsPointNumber order.points (least text) (least_point order.table)
     by_lattice (Some t) e h = least_same text order is (checked_from t order h)
     by_lattice None e h =
-        subst (λ (o : Order). IsPointNumber o.points (least text) (least_point o.table))
+        subst (λ (o : PointOrder). IsPointNumber o.points (least text) (least_point o.table))
         (two_points_are order h)
         (subst (λ l. IsPointNumber two_points.points (least_from (points_in l) (pairs_in l))
         (least_point two_points.table)) (sym e) refl)
 
 -- no point is declared twice
-pub points_apart : (l : Option LatticeTree) (order : Order) → (lattice_walk l).end ≡ Ok order
+pub points_apart : (l : Option LatticeTree) (order : PointOrder) → (lattice_walk l).end ≡ Ok order
     → AllDiffer order.points
 points_apart (Some t) order h = (checked_from t order h).differ
 points_apart None order h =
-    subst (λ (o : Order). AllDiffer o.points) (two_points_are order h) (
+    subst (λ (o : PointOrder). AllDiffer o.points) (two_points_are order h) (
       λ at. ⊎_elim
           (λ is. false≢true (subst (λ x. bytes_eq (codes "H") x ≡ true) is refl))
           (λ none. Contains-nil (codes "L") none)

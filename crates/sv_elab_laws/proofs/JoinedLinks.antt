@@ -27,7 +27,7 @@ use Rattle.sv_elab_rules.specs.TypedExpressions.{named_node, typed_of}
 use Rattle.sv_elab_rules.specs.ExpressionSteps.{asked, divisors, typed_walk, expression_walk}
 use Rattle.sv_elab_rules.specs.Links.{port_number, port_width, port_value, whole_assignment}
 use Rattle.sv_elab_rules.specs.Links.{input_link, output_link, link_walk}
-use Rattle.sv_elab_rules.specs.LabelSteps.{Tables}
+use Rattle.sv_elab_rules.specs.LabelSteps.{SharedTables}
 use Rattle.sv_elab_rules.proofs.WalkLemmas.{parts_done, asked_true, found_some}
 use Rattle.sv_width.specs.Agreement.{AllDeclared}
 use Rattle.sv_elab_laws.proofs.PartsLists.{contains_get, get_left}
@@ -72,7 +72,7 @@ whole_typed names declared (choice p c a b) k s h = refl
 whole_typed names declared (join p es) k s h = refl
 whole_typed names declared (replication p c es) k s h = refl
 
-module _ (tables : Tables) (sources : List PartSignal) (everything : List Part) (l : PortLink)
+module _ (tables : SharedTables) (sources : List PartSignal) (everything : List Part) (l : PortLink)
     (f : ProcessForm)
     (link : IsLink tables sources everything l f) where
   -- the numbers of the ends of a link

@@ -15,7 +15,7 @@ use Rattle.sv_flat.specs.Admission.{IsAdmitted}
 use Rattle.sv_flat.specs.Soundness.{sound}
 use Rattle.sv_flat.specs.FlatSystem.{flat_system}
 use Rattle.sv_ast.specs.SourceLabels.{points, pairs, least, flows}
-use Rattle.sv_elab_rules.specs.LabelSteps.{Tables}
+use Rattle.sv_elab_rules.specs.LabelSteps.{SharedTables}
 use Rattle.sv_elab_rules.specs.Texts.{flat_of}
 use Rattle.sv_elab_laws.specs.FlattenedTexts.{CanBeFlattened}
 use Rattle.sv_elab_laws.specs.SideBySide.{text_signals, path_at}
@@ -49,7 +49,7 @@ module _ (text : TextTree) (top : Option (List ℕ)) (design : FlatDesign)
       IsPointNumber side.order.points (least text) side.tables.least
   least_in side =
       least_number text side.order (order_is side) side.lattice
-      ∙ ap (λ (t : Tables). Some t.least) (sym side.tables_are)
+      ∙ ap (λ (t : SharedTables). Some t.least) (sym side.tables_are)
 
   -- a level sees the same signals by number as by path
   seen : (side : SideBySide text top design) (point : List ℕ) (e : Environment ℕ)

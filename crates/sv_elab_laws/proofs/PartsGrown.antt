@@ -25,7 +25,7 @@ use Rattle.sv_flat.specs.Processes.{is_clocked}
 use Rattle.sv_flat.specs.Clocks.{is_port_in, is_port_out}
 use Rattle.sv_elab_rules.specs.Names.{Names}
 use Rattle.sv_elab_rules.specs.Declarations.{kind_of}
-use Rattle.sv_elab_rules.specs.LabelSteps.{Tables, label_walk}
+use Rattle.sv_elab_rules.specs.LabelSteps.{SharedTables, label_walk}
 use Rattle.sv_elab_rules.specs.Links.{Ports, port_number, link_walk}
 use Rattle.sv_elab_rules.specs.Statements.{statement_walk}
 use Rattle.sv_elab_rules.specs.InstanceSteps.{Built, with_process}
@@ -39,7 +39,7 @@ use Rattle.sv_elab_laws.proofs.PartsNamed.{IsNamed}
 abbrev pub instance_names_in : List ItemTree → List (List ℕ)
 instance_names_in items = map (λ (i : InstanceTree). i.name) (filter_map instance_of items)
 
-module _ (tables : Tables) (sources : List PartSignal) (everything : List Part) where
+module _ (tables : SharedTables) (sources : List PartSignal) (everything : List Part) where
   abbrev pub LabelFound : Names → Option LabelTree → Label → Type 0
   LabelFound names None l = l ≡ Declared_point (record { 0 = tables.least })
   LabelFound names (Some t) l = (label_walk tables names t).end ≡ Ok l

@@ -21,7 +21,7 @@ use Rattle.sv_ast.specs.Parts.{Part, within, declarations}
 use Rattle.sv_ast.specs.Processes.{combinational, clocked, assigns}
 use Rattle.sv_flat.specs.Design.{ProcessForm, assign, continuous as continuous_kind}
 use Rattle.sv_flat.specs.Design.{combinational as combinational_kind, clocked as clocked_kind}
-use Rattle.sv_elab_rules.specs.Walks.{Step, done, ask, each, ◌>>=◌}
+use Rattle.sv_elab_rules.specs.Walks.{WalkStep, done, ask, each, ◌>>=◌}
 use Rattle.sv_elab_rules.specs.Rules.{unknown_name, too_wide}
 use Rattle.sv_elab_rules.specs.Names.{Names}
 use Rattle.sv_elab_rules.specs.ExpressionSteps.{expression_walk}
@@ -29,7 +29,7 @@ use Rattle.sv_elab_rules.specs.Targets.{selection_steps, target_steps, targets_s
 use Rattle.sv_elab_rules.specs.Targets.{assignment_walk}
 use Rattle.sv_elab_rules.specs.Statements.{statement_walk}
 use Rattle.sv_elab_rules.specs.Links.{whole_assignment}
-use Rattle.sv_elab_rules.specs.LabelSteps.{Tables}
+use Rattle.sv_elab_rules.specs.LabelSteps.{SharedTables}
 use Rattle.sv_elab_rules.specs.InstanceSteps.{Built, with_process, value_walk, assign_walk, always_walk}
 use Rattle.sv_elab_rules.proofs.WalkLemmas.{parts_done, end_after, asked_true}
 use Rattle.sv_ast.specs.Parts.{PartSignal}
@@ -40,7 +40,7 @@ use Rattle.sv_elab_laws.proofs.PartsNamed.{IsNamed}
 use Rattle.sv_elab_laws.proofs.PartsGrown.{Grown, grown_none, grown_one}
 use Rattle.sv_elab_laws.proofs.PartsGrown.{number_of_name, signal_is}
 
-ask_ok : (b : Bool) (s : Step) → b ≡ true → (ask b s).end ≡ Ok tt
+ask_ok : (b : Bool) (s : WalkStep) → b ≡ true → (ask b s).end ≡ Ok tt
 ask_ok b s h = subst (λ x. (ask x s).end ≡ Ok tt) (sym h) refl
 
 -- the value of a wire is an assignment to it
@@ -86,7 +86,7 @@ wholes_are_shaped (t ∷ ts) h =
     and_from (is_shaped_target t) (list_all is_shaped_target ts)
     (whole_is_shaped t.selection both.0) (wholes_are_shaped ts both.1)
 
-module _ (tables : Tables) (sources : List PartSignal) (everything : List Part) (p : Part)
+module _ (tables : SharedTables) (sources : List PartSignal) (everything : List Part) (p : Part)
     (names : Names)
     (named : IsNamed sources everything p names) where
   pub value_grown : (d : DeclarationTree) (v : Option ExpressionTree) (built next : Built)

@@ -22,7 +22,7 @@ use Rattle.sv_elab_rules.specs.Names.{Names, place_of}
 use Rattle.sv_elab_rules.specs.ExpressionSteps.{expression_walk}
 use Rattle.sv_elab_rules.specs.Links.{Ports, port_number, port_width, input_link, output_link, link_walk}
 use Rattle.sv_elab_rules.specs.Links.{optional_link, named_links_walk, ordered_links_walk, links_walk}
-use Rattle.sv_elab_rules.specs.LabelSteps.{Tables}
+use Rattle.sv_elab_rules.specs.LabelSteps.{SharedTables}
 use Rattle.sv_elab_rules.proofs.WalkLemmas.{parts_done, found_some}
 use Rattle.sv_elab_laws.proofs.PartsLists.{zip_append, filter_map_append, contains_get, get_contains}
 use Rattle.sv_elab_laws.proofs.PartsLists.{get_left}
@@ -73,7 +73,7 @@ cons_split : (o : Option PortLink) (rest : List PortLink) →
 cons_split (Some l) rest = refl
 cons_split None rest = refl
 
-module _ (tables : Tables) (sources : List PartSignal) (everything : List Part) (p q : Part)
+module _ (tables : SharedTables) (sources : List PartSignal) (everything : List Part) (p q : Part)
     (outer inner : Names)
     (outer_named : IsNamed sources everything p outer)
     (inner_named : IsNamed sources everything q inner)

@@ -30,7 +30,7 @@ use Rattle.sv_elab_rules.specs.Rules.{unknown_module, twice, recursive, too_many
 use Rattle.sv_elab_rules.specs.Names.{Names, names_of}
 use Rattle.sv_elab_rules.specs.Declarations.{Site, kind_of, declared_signal, nothing_declared}
 use Rattle.sv_elab_rules.specs.Declarations.{declarations_walk}
-use Rattle.sv_elab_rules.specs.LabelSteps.{Tables, label_walk, given_label, labels_walk}
+use Rattle.sv_elab_rules.specs.LabelSteps.{SharedTables, label_walk, given_label, labels_walk}
 use Rattle.sv_elab_rules.specs.Overrides.{overrides_walk}
 use Rattle.sv_elab_rules.specs.Links.{Ports, port_number, links_walk}
 use Rattle.sv_elab_rules.specs.InstanceSteps.{Built, ports_of, instance_walk, instance_names, item_walk}
@@ -67,7 +67,7 @@ module _ {X Y Z : Type 0} (R : X → Y → Type 0) (Q : Z → Y → Type 0) (f :
         step z w (Contains-later x xs z at)),
   )
 
-module _ (tables : Tables) (names : Names) where
+module _ (tables : SharedTables) (names : Names) where
   labels_done : (form : DeclarationTree
       → SignalForm) (ds : List DeclarationTree) (all : List SignalForm)
       → (labels_walk tables names ds (map form ds)).end ≡ Ok all
@@ -132,7 +132,7 @@ not_taken (m ∷ taken) n h at =
     (λ inside. not_taken taken n parts.1 inside)
     (Contains-cases m taken n at)
 
-module _ (tables : Tables) (sources : List PartSignal) (everything : List Part)
+module _ (tables : SharedTables) (sources : List PartSignal) (everything : List Part)
     (fine : (m : ModuleTree) → Contains tables.modules m → IsFlattenedModule m) where
   -- what the walk of a site leads to
   pub record Inside (site : Site) (built after : Built) (ps : List Part) (qs : List Process)

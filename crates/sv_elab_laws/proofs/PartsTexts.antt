@@ -15,11 +15,11 @@ use Rattle.sv_ast.specs.Parts.{PartSignal}
 use Rattle.sv_ast.specs.Parts.{signal_path, declarations, signals_of}
 use Rattle.sv_ast.specs.Processes.{Process, processes_from, processes}
 use Rattle.sv_flat.specs.Design.{FlatDesign}
-use Rattle.sv_elab_rules.specs.Walks.{Step, found}
+use Rattle.sv_elab_rules.specs.Walks.{WalkStep, found}
 use Rattle.sv_elab_rules.specs.Rules.{no_top}
-use Rattle.sv_elab_rules.specs.Lattices.{Order, lattice_walk}
+use Rattle.sv_elab_rules.specs.Lattices.{PointOrder, lattice_walk}
 use Rattle.sv_elab_rules.specs.LabelMaps.{maps_walk}
-use Rattle.sv_elab_rules.specs.LabelSteps.{Tables}
+use Rattle.sv_elab_rules.specs.LabelSteps.{SharedTables}
 use Rattle.sv_elab_rules.specs.Declarations.{Site}
 use Rattle.sv_elab_rules.specs.InstanceSteps.{Built}
 use Rattle.sv_elab_rules.specs.Texts.{module_names, top_walk, tables_of, design_of, walk_of, value_in}
@@ -46,11 +46,11 @@ sources_of text top = flat_map signals_of (parts text top)
 -- a text, some of its processes and a design side by side
 pub record Beside (text : TextTree) (top : Option (List ℕ)) (qs : List Process)
     (design : FlatDesign) : Type 0 where
-  pub order : Order
+  pub order : PointOrder
   pub lattice : (lattice_walk text.lattice).end ≡ Ok order
   pub maps : List (List ℕ × MapRows)
   pub maps_walked : (maps_walk order.points [] text.maps).end ≡ Ok maps
-  pub tables : Tables
+  pub tables : SharedTables
   pub tables_are : tables ≡ tables_of text.modules order maps
   pub table : design.lattice ≡ order.table
   pub points : design.points ≡ order.points
@@ -72,7 +72,7 @@ SideBySide text top design = Beside text top (processes text top) design
 abbrev pub MadeBeside : TextTree → Option (List ℕ) → FlatDesign → Type 0
 MadeBeside text top design = Beside text top (made_of text top) design
 
-pub value_is : {X : Type 0} (r : Result X Step) (x : X) → value_in r ≡ Some x → r ≡ Ok x
+pub value_is : {X : Type 0} (r : Result X WalkStep) (x : X) → value_in r ≡ Some x → r ≡ Ok x
 value_is (Ok y) x h = ap Ok (let e : y ≡ x = cc h in e)
 value_is (Err s) x h = absurd (cc h)
 
@@ -93,7 +93,8 @@ top_listed modules None m e =
     (only_member (uninstanced modules) m e)).1
 
 module _ (text : TextTree) (top : Option (List ℕ)) (fine : IsFlattened text) where
-  top_grown : (tables : Tables) (m : ModuleTree) (built : Built) → tables.modules ≡ text.modules
+  top_grown : (tables : SharedTables) (m : ModuleTree) (built : Built)
+      → tables.modules ≡ text.modules
       → top_module text.modules top ≡ Some m
       → (top_walk tables m).end ≡ Ok built
       → Grown tables (sources_of text top) (parts text top) (record {
@@ -272,4 +273,4 @@ module _ (text : TextTree) (top : Option (List ℕ)) (design : FlatDesign)
   pub each_child : HasEachChild text top
   each_child p c i at listed is =
       side.inner p at i c listed
-      (ap (λ (t : Tables). child t.modules p i) side.tables_are ∙ is)
+      (ap (λ (t : SharedTables). child t.modules p i) side.tables_are ∙ is)

@@ -25,7 +25,7 @@ use Rattle.sv_elab_rules.specs.Declarations.{Site, Declared, declared_signal, no
 use Rattle.sv_elab_rules.specs.Declarations.{range_steps, override_of, final_walk, parameter_walk}
 use Rattle.sv_elab_rules.specs.Declarations.{signal_ahead, signal_walk, declaration_walk}
 use Rattle.sv_elab_rules.specs.Declarations.{declarations_walk}
-use Rattle.sv_elab_rules.specs.LabelSteps.{Tables, given_label, labels_walk}
+use Rattle.sv_elab_rules.specs.LabelSteps.{SharedTables, given_label, labels_walk}
 use Rattle.sv_elab_rules.specs.Overrides.{overrides_walk}
 use Rattle.sv_elab_rules.specs.Links.{links_walk}
 use Rattle.sv_elab_rules.specs.InstanceSteps.{Built, ports_of, value_walk, assign_walk, always_walk}
@@ -84,7 +84,7 @@ module _ (base least : ℕ) (site : Site) where
       declared_few items both.0 w both.2 (signal_few a d both.0 both.1)
   declared_few (item ∷ items) a w h few = declared_few items a w h few
 
-module _ (tables : Tables) where
+module _ (tables : SharedTables) where
   labels_few : (names : Names) (ds : List DeclarationTree) (signals all : List SignalForm)
       → (labels_walk tables names ds signals).end ≡ Ok all → length all ≤ length signals
   unfolding labels_walk

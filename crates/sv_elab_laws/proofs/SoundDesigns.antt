@@ -17,7 +17,7 @@ use Rattle.sv_elab_rules.specs.Walks.{found}
 use Rattle.sv_elab_rules.specs.Rules.{no_top}
 use Rattle.sv_elab_rules.specs.Lattices.{lattice_walk}
 use Rattle.sv_elab_rules.specs.LabelMaps.{maps_walk}
-use Rattle.sv_elab_rules.specs.LabelSteps.{Tables}
+use Rattle.sv_elab_rules.specs.LabelSteps.{SharedTables}
 use Rattle.sv_elab_rules.specs.Declarations.{Site}
 use Rattle.sv_elab_rules.specs.InstanceSteps.{Built}
 use Rattle.sv_elab_rules.specs.Texts.{module_names, top_walk, tables_of, design_of, walk_of, flat_of}
@@ -39,7 +39,7 @@ use Rattle.sv_elab_laws.proofs.SoundCounts.{sites_few}
 module _ (text : TextTree) (top : Option (List ℕ)) (design : FlatDesign) where
   -- the walk of the top of a text
   record WalkedTop : Type 0 where
-    pub tables : Tables
+    pub tables : SharedTables
     pub modules : tables.modules ≡ text.modules
     pub master : ModuleTree
     pub is_top : top_module text.modules top ≡ Some master

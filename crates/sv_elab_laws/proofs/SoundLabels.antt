@@ -29,7 +29,7 @@ use Rattle.sv_elab_rules.specs.Names.{Names}
 use Rattle.sv_elab_rules.specs.Lattices.{point_number}
 use Rattle.sv_elab_rules.specs.CaseChains.{numbers_below}
 use Rattle.sv_elab_rules.specs.LabelMaps.{point_at, default_walk, has_all_rows}
-use Rattle.sv_elab_rules.specs.LabelSteps.{Tables, second_selector, same_number, second_fits}
+use Rattle.sv_elab_rules.specs.LabelSteps.{SharedTables, second_selector, same_number, second_fits}
 use Rattle.sv_elab_rules.specs.LabelSteps.{second_number, label_walk}
 use Rattle.sv_elab_rules.proofs.WalkLemmas.{parts_done, asked_true, found_some}
 use Rattle.sv_elab_laws.proofs.PartsLists.{zip_right, contains_get, get_below}
@@ -134,7 +134,7 @@ module _ (text : TextTree) (top : Option (List ℕ)) (design : FlatDesign)
   maps_beside = subst (AllZip (IsMapOf ordered) text.maps) (sym all_maps.1) all_maps.2
 
   maps_are : design.maps ≡ map (λ (m : List ℕ × MapRows). m.1) side.maps
-  maps_are = side.design_maps ∙ ap (λ (t : Tables). t.maps) side.tables_are
+  maps_are = side.design_maps ∙ ap (λ (t : SharedTables). t.maps) side.tables_are
 
   rows_sound : (t : MapTree) (m : List ℕ × MapRows) → IsMapOf ordered t m →
       map_sound design m.1 ≡ true
@@ -161,7 +161,7 @@ module _ (text : TextTree) (top : Option (List ℕ)) (design : FlatDesign)
       let x = position_found (bytes_eq n) side.tables.map_names k h in
       let below = get_below side.tables.map_names k x.0 x.1 in
       let named : length side.tables.map_names ≡ length side.maps =
-      ap (λ (t : Tables). length t.map_names) side.tables_are
+      ap (λ (t : SharedTables). length t.map_names) side.tables_are
       ∙ length-map side.maps (λ (m : List ℕ × MapRows). m.0) in
       let all : length design.maps ≡ length side.maps =
       ap length maps_are ∙ length-map side.maps (λ (m : List ℕ × MapRows). m.1) in
@@ -203,7 +203,7 @@ module _ (text : TextTree) (top : Option (List ℕ)) (design : FlatDesign)
         subst (λ z. label_sound design z ≡ true) (same_ok _ l point.2)
         (point_there n point.0
         (subst (λ ps. point_number ps n ≡ Some point.0)
-        (ap (λ (t : Tables). t.points) side.tables_are) is))
+        (ap (λ (t : SharedTables). t.points) side.tables_are) is))
     found_sound (table_label n first second q) l h =
         let named_map = parts_done
         (found (position (bytes_eq n) side.tables.map_names) (bad_label q n)) _ l h in
@@ -237,7 +237,7 @@ module _ (text : TextTree) (top : Option (List ℕ)) (design : FlatDesign)
         subst (λ z. label_sound design z ≡ true) (sym is)
         (point_there (least text) side.tables.least
         (subst (IsPointNumber ordered (least text))
-        (sym (ap (λ (t : Tables). t.least) side.tables_are))
+        (sym (ap (λ (t : SharedTables). t.least) side.tables_are))
         (least_number text side.order ordered_from side.lattice)))
     given_sound (Some t) l h = found_sound t l h
 

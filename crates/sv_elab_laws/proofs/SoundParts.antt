@@ -21,7 +21,7 @@ use Rattle.sv_elab_rules.specs.Walks.{Walk, ask, found}
 use Rattle.sv_elab_rules.specs.Rules.{unknown_module, twice, recursive, too_many}
 use Rattle.sv_elab_rules.specs.Names.{Names, names_of}
 use Rattle.sv_elab_rules.specs.Declarations.{Site, nothing_declared, declarations_walk}
-use Rattle.sv_elab_rules.specs.LabelSteps.{Tables, labels_walk}
+use Rattle.sv_elab_rules.specs.LabelSteps.{SharedTables, labels_walk}
 use Rattle.sv_elab_rules.specs.Overrides.{overrides_walk}
 use Rattle.sv_elab_rules.specs.Links.{Ports, links_walk}
 use Rattle.sv_elab_rules.specs.InstanceSteps.{Built, ports_of, instance_walk, instance_names, item_walk}
@@ -43,7 +43,7 @@ use Rattle.sv_elab_laws.proofs.SoundLengths.{SetHasLengths, AreMeasured, declare
 no_port : (d : DeclarationTree) (p : ParameterTree) → declared d ≡ parameter_item p → ⊥
 no_port d p e = cc e
 
-module _ (tables : Tables)
+module _ (tables : SharedTables)
     (fine : (m : ModuleTree) → Contains tables.modules m → IsFlattenedModule m)
     (shaped : (m : ModuleTree) → Contains tables.modules m → IsTrue (is_shaped_module m))
     (long : (m : ModuleTree) → Contains tables.modules m → ModuleHasLengths m) where

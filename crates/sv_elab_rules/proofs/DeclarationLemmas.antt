@@ -4,14 +4,14 @@ use Rattle.std.proofs.Common.{◌≡◌, ℕ, ◌+◌, true, List, [], ◌∷◌
 use Rattle.std.specs.Prelude.{Result, Ok, Err, nat_lt}
 use Rattle.sv_ast.specs.Tree.{ItemTree, DeclarationTree, parameter_item, declared, memory_item}
 use Rattle.sv_ast.specs.Tree.{continuous, released, always_item, invariant_item, instance_item}
-use Rattle.sv_elab_rules.specs.Walks.{Step, Walk, ask, done, then_walk, ◌>>=◌}
+use Rattle.sv_elab_rules.specs.Walks.{WalkStep, Walk, ask, done, then_walk, ◌>>=◌}
 use Rattle.sv_elab_rules.specs.Rules.{too_many}
 use Rattle.sv_elab_rules.specs.Declarations.{Site, Declared, declaration_walk, declarations_walk}
 use Rattle.sv_elab_rules.specs.Declarations.{signal_ahead, signal_walk, declaration_ahead, declared_until}
 use Rattle.sv_elab_rules.proofs.WalkLemmas.{joined_ends, parts_done, asked_true}
 
 -- walks with equal ends go on to equal ends
-same_ends : {X Y : Type 0} (passed : List Step) (r : Result X Step) (f g : X → Walk Y)
+same_ends : {X Y : Type 0} (passed : List WalkStep) (r : Result X WalkStep) (f g : X → Walk Y)
     → ((x : X) → (f x).end ≡ (g x).end) → (then_walk passed r f).end ≡ (then_walk passed r g).end
 same_ends passed (Ok x) f g h = h x
 same_ends passed (Err s) f g h = refl
@@ -67,7 +67,7 @@ module _ (base least : ℕ) (site : Site) where
   unfolding declared_until
   until_next so_far next item items h = rw (h, declared_until) refl
 
-  pub until_stops : (so_far : Declared) (item : ItemTree) (items : List ItemTree) (s : Step)
+  pub until_stops : (so_far : Declared) (item : ItemTree) (items : List ItemTree) (s : WalkStep)
       → (declaration_ahead base least site so_far item).end ≡ Err s
       → declared_until base least site so_far (item ∷ items) ≡ so_far
   unfolding declared_until

@@ -15,7 +15,7 @@ use Rattle.sv_ast.specs.Tree.{NamedOverride, OverrideTrees, ordered_overrides, N
 use Rattle.sv_ast.specs.Tree.{ordered_links, PlacedName, ItemTree, parameter_item, declared}
 use Rattle.sv_ast.specs.Tree.{continuous, always_item, instance_item, ModuleTree, PairTree}
 use Rattle.sv_ast.specs.Tree.{LatticeTree, KeyTree, RowTree, MapTree, TextTree}
-use Rattle.sv_elab_rules.specs.Walks.{Step}
+use Rattle.sv_elab_rules.specs.Walks.{WalkStep}
 use Rattle.sv_elab_rules.specs.Rules.{step}
 use Rattle.sv_flat.specs.Design.{FlatDesign}
 
@@ -207,5 +207,5 @@ abbrev pub text_of : Option LatticeTree → List MapTree → List ModuleTree →
 text_of l maps modules = record { lattice = l; maps = maps; modules = modules }
 
 -- a walk ends at that step of line 1
-abbrev pub breaks : (rule column : ℕ) → List String → Result FlatDesign Step
+abbrev pub breaks : (rule column : ℕ) → List String → Result FlatDesign WalkStep
 breaks rule c names = Err (step rule (at c) (map codes names))

@@ -7,7 +7,7 @@ use Rattle.sv_elab_rules.specs.Rules.{no_top, twice, too_many, bad_range, unknow
 use Rattle.sv_elab_rules.specs.Rules.{zero_divisor}
 use Rattle.sv_elab_rules.specs.Names.{Names, names_of}
 use Rattle.sv_elab_rules.specs.Declarations.{Site, nothing_declared, signal_walk, declarations_walk}
-use Rattle.sv_elab_rules.specs.LabelSteps.{Tables}
+use Rattle.sv_elab_rules.specs.LabelSteps.{SharedTables}
 use Rattle.sv_elab_rules.specs.Links.{links_walk}
 use Rattle.sv_elab_rules.specs.InstanceSteps.{Built, ports_of, site_walk}
 use Rattle.sv_elab_rules.specs.Texts.{walk_of}
@@ -38,7 +38,7 @@ abbrev outer : ModuleTree
 outer = module_of "m" 8 [] []
     (stands "s" 11 no_overrides "u" 13 no_links ∷ stands "s" 11 no_overrides "v" 18 no_links ∷ [])
 
-abbrev tables : Tables
+abbrev tables : SharedTables
 tables = record {
   modules = outer ∷ module_of "s" 40 [] [] [] ∷ [];
   points = codes "L" ∷ codes "H" ∷ [];

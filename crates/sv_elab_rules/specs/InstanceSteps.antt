@@ -22,7 +22,7 @@ use Rattle.sv_elab_rules.specs.ExpressionSteps.{expression_walk}
 use Rattle.sv_elab_rules.specs.Targets.{assignment_walk}
 use Rattle.sv_elab_rules.specs.Statements.{statement_walk}
 use Rattle.sv_elab_rules.specs.Declarations.{Site, nothing_declared, declarations_walk, declared_until}
-use Rattle.sv_elab_rules.specs.LabelSteps.{Tables, labels_walk}
+use Rattle.sv_elab_rules.specs.LabelSteps.{SharedTables, labels_walk}
 use Rattle.sv_elab_rules.specs.Overrides.{overrides_walk}
 use Rattle.sv_elab_rules.specs.Links.{Ports, whole_assignment, links_walk}
 
@@ -76,7 +76,7 @@ ports_of least site base = record {
 
 -- an instance: its module, its name, whether its module is around it, the limit, what it sets, its
 -- links, then its inside
-unfoldable pub instance_walk : (inside : Site → Built → Walk Built) → Tables → Site → Names
+unfoldable pub instance_walk : (inside : Site → Built → Walk Built) → SharedTables → Site → Names
     → (taken : List (List ℕ)) → Built → InstanceTree → Walk Built
 instance_walk inside tables site names taken built i = do
   m ← found (module_named tables.modules i.master) (unknown_module i.place i.master)
@@ -104,7 +104,7 @@ instance_names (instance_item i) = i.name ∷ []
 instance_names _ = []
 
 -- memories, releases and invariants are refused before the walk
-unfoldable pub item_walk : (inside : Site → Built → Walk Built) → Tables → Site → Names
+unfoldable pub item_walk : (inside : Site → Built → Walk Built) → SharedTables → Site → Names
     → (taken : List (List ℕ)) → Built → ItemTree → Walk Built
 item_walk inside tables site names taken built (parameter_item p) = done built
 item_walk inside tables site names taken built (declared d) = value_walk names built d d.value
@@ -117,7 +117,7 @@ item_walk inside tables site names taken built (invariant_item p e) = done built
 item_walk inside tables site names taken built (instance_item i) =
     instance_walk inside tables site names taken built i
 
-unfoldable pub items_from : (inside : Site → Built → Walk Built) → Tables → Site → Names
+unfoldable pub items_from : (inside : Site → Built → Walk Built) → SharedTables → Site → Names
     → (taken : List (List ℕ)) → Built → List ItemTree → Walk Built
 items_from inside tables site names taken built [] = done built
 items_from inside tables site names taken built (item ∷ items) = do
@@ -125,7 +125,7 @@ items_from inside tables site names taken built (item ∷ items) = do
   items_from inside tables site names (taken ++ instance_names item) next items
 
 -- all of one instance, given the walk of the instances in it
-unfoldable pub module_walk : (inside : Site → Built → Walk Built) → Tables → Site → Built →
+unfoldable pub module_walk : (inside : Site → Built → Walk Built) → SharedTables → Site → Built →
     Walk Built
 module_walk inside tables site built = do
   declared_all ← declarations_walk (length built.signals) tables.least site nothing_declared
@@ -137,6 +137,6 @@ module_walk inside tables site built = do
 
 -- an instance with at most so many levels of instances in it; each level costs an instance, so a
 -- number above their limit is never used up
-unfoldable pub site_walk : (levels : ℕ) → Tables → Site → Built → Walk Built
+unfoldable pub site_walk : (levels : ℕ) → SharedTables → Site → Built → Walk Built
 site_walk zero tables site built = done built
 site_walk (suc levels) tables site built = module_walk (site_walk levels tables) tables site built

@@ -19,7 +19,7 @@ use Rattle.sv_elab_rules.specs.Lattices.{point_number}
 
 -- what all instances of a text share: its modules, the names of its points, the number of the least
 -- one, and its maps with their names
-pub record Tables : Type 0 where
+pub record SharedTables : Type 0 where
   pub modules : List ModuleTree
   pub points : List (List ℕ)
   pub least : ℕ
@@ -49,7 +49,7 @@ second_number names (Some n) = Some (names.number n)
 
 -- a label; the selectors are known, their number is that of the ranges, and their widths are those
 -- of the ranges
-unfoldable pub label_walk : Tables → Names → LabelTree → Walk Label
+unfoldable pub label_walk : SharedTables → Names → LabelTree → Walk Label
 label_walk tables names (point_label n p) = do
   point ← found (point_number tables.points n) (bad_label p n)
   done (Declared_point (record { 0 = point }))
@@ -63,14 +63,14 @@ label_walk tables names (table_label n first second p) = do
   done (Table map (names.number first) (second_number names second))
 
 -- without a label a signal keeps the least point
-unfoldable pub given_label : Tables → Names → Option LabelTree → SignalForm → Walk SignalForm
+unfoldable pub given_label : SharedTables → Names → Option LabelTree → SignalForm → Walk SignalForm
 given_label tables names None s = done s
 given_label tables names (Some t) s = do
   label ← label_walk tables names t
   done (record s { label = label })
 
 -- the signals of some declarations, in this order, with their labels
-unfoldable pub labels_walk : Tables → Names → List DeclarationTree → List SignalForm
+unfoldable pub labels_walk : SharedTables → Names → List DeclarationTree → List SignalForm
     → Walk (List SignalForm)
 labels_walk tables names (d ∷ ds) (s ∷ signals) = do
   first ← given_label tables names d.label s

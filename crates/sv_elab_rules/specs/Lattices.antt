@@ -10,13 +10,13 @@ use Rattle.std.specs.Str.{bytes_eq}
 use Rattle.sv_num.specs.declared.faults.Place.{Place}
 use Rattle.sv_lattice.specs.Tables.{flow_test}
 use Rattle.sv_ast.specs.Tree.{PlacedName, PairTree, LatticeTree}
-use Rattle.sv_elab_rules.specs.Walks.{Step, Walk, Steps, done, ask, each, ◌>>=◌}
+use Rattle.sv_elab_rules.specs.Walks.{WalkStep, Walk, Steps, done, ask, each, ◌>>=◌}
 use Rattle.sv_elab_rules.specs.Rules.{lattice_size, lattice_name, circle, no_join, no_meet}
 use Rattle.sv_elab_rules.specs.CaseChains.{numbers_below}
 
 -- the names of the points, by number, and for each point the set of the points that it flows to, as
 -- a number
-pub record Order : Type 0 where
+pub record PointOrder : Type 0 where
   pub points : List (List ℕ)
   pub table : List ℕ
 
@@ -32,7 +32,7 @@ is_point points n = list_any (bytes_eq n) points
 -- a step with its answer
 pub record Question : Type 0 where
   pub holds : Bool
-  pub step : Step
+  pub step : WalkStep
 
 -- whether a place stands before another one
 abbrev pub stands_before : Place → Place → Bool
@@ -120,7 +120,7 @@ abbrev pub pairs_below : ℕ → List (ℕ × ℕ)
 pairs_below n = flat_map (λ a. map (λ b. (a, b)) (numbers_below n)) (numbers_below n)
 
 -- each two points are asked whether the test holds of them
-unfoldable pub pair_steps : (test : ℕ → ℕ → Bool) → (broken : (a b : List ℕ) → Step)
+unfoldable pub pair_steps : (test : ℕ → ℕ → Bool) → (broken : (a b : List ℕ) → WalkStep)
     → (points : List (List ℕ)) → Steps
 pair_steps test broken points = each
     (λ (pair : ℕ × ℕ). ask (test pair.0 pair.1)
@@ -147,7 +147,7 @@ numbered_pair points pair = (
 )
 
 -- the order of declared points
-abbrev pub declared_order : LatticeTree → Order
+abbrev pub declared_order : LatticeTree → PointOrder
 declared_order t =
     let points = point_names t in
     record {
@@ -156,15 +156,15 @@ declared_order t =
     }
 
 -- a text without a lattice has the points L and H, and L flows to H
-abbrev pub two_points : Order
+abbrev pub two_points : PointOrder
 two_points = record { points = codes "L" ∷ codes "H" ∷ []; table = table_of 2 ((0, 1) ∷ []) }
 
-unfoldable pub checked_order : Place → Order → Walk Order
+unfoldable pub checked_order : Place → PointOrder → Walk PointOrder
 checked_order p order = do
   _ ← order_steps p order.points order.table (turned order.table)
   done order
 
-unfoldable pub lattice_walk : Option LatticeTree → Walk Order
+unfoldable pub lattice_walk : Option LatticeTree → Walk PointOrder
 lattice_walk None = done two_points
 lattice_walk (Some t) = do
   _ ← ask (nat_le 1 (length t.points) && nat_le (length t.points) 32) (lattice_size t.place)

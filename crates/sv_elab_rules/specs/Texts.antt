@@ -11,11 +11,11 @@ use Rattle.sv_ast.specs.Tree.{ModuleTree, TextTree}
 use Rattle.sv_ast.specs.Instances.{top_module}
 use Rattle.sv_ast.specs.Parts.{most_levels}
 use Rattle.sv_flat.specs.Design.{FlatDesign}
-use Rattle.sv_elab_rules.specs.Walks.{Step, Walk, Steps, done, ask, found, ◌>>=◌}
+use Rattle.sv_elab_rules.specs.Walks.{WalkStep, Walk, Steps, done, ask, found, ◌>>=◌}
 use Rattle.sv_elab_rules.specs.Rules.{step, twice, no_top}
-use Rattle.sv_elab_rules.specs.Lattices.{Order, lattice_walk, least_point}
+use Rattle.sv_elab_rules.specs.Lattices.{PointOrder, lattice_walk, least_point}
 use Rattle.sv_elab_rules.specs.LabelMaps.{maps_walk}
-use Rattle.sv_elab_rules.specs.LabelSteps.{Tables}
+use Rattle.sv_elab_rules.specs.LabelSteps.{SharedTables}
 use Rattle.sv_elab_rules.specs.InstanceSteps.{Built, site_walk}
 
 -- no module has the name of an earlier one
@@ -26,12 +26,12 @@ module_names earlier (m ∷ ms) = do
   module_names (earlier ++ m.name ∷ []) ms
 
 -- the top's instance; the top counts as an instance
-unfoldable pub top_walk : Tables → ModuleTree → Walk Built
+unfoldable pub top_walk : SharedTables → ModuleTree → Walk Built
 top_walk tables m = site_walk most_levels tables
     (record { path = []; around = m.name ∷ []; master = m; set = [] })
     (record { signals = []; processes = []; instances = 1 })
 
-abbrev pub tables_of : List ModuleTree → Order → List (List ℕ × MapRows) → Tables
+abbrev pub tables_of : List ModuleTree → PointOrder → List (List ℕ × MapRows) → SharedTables
 tables_of modules order maps = record {
   modules = modules;
   points = order.points;
@@ -40,7 +40,7 @@ tables_of modules order maps = record {
   maps = map (λ (m : List ℕ × MapRows). m.1) maps;
 }
 
-abbrev pub design_of : Order → Tables → Built → FlatDesign
+abbrev pub design_of : PointOrder → SharedTables → Built → FlatDesign
 design_of order tables built = record {
   signals = built.signals;
   processes = built.processes;
@@ -62,7 +62,7 @@ walk_of text top = do
   done (design_of order tables built)
 
 -- the value that a result has, if it has one
-abbrev pub value_in : {X : Type 0} → Result X Step → Option X
+abbrev pub value_in : {X : Type 0} → Result X WalkStep → Option X
 value_in (Ok x) = Some x
 value_in (Err s) = None
 

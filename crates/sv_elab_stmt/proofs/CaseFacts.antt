@@ -4,7 +4,7 @@ use Rattle.std.proofs.Common.{◌∙◌, arith}
 use Rattle.std.specs.Prelude.{◌&&◌, Ok, Err}
 use Rattle.sv_ast.specs.Tree.{ExpressionTree, ArmTrees, no_arms, more_arms}
 use Rattle.sv_ast.specs.Values.{signed_of}
-use Rattle.sv_elab_rules.specs.Walks.{Step, done, value_or}
+use Rattle.sv_elab_rules.specs.Walks.{WalkStep, done, value_or}
 use Rattle.sv_elab_rules.specs.Names.{Names}
 use Rattle.sv_elab_rules.specs.ExpressionSteps.{asked}
 use Rattle.sv_elab_rules.specs.CaseChains.{item_length, item_signed, items_length, items_signed}
@@ -21,7 +21,8 @@ passed_sign names e h =
     ap (λ r. value_or r true) (end_after (asked names true e) (λ _.
     done (signed_of names.scope e)) tt h)
 
-pub broken_sign : (names : Names) (e : ExpressionTree) (s : Step) → (asked names true e).end ≡ Err s
+pub broken_sign : (names : Names) (e : ExpressionTree) (s : WalkStep)
+    → (asked names true e).end ≡ Err s
     → item_signed names e ≡ true
 unfolding item_signed
 broken_sign names e s h =

@@ -27,7 +27,7 @@ use Rattle.sv_width.specs.declared.measured.Measured.{Measured}
 use Rattle.sv_width.specs.Answers.{IsBreach}
 use Rattle.sv_width.specs.Operands.{IsOperandOf, own_width, own_signed}
 use Rattle.sv_width.proofs.Measures.{breach_first, breach_after, passes_on}
-use Rattle.sv_elab_stmt.specs.declared.cases.Item.{Item}
+use Rattle.sv_elab_stmt.specs.declared.cases.CaseItem.{CaseItem}
 use Rattle.sv_elab_stmt.specs.Cases.{item_trees, AreItems, greatest, all_signed, ArePassed}
 use Rattle.sv_elab_stmt.proofs.CaseFacts.{arms_length_items, arms_sign_items}
 use Rattle.sv_elab_stmt.proofs.ItemFacts.{greatest_is, all_signed_is, items_both, greatest_both}
@@ -49,7 +49,7 @@ case_shape p e arms shape =
     (outer.1, (and_parts (is_shaped_expression e) (has_arm arms) middle.0).0)
 
 -- the items of an arm, and those of the others
-pub own_items : (names : Names) (w : ℕ) (rest : List Item) (m : ℕ) (es fs : List ExpressionTree)
+pub own_items : (names : Names) (w : ℕ) (rest : List CaseItem) (m : ℕ) (es fs : List ExpressionTree)
     → item_trees rest ≡ es ++ fs
     → m ≡ length es → AreItems names rest → greatest rest ≤ w
     → (item_trees (take m rest) ≡ es) × AreItems names (take m rest) × (greatest (take m rest) ≤ w)
@@ -62,7 +62,7 @@ own_items names w rest m es fs all is each wide =
     let items = items_both names (take m rest) (drop m rest)
     (subst (AreItems names) (sym joined) each) in
     let few = greatest_both (take m rest) (drop m rest) w
-    (subst (λ (zs : List Item). greatest zs ≤ w) (sym joined) wide) in
+    (subst (λ (zs : List CaseItem). greatest zs ≤ w) (sym joined) wide) in
     (trees.0, items.0, few.0, trees.1, items.1, few.1)
 
 -- ---- items that pass
@@ -97,7 +97,7 @@ passed_arms names n s (more_arms p items body arms) flat h =
 -- ---- the common type
 
 module _ (names : Names) (e : ExpressionTree) (o : Measured) (is : IsOperandOf names false e o)
-    (items : List Item)
+    (items : List CaseItem)
     (each : AreItems names items) (arms : ArmTrees) (all : item_trees items ≡ arm_items arms) where
   pub common_width : max (own_width o) (greatest items) ≡ common_length names e arms
   common_width =

@@ -14,7 +14,7 @@ use Rattle.sv_ast.specs.Instances.{is_signal}
 use Rattle.sv_ast.specs.Values.{natural, whole_number, constant_of}
 use Rattle.sv_ast.specs.Runs.{selected, target_width, targets_width}
 use Rattle.sv_flat.specs.Design.{TypedTree, PieceForm, assign}
-use Rattle.sv_elab_rules.specs.Walks.{Step, Steps, ask, each}
+use Rattle.sv_elab_rules.specs.Walks.{WalkStep, Steps, ask, each}
 use Rattle.sv_elab_rules.specs.Rules.{unknown_name, too_wide, bad_select}
 use Rattle.sv_elab_rules.specs.Names.{Names, place_of}
 use Rattle.sv_elab_rules.specs.ExpressionSteps.{is_below, is_part, asked, own_divisors, constant_walk}
@@ -28,7 +28,7 @@ use Rattle.sv_width.specs.Scopes.{number_of as number_in}
 use Rattle.sv_width.proofs.SoundStatements.{IsRange, range_of, target_passes}
 use Rattle.sv_width.proofs.SoundStatements.{each_parts}
 use Rattle.sv_width.proofs.Measures.{breach_first, breach_after, passes_on}
-use Rattle.sv_elab_stmt.specs.declared.parts.Part.{Part}
+use Rattle.sv_elab_stmt.specs.declared.parts.TargetPart.{TargetPart}
 use Rattle.sv_elab_stmt.specs.Targets.{IsSelected, piece_at, target_piece, AreParts, parts_width, placed}
 
 -- ---- selections
@@ -263,7 +263,7 @@ each_broken step x xs f h = breach_first (step x) (λ _. each step xs) f h
 -- ---- parts and pieces
 
 module _ (names : Names) (lengths : HaveLengths names.scope) where
-  pub parts_have : (ts : List TargetTree) (ps : List Part) → AreParts names ts ps
+  pub parts_have : (ts : List TargetTree) (ps : List TargetPart) → AreParts names ts ps
       → parts_width ps ≡ targets_width names.scope ts
   parts_have [] [] h = refl
   parts_have [] (p ∷ ps) h = absurd (cc h.1)
@@ -277,7 +277,7 @@ module _ (names : Names) (lengths : HaveLengths names.scope) where
       ap (λ k. k + parts_width ps) width
       ∙ ap (λ k. target_width names.scope t + k) (parts_have ts ps (both.1, tail))
 
-  pub parts_placed : (ts : List TargetTree) (ps : List Part) → AreParts names ts ps →
+  pub parts_placed : (ts : List TargetTree) (ps : List TargetPart) → AreParts names ts ps →
       placed ps ≡ pieces_of names ts
   parts_placed [] [] h = refl
   parts_placed [] (p ∷ ps) h = absurd (cc h.1)
@@ -303,10 +303,10 @@ module _ (names : Names) (lengths : HaveLengths names.scope) where
 
 -- ---- the whole assignment
 
-few_bits : (n : ℕ) (s : Step) → n ≤ 64 → (ask (nat_le n 64) s).end ≡ Ok tt
+few_bits : (n : ℕ) (s : WalkStep) → n ≤ 64 → (ask (nat_le n 64) s).end ≡ Ok tt
 few_bits n s h = ap (λ b. (ask b s).end) (le-leb n 64 h)
 
-many_bits : (n : ℕ) (s : Step) → nat_le n 64 ≡ false → (ask (nat_le n 64) s).end ≡ Err s
+many_bits : (n : ℕ) (s : WalkStep) → nat_le n 64 ≡ false → (ask (nat_le n 64) s).end ≡ Err s
 many_bits n s h = ap (λ b. (ask b s).end) h
 
 module _ (names : Names) (ts : List TargetTree) (place : Place) (blocking : Bool)

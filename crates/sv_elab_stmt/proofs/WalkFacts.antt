@@ -10,7 +10,7 @@ use Rattle.sv_ast.specs.Tree.{more_statements, no_arms}
 use Rattle.sv_ast.specs.Views.{ArmTree, arms_of}
 use Rattle.sv_flat.specs.Design.{TypedTree, FlatStatement, nothing, after}
 use Rattle.sv_flat.specs.Views.{chain_of}
-use Rattle.sv_elab_rules.specs.Walks.{Step, Walk, Steps, done, then_walk, ◌>>=◌}
+use Rattle.sv_elab_rules.specs.Walks.{WalkStep, Walk, Steps, done, then_walk, ◌>>=◌}
 use Rattle.sv_elab_rules.specs.Names.{Names}
 use Rattle.sv_elab_rules.specs.TypedExpressions.{typed_of}
 use Rattle.sv_elab_rules.specs.ExpressionSteps.{asked, divisors}
@@ -46,7 +46,7 @@ forms_push form (y ∷ xs) x = ap (λ ys. form y ∷ ys) (forms_push form xs x)
 -- ---- ends
 
 -- an end with something done to what was found
-abbrev pub mapped : {X Y : Type 0} → (X → Y) → Result X Step → Result Y Step
+abbrev pub mapped : {X Y : Type 0} → (X → Y) → Result X WalkStep → Result Y WalkStep
 mapped f (Ok x) = Ok (f x)
 mapped f (Err s) = Err s
 
@@ -54,18 +54,18 @@ pub then_done : {X Y : Type 0} (w : Walk X) (f : X → Y) →
     (w >>= λ x. done (f x)).end ≡ mapped f w.end
 then_done {X} {Y} w f = by w.end
   where
-    by : (r : Result X Step) → (then_walk w.passed r (λ x. done (f x))).end ≡ mapped f r
+    by : (r : Result X WalkStep) → (then_walk w.passed r (λ x. done (f x))).end ≡ mapped f r
     by (Ok x) = refl
     by (Err s) = refl
 
-pub breach_mapped : {X Y : Type 0} (r : Result X Step) (f : X → Y) (fault : Fault)
+pub breach_mapped : {X Y : Type 0} (r : Result X WalkStep) (f : X → Y) (fault : Fault)
     → IsBreach r fault
     → IsBreach (mapped f r) fault
 breach_mapped r f (Rule refusal) h = ap (mapped f) h
 breach_mapped r f OutOfMemory h = tt
 
 -- one more element behind others
-pub mapped_push : {X : Type 0} (xs : List X) (x : X) (r : Result (List X) Step)
+pub mapped_push : {X : Type 0} (xs : List X) (x : X) (r : Result (List X) WalkStep)
     → mapped (λ ys. (xs ++ x ∷ []) ++ ys) r ≡ mapped (λ ys. xs ++ ys) (mapped (λ ys. x ∷ ys) r)
 mapped_push xs x (Ok ys) = ap (λ zs. Ok zs) (append_assoc xs (x ∷ []) ys)
 mapped_push xs x (Err s) = refl
@@ -73,7 +73,7 @@ mapped_push xs x (Err s) = refl
 pub mapped_none : {X : Type 0} (xs : List X) → mapped (λ ys. xs ++ ys) (Ok []) ≡ Ok xs
 mapped_none xs = ap (λ ys. Ok ys) (append-nil xs)
 
-pub mapped_start : {X : Type 0} (r : Result (List X) Step) → mapped (λ ys. [] ++ ys) r ≡ r
+pub mapped_start : {X : Type 0} (r : Result (List X) WalkStep) → mapped (λ ys. [] ++ ys) r ≡ r
 mapped_start (Ok ys) = refl
 mapped_start (Err s) = refl
 
@@ -83,7 +83,7 @@ breach_two : {Y : Type 0} (v w : Steps) (more : Unit {0} → Walk Y) (f : Fault)
     → IsBreach (v >>= λ _. w >>= more).end f
 breach_two {Y} v w more (Rule r) h = by_first v.end h
   where
-    by_first : (first : Result (Unit {0}) Step)
+    by_first : (first : Result (Unit {0}) WalkStep)
         → (then_walk v.passed first (λ _. w)).end ≡ Err (step_of r)
         → (then_walk v.passed first (λ _. w >>= more)).end ≡ Err (step_of r)
     by_first (Ok x) h = end_broken w more (step_of r) h
@@ -140,7 +140,7 @@ module _ (names : Names) (n : ℕ) (s : Bool) where
           >>= λ rest. done ((record { place = arm.place; items = items; body = body }) ∷ rest)).end
       inner w = by w.end
         where
-          by : (r : Result (List TypedTree) Step)
+          by : (r : Result (List TypedTree) WalkStep)
               → (then_walk w.passed r (λ items. (statement_walk names arm.body
               >>= λ body. done (record { place = arm.place; items = items; body = body }))
               >>= λ a. arms_walk names n s (arms_of arms) >>= λ rest. done (a ∷ rest))).end
@@ -210,12 +210,12 @@ pub before_nothing : (ss : List FlatStatement) → before ss nothing ≡ chain_o
 before_nothing [] = refl
 before_nothing (s ∷ ss) = ap (after s) (before_nothing ss)
 
-pub block_push : (ss : List FlatStatement) (s : FlatStatement) (r : Result FlatStatement Step)
+pub block_push : (ss : List FlatStatement) (s : FlatStatement) (r : Result FlatStatement WalkStep)
     → mapped (before (ss ++ s ∷ [])) r ≡ mapped (before ss) (mapped (after s) r)
 block_push ss s (Ok rest) = ap (λ x. Ok x) (before_push ss s rest)
 block_push ss s (Err e) = refl
 
-pub block_start : (r : Result FlatStatement Step) → mapped (before []) r ≡ r
+pub block_start : (r : Result FlatStatement WalkStep) → mapped (before []) r ≡ r
 block_start (Ok rest) = refl
 block_start (Err e) = refl
 

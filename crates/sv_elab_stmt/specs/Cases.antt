@@ -8,32 +8,32 @@ use Rattle.sv_ast.specs.Tree.{ExpressionTree}
 use Rattle.sv_ast.specs.Values.{nowhere, value}
 use Rattle.sv_ast.specs.Views.{expression_tree}
 use Rattle.sv_num.specs.Parts.{extended}
-use Rattle.sv_elab_rules.specs.Walks.{Step, Steps, ◌>>=◌}
+use Rattle.sv_elab_rules.specs.Walks.{WalkStep, Steps, ◌>>=◌}
 use Rattle.sv_flat.specs.Design.{TypedTree}
 use Rattle.sv_elab_rules.specs.Names.{Names}
 use Rattle.sv_elab_rules.specs.TypedExpressions.{typed_of}
 use Rattle.sv_elab_rules.specs.ExpressionSteps.{asked, divisors}
 use Rattle.sv_width.specs.Operands.{IsOperandOf, own_width, own_signed}
-use Rattle.sv_elab_stmt.specs.declared.cases.Item.{Item}
+use Rattle.sv_elab_stmt.specs.declared.cases.CaseItem.{CaseItem}
 
 -- the expression that an item is
-abbrev pub item_tree : Item → ExpressionTree
+abbrev pub item_tree : CaseItem → ExpressionTree
 item_tree i = expression_tree i.expr.now
 
-abbrev pub item_trees : List Item → List ExpressionTree
+abbrev pub item_trees : List CaseItem → List ExpressionTree
 item_trees items = map item_tree items
 
 -- a walk is broken
-abbrev pub IsBroken : {X : Type 0} → Result X Step → Type 0
-IsBroken end = (s : Step) × (end ≡ Err s)
+abbrev pub IsBroken : {X : Type 0} → Result X WalkStep → Type 0
+IsBroken end = (s : WalkStep) × (end ≡ Err s)
 
 -- an item has an operand just where it breaks no rule of the first walk
-abbrev pub IsItem : Names → Item → Type 0
+abbrev pub IsItem : Names → CaseItem → Type 0
 IsItem names i =
     MatchOption i.operand (IsBroken (asked names true (item_tree i)).end)
     (IsOperandOf names true (item_tree i))
 
-abbrev pub AreItems : Names → List Item → Type 0
+abbrev pub AreItems : Names → List CaseItem → Type 0
 AreItems names [] = Unit {0}
 AreItems names (i ∷ items) = IsItem names i × AreItems names items
 
@@ -66,19 +66,19 @@ abbrev pub is_held : (own length : ℕ) → (signed : Bool) → (values : List �
 is_held own n s values v = list_any (λ item. item == extended s own n v) values
 
 -- an item's own length; one that breaks a rule has none
-abbrev pub own_length : Item → ℕ
+abbrev pub own_length : CaseItem → ℕ
 own_length i = option_map_or own_width i.operand 0
 
 -- whether it is signed by itself; one that breaks a rule changes no signedness
-abbrev pub is_signed : Item → Bool
+abbrev pub is_signed : CaseItem → Bool
 is_signed i = option_map_or own_signed i.operand true
 
 -- the greatest of the own lengths
-abbrev pub greatest : List Item → ℕ
+abbrev pub greatest : List CaseItem → ℕ
 greatest [] = 0
 greatest (i ∷ items) = max (own_length i) (greatest items)
 
-abbrev pub all_signed : List Item → Bool
+abbrev pub all_signed : List CaseItem → Bool
 all_signed [] = true
 all_signed (i ∷ items) = is_signed i && all_signed items
 

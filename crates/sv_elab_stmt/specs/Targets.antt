@@ -8,7 +8,7 @@ use Rattle.sv_flat.specs.Design.{PieceForm}
 use Rattle.sv_elab_rules.specs.Walks.{each}
 use Rattle.sv_elab_rules.specs.Names.{Names}
 use Rattle.sv_elab_rules.specs.Targets.{highest, lowest, selection_steps, target_steps}
-use Rattle.sv_elab_stmt.specs.declared.parts.Part.{Part}
+use Rattle.sv_elab_stmt.specs.declared.parts.TargetPart.{TargetPart}
 
 -- a target's highest and lowest bit, inside its signal
 abbrev pub IsSelected : Names → TargetTree → (high low : ℕ) → Type 0
@@ -18,7 +18,7 @@ IsSelected names t high low = ((selection_steps names t.name t.place t.selection
     × (low ≡ lowest names.scope t.selection)
 
 -- a part as a piece that gets its bits from so many up
-abbrev pub piece_at : (from : ℕ) → Part → PieceForm
+abbrev pub piece_at : (from : ℕ) → TargetPart → PieceForm
 piece_at from p =
     record { signal = p.signal.0; place = p.place; high = p.high; low = p.low; from = from }
 
@@ -33,19 +33,19 @@ target_piece names from t = record {
 }
 
 -- the part that a target has, where it breaks no rule
-abbrev pub IsPart : Names → TargetTree → Part → Type 0
+abbrev pub IsPart : Names → TargetTree → TargetPart → Type 0
 IsPart names t p = ((target_steps names t).end ≡ Ok tt) × (piece_at 0 p ≡ target_piece names 0 t)
 
-abbrev pub AreParts : Names → List TargetTree → List Part → Type 0
+abbrev pub AreParts : Names → List TargetTree → List TargetPart → Type 0
 AreParts names ts ps = ((each (target_steps names) ts).end ≡ Ok tt)
     × (map (piece_at 0) ps ≡ map (target_piece names 0) ts)
 
 -- the bits of all parts together
-abbrev pub parts_width : List Part → ℕ
+abbrev pub parts_width : List TargetPart → ℕ
 parts_width [] = 0
 parts_width (p ∷ ps) = span_of p.high p.low + parts_width ps
 
 -- the pieces, of which the last has the lowest bits
-abbrev pub placed : List Part → List PieceForm
+abbrev pub placed : List TargetPart → List PieceForm
 placed [] = []
 placed (p ∷ ps) = piece_at (parts_width ps) p ∷ placed ps

@@ -30,7 +30,7 @@ pub struct CaseType {
 
 /// An item of a case, with its operand unless it breaks a rule of the first walk.
 #[derive(Debug, Drop)]
-pub struct Item<'a> {
+pub struct CaseItem<'a> {
     pub expr: &'a Expr,
     pub operand: Option<Operand>,
 }
@@ -52,7 +52,7 @@ fn measured(alloc: Global, expr: &Expr, scope: &Scope) -> Result<Option<Operand>
 // Puts the items of one arm behind those of earlier ones.
 fn add_items<'a>(
     alloc: Global,
-    items: &mut Vec<Item<'a>>,
+    items: &mut Vec<CaseItem<'a>>,
     exprs: &'a [Expr],
     scope: &Scope,
 ) -> Result<(), OutOfMemory>
@@ -64,7 +64,7 @@ fn add_items<'a>(
 {
     for expr in exprs {
         let operand = measured(alloc, expr, scope)?;
-        items.push(Item { expr, operand })?;
+        items.push(CaseItem { expr, operand })?;
     }
     Ok(())
 }
@@ -74,7 +74,7 @@ pub fn items_of<'a>(
     alloc: Global,
     arms: &'a [Arm],
     scope: &Scope,
-) -> Result<Vec<Item<'a>>, OutOfMemory>
+) -> Result<Vec<CaseItem<'a>>, OutOfMemory>
     requires { IsTrue (are_shaped_arms (arms_of (arm_trees arms.now))) }
     ensures all { IfOk result (λ items.
         item_trees items.items ≡ arm_items (arms_of (arm_trees arms.now))) }
@@ -87,7 +87,7 @@ pub fn items_of<'a>(
     Ok(items)
 }
 
-impl Item<'_> {
+impl CaseItem<'_> {
     ghost use Rattle.sv_elab_stmt.specs.Cases.{own_length, is_signed};
 
     // The own length of the item; 0 where it breaks a rule.
@@ -113,7 +113,7 @@ impl Item<'_> {
 }
 
 /// The greatest of the lengths of a selector and of items, signed where all of them are.
-pub fn common_type(selector: &Operand, items: &[Item]) -> CaseType
+pub fn common_type(selector: &Operand, items: &[CaseItem]) -> CaseType
     ensures width { result.width ≡ max (own_width selector.now) (greatest items.now) }
     ensures signed { result.signed ≡ (own_signed selector.now && all_signed items.now) }
 {
@@ -140,7 +140,7 @@ fn broken(alloc: Global, expr: &Expr, scope: &Scope) -> Fault
 }
 
 // The typed form of an item.
-fn typed_item(alloc: Global, item: &Item, to: CaseType, scope: &Scope) -> Result<FExpr, Fault>
+fn typed_item(alloc: Global, item: &CaseItem, to: CaseType, scope: &Scope) -> Result<FExpr, Fault>
     requires shaped { IsTrue (is_shaped_expression (item_tree item.now)) }
     requires is { IsItem (names_of scope.now) item.now }
     requires wide { own_length item.now ≤ to.width }
@@ -158,7 +158,7 @@ fn typed_item(alloc: Global, item: &Item, to: CaseType, scope: &Scope) -> Result
 /// The typed forms of some items of an arm.
 pub fn typed_items(
     alloc: Global,
-    items: &[Item],
+    items: &[CaseItem],
     to: CaseType,
     scope: &Scope,
 ) -> Result<Vec<FExpr>, Fault>

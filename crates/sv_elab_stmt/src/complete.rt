@@ -11,7 +11,7 @@ ghost use Rattle.sv_elab_rules.specs.CaseChains.{keeps_length, cover, is_complet
 ghost use Rattle.sv_elab_stmt.specs.Cases.{item_tree, item_trees, IsItem, AreItems, own_length};
 ghost use Rattle.sv_elab_stmt.specs.Cases.{greatest, IsPassed, ArePassed, values_of, AreHeld};
 
-use crate::cases::{CaseType, Item};
+use crate::cases::{CaseItem, CaseType};
 use std::alloc::Global;
 use sv_ast::Expr;
 use sv_num::{BinOp, Bits, Fault, UnOp, extend};
@@ -87,7 +87,7 @@ fn mark_item(
     alloc: Global,
     held: &mut Vec<bool>,
     own: u8,
-    item: &Item,
+    item: &CaseItem,
     to: CaseType,
 ) -> Result<(), Fault>
     requires size { length held.old.items ≡ 2 ^ own }
@@ -115,7 +115,7 @@ fn mark_item(
 }
 
 // For each value of so many bits, whether an item has it.
-fn held_values(alloc: Global, own: u8, items: &[Item], to: CaseType) -> Result<Vec<bool>, Fault>
+fn held_values(alloc: Global, own: u8, items: &[CaseItem], to: CaseType) -> Result<Vec<bool>, Fault>
     requires some { 1 ≤ own }
     requires few { own ≤ 8 }
     requires fits { own ≤ to.width }
@@ -156,7 +156,7 @@ pub fn is_complete(
     alloc: Global,
     selector: &Expr,
     own: u8,
-    items: &[Item],
+    items: &[CaseItem],
     to: CaseType,
 ) -> Result<bool, Fault>
     requires some { 1 ≤ own }

@@ -7,7 +7,7 @@ use sv_num::Place;
 /// The bits of a signal that a target has, from `high` down to `low`, with the place of the
 /// target's name.
 #[derive(Clone, Copy, Debug)]
-pub struct Part {
+pub struct TargetPart {
     pub signal: SigId,
     pub place: Place,
     pub high: u8,
@@ -15,7 +15,7 @@ pub struct Part {
     pub ghost in_order: { (low ≤ high) × (high < 64) },
 }
 
-impl Part {
+impl TargetPart {
     ghost use Rattle.sv_flat.specs.Views.{piece_form};
     ghost use Rattle.sv_num.specs.Parts.{span_of};
     ghost use Rattle.sv_elab_stmt.specs.Targets.{piece_at};

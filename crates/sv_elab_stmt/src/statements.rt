@@ -18,7 +18,7 @@ ghost use Rattle.sv_width.specs.Scopes.{names_of};
 ghost use Rattle.sv_elab_stmt.specs.Cases.{item_trees, AreItems, greatest};
 ghost use Rattle.sv_elab_stmt.specs.Chains.{flat_arm, flat_arms, arm_walk};
 
-use crate::cases::{CaseType, Item, common_type, items_of, typed_items};
+use crate::cases::{CaseItem, CaseType, common_type, items_of, typed_items};
 use crate::chains::{FlatArm, case_chain, nothing};
 use crate::complete::is_complete;
 use crate::targets::assignment;
@@ -170,7 +170,7 @@ fn case(alloc: Global, arms: &[Arm], selector: &Expr, scope: &Scope) -> Result<F
 fn flat_arms(
     alloc: Global,
     arms: &[Arm],
-    items: &[Item],
+    items: &[CaseItem],
     to: CaseType,
     scope: &Scope,
 ) -> Result<Vec<FlatArm>, Fault>
@@ -198,7 +198,7 @@ fn flat_arms(
 fn flat_arm(
     alloc: Global,
     arm: &Arm,
-    items: &[Item],
+    items: &[CaseItem],
     to: CaseType,
     scope: &Scope,
 ) -> Result<FlatArm, Fault>

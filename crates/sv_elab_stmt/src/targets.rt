@@ -19,7 +19,7 @@ ghost use Rattle.sv_width.specs.Scopes.{names_of, bindings_of};
 ghost use Rattle.sv_elab_stmt.specs.Targets.{IsSelected, piece_at, IsPart, AreParts, parts_width};
 ghost use Rattle.sv_elab_stmt.specs.Targets.{placed};
 
-use crate::parts::Part;
+use crate::parts::TargetPart;
 use std::alloc::Global;
 use sv_ast::{Expr, Select, Target};
 use sv_flat::{FStmt, Piece};
@@ -76,7 +76,7 @@ fn selected(alloc: Global, target: &Target, width: u8, scope: &Scope) -> Result<
 }
 
 // The part of a signal that a target has. Rules 401 and 403 to 408 refuse it.
-fn part_of(alloc: Global, target: &Target, scope: &Scope) -> Result<Part, Fault>
+fn part_of(alloc: Global, target: &Target, scope: &Scope) -> Result<TargetPart, Fault>
     requires { IsTrue (is_shaped_target (target_tree target.now)) }
     ensures found { IfOk result (IsPart (names_of scope.now) (target_tree target.now)) }
     ensures broken { IfErr result
@@ -85,7 +85,7 @@ fn part_of(alloc: Global, target: &Target, scope: &Scope) -> Result<Part, Fault>
     match scope.find(&target.name) {
         Some(Meaning::Signal(known)) => {
             let (high, low) = selected(alloc, target, known.width, scope)?;
-            Ok(Part {
+            Ok(TargetPart {
                 signal: known.signal,
                 place: target.place,
                 high,
@@ -98,7 +98,7 @@ fn part_of(alloc: Global, target: &Target, scope: &Scope) -> Result<Part, Fault>
 }
 
 // The parts of all targets, in order.
-fn parts_of(alloc: Global, targets: &[Target], scope: &Scope) -> Result<Vec<Part>, Fault>
+fn parts_of(alloc: Global, targets: &[Target], scope: &Scope) -> Result<Vec<TargetPart>, Fault>
     requires { IsTrue (list_all is_shaped_target (map target_tree targets.now)) }
     ensures found { IfOk result (λ parts.
         AreParts (names_of scope.now) (map target_tree targets.now) parts.items) }
@@ -113,7 +113,7 @@ fn parts_of(alloc: Global, targets: &[Target], scope: &Scope) -> Result<Vec<Part
 }
 
 // How many bits the parts have together, or `u32::MAX` if it is less.
-fn total_width(parts: &[Part]) -> u32
+fn total_width(parts: &[TargetPart]) -> u32
     ensures { result ≡ min (parts_width parts.now) u32.MAX }
 {
     let mut total: u32 = 0;
@@ -125,7 +125,7 @@ fn total_width(parts: &[Part]) -> u32
 
 // The pieces of a value of as many bits as the parts have together: the last part gets the lowest
 // bits.
-fn pieces(alloc: Global, parts: &[Part], width: u8) -> Result<Vec<Piece>, OutOfMemory>
+fn pieces(alloc: Global, parts: &[TargetPart], width: u8) -> Result<Vec<Piece>, OutOfMemory>
     requires { width ≡ parts_width parts.now }
     ensures { IfOk result (λ pieces. map piece_form pieces.items ≡ placed parts.now) }
 {

@@ -16,7 +16,7 @@ use Rattle.sv_elab_rules.specs.Walks.{ask}
 use Rattle.sv_elab_rules.specs.Rules.{map_name, map_row, map_hole}
 use Rattle.sv_elab_rules.specs.LabelMaps.{is_map, is_map_range, is_second_range, rows_walk, default_walk}
 use Rattle.sv_elab_rules.specs.LabelMaps.{all_rows, has_all_rows, map_walk, maps_walk}
-use Rattle.sv_elab_rules.specs.LabelSteps.{Tables}
+use Rattle.sv_elab_rules.specs.LabelSteps.{SharedTables}
 use Rattle.sv_elab_rules.specs.Texts.{flat_of}
 use Rattle.sv_elab_rules.proofs.WalkLemmas.{parts_done}
 use Rattle.sv_elab_laws.specs.FlattenedTexts.{ItemNumbersFit, EachItem}
@@ -125,7 +125,7 @@ module _ (text : TextTree) (top : Option (List ℕ)) (design : FlatDesign)
       let widths = all_widths side.order.points text.maps [] side.maps side.maps_walked in
       let maps = maps_done side.order.points text.maps [] side.maps side.maps_walked in
       let maps_are : design.maps ≡ map (λ (m : List ℕ × MapRows). m.1) side.maps =
-      side.design_maps ∙ ap (λ (t : Tables). t.maps) side.tables_are in
+      side.design_maps ∙ ap (λ (t : SharedTables). t.maps) side.tables_are in
       subst (AllZip (IsTableOf text) text.maps) (sym maps_are)
       (zip_tables text text.maps side.maps
       (subst (AllZip HasWidths text.maps) (sym widths.1) widths.2)

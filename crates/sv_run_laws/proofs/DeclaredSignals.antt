@@ -28,7 +28,7 @@ use Rattle.sv_elab_rules.specs.Rules.{no_top, bad_label}
 use Rattle.sv_elab_rules.specs.Names.{Names}
 use Rattle.sv_elab_rules.specs.Lattices.{lattice_walk, point_number, least_point}
 use Rattle.sv_elab_rules.specs.LabelMaps.{maps_walk}
-use Rattle.sv_elab_rules.specs.LabelSteps.{Tables, second_selector, same_number, second_fits}
+use Rattle.sv_elab_rules.specs.LabelSteps.{SharedTables, second_selector, same_number, second_fits}
 use Rattle.sv_elab_rules.specs.LabelSteps.{second_number, label_walk}
 use Rattle.sv_elab_rules.specs.Declarations.{Site, kind_of}
 use Rattle.sv_elab_rules.specs.InstanceSteps.{Built}
@@ -50,7 +50,8 @@ use Rattle.sv_run_laws.proofs.PlainSignals.{parts_plain, sites_add}
 -- ---- names, signs and places
 
 module _ (text : TextTree) (top : Option (List ℕ)) where
-  top_plain : (tables : Tables) (m : ModuleTree) (built : Built) → tables.modules ≡ text.modules
+  top_plain : (tables : SharedTables) (m : ModuleTree) (built : Built)
+      → tables.modules ≡ text.modules
       → top_module text.modules top ≡ Some m → (top_walk tables m).end ≡ Ok built
       → map plain_form built.signals ≡ map plain_source (text_signals text top)
   unfolding top_walk
@@ -122,11 +123,11 @@ module _ (text : TextTree) (top : Option (List ℕ)) (design : FlatDesign)
   design_points = side.points ∙ sym order_is.points_are
 
   points_are : side.tables.points ≡ points text
-  points_are = ap (λ (t : Tables). t.points) side.tables_are ∙ sym order_is.points_are
+  points_are = ap (λ (t : SharedTables). t.points) side.tables_are ∙ sym order_is.points_are
 
   least_at : slice_get (points text) side.tables.least ≡ Some (least text)
   least_at =
-      ap (slice_get (points text)) (ap (λ (t : Tables). t.least) side.tables_are)
+      ap (slice_get (points text)) (ap (λ (t : SharedTables). t.least) side.tables_are)
       ∙ ap (λ ps. slice_get ps (least_point side.order.table)) order_is.points_are
       ∙ number_at side.order.points (least text) (least_point side.order.table)
       (least_number text side.order order_is side.lattice)
@@ -134,7 +135,7 @@ module _ (text : TextTree) (top : Option (List ℕ)) (design : FlatDesign)
   maps_are : side.tables.map_names ≡ map (λ (t : MapTree). t.name) text.maps
   maps_are =
       let all = maps_done side.order.points text.maps [] side.maps side.maps_walked in
-      ap (λ (t : Tables). t.map_names) side.tables_are
+      ap (λ (t : SharedTables). t.map_names) side.tables_are
       ∙ names_same side.order.points text.maps side.maps
       (subst (AllZip (IsMapOf side.order.points) text.maps) (sym all.1) all.2)
 

@@ -23,7 +23,7 @@ use Rattle.sv_flat.specs.Selectors.{selectors_of, always_flows}
 use Rattle.sv_flat.specs.Values.{signal_of}
 use Rattle.sv_flat.proofs.LeastSets.{those_below, Contains-from_filter}
 use Rattle.sv_flat.proofs.SelectorFacts.{selector_is_seen}
-use Rattle.sv_elab_rules.specs.LabelSteps.{Tables}
+use Rattle.sv_elab_rules.specs.LabelSteps.{SharedTables}
 use Rattle.sv_elab_rules.specs.Texts.{flat_of}
 use Rattle.sv_elab_laws.specs.FlattenedTexts.{CanBeFlattened}
 use Rattle.sv_elab_laws.specs.InOrder.{SettledAlike}
@@ -205,7 +205,7 @@ module _ (text : TextTree) (asked : Option (List ℕ)) (design : FlatDesign)
   least_in : IsPointNumber side.order.points (least text) side.tables.least
   least_in =
       least_number text side.order order_is side.lattice
-      ∙ ap (λ (t : Tables). Some t.least) (sym side.tables_are)
+      ∙ ap (λ (t : SharedTables). Some t.least) (sym side.tables_are)
 
   label_is : (e : Environment ℕ) (g : Environment Path) → AgreeAt e g → (k : ℕ) (a : PartSignal)
       → slice_get signals k ≡ Some a → k < length design.signals

@@ -13,11 +13,12 @@ use Rattle.sv_ast.specs.Tree.{PlacedName, LatticeTree, TextTree}
 use Rattle.sv_ast.specs.SourceLabels.{points, pairs}
 use Rattle.sv_flat.proofs.Depths.{from_all}
 use Rattle.sv_flat.proofs.LeastSets.{range_has}
-use Rattle.sv_elab_rules.specs.Walks.{Step, ask, each}
+use Rattle.sv_elab_rules.specs.Walks.{WalkStep, ask, each}
 use Rattle.sv_elab_rules.specs.Rules.{lattice_size, circle, no_join, no_meet}
 use Rattle.sv_elab_rules.specs.CaseChains.{numbers_below}
-use Rattle.sv_elab_rules.specs.Lattices.{Order, contains, are_apart, have_join, turned, pairs_below}
-use Rattle.sv_elab_rules.specs.Lattices.{pair_steps, order_steps, answered, in_textual_order}
+use Rattle.sv_elab_rules.specs.Lattices.{PointOrder, contains, are_apart, have_join, turned}
+use Rattle.sv_elab_rules.specs.Lattices.{pairs_below, pair_steps, order_steps, answered}
+use Rattle.sv_elab_rules.specs.Lattices.{in_textual_order}
 use Rattle.sv_elab_rules.specs.Lattices.{point_questions, pair_questions, point_names, declared_order}
 use Rattle.sv_elab_rules.specs.Lattices.{two_points, checked_order, lattice_walk}
 use Rattle.sv_elab_rules.proofs.WalkLemmas.{parts_done, asked_true}
@@ -29,7 +30,7 @@ use Rattle.sv_elab_laws.proofs.JoinedLattice.{IsOrderFrom, order_of, exact_table
 
 -- ---- questions that are passed
 
-passed_all : {X : Type 0} (test : X → Bool) (broken : X → Step) (xs : List X)
+passed_all : {X : Type 0} (test : X → Bool) (broken : X → WalkStep) (xs : List X)
     → (each (λ x. ask (test x) (broken x)) xs).end ≡ Ok tt
     → list_all test xs ≡ true
 unfolding each
@@ -44,7 +45,7 @@ passed_all test broken (x ∷ xs) h =
 abbrev PairsPass : (ℕ → ℕ → Bool) → ℕ → Type 0
 PairsPass test n = list_all (λ (pair : ℕ × ℕ). test pair.0 pair.1) (pairs_below n) ≡ true
 
-steps_passed : (test : ℕ → ℕ → Bool) (broken : (a b : List ℕ) → Step) (ps : List (List ℕ))
+steps_passed : (test : ℕ → ℕ → Bool) (broken : (a b : List ℕ) → WalkStep) (ps : List (List ℕ))
     → (pair_steps test broken ps).end ≡ Ok tt
     → PairsPass test (length ps)
 unfolding pair_steps
@@ -61,13 +62,13 @@ pair_passes test n h a b a_in b_in =
 
 -- ---- what is asked of the points of a text
 
-record IsAsked (order : Order) : Type 0 where
+record IsAsked (order : PointOrder) : Type 0 where
   pub count : IsPointCount (length order.points)
   pub aparts : PairsPass (are_apart order.table) (length order.points)
   pub joins : PairsPass (have_join order.table) (length order.points)
   pub meets : PairsPass (have_join (turned order.table)) (length order.points)
 
-all_asked : (l : Option LatticeTree) (order : Order) → (lattice_walk l).end ≡ Ok order →
+all_asked : (l : Option LatticeTree) (order : PointOrder) → (lattice_walk l).end ≡ Ok order →
     IsAsked order
 unfolding lattice_walk checked_order order_steps
 all_asked None order h =
@@ -139,7 +140,8 @@ meet_found table a b a_in b_in h =
 
 -- ---- the table
 
-pub walked_lattice : (text : TextTree) (order : Order) → (lattice_walk text.lattice).end ≡ Ok order
+pub walked_lattice : (text : TextTree) (order : PointOrder)
+    → (lattice_walk text.lattice).end ≡ Ok order
     → IsLatticeTable order.table
 walked_lattice text order h =
     let from : IsOrderFrom (points text) (pairs text) order = order_of text order h in

@@ -25,7 +25,7 @@ use Rattle.sv_elab_rules.specs.ExpressionSteps.{expression_walk}
 use Rattle.sv_elab_rules.specs.Targets.{assignment_walk}
 use Rattle.sv_elab_rules.specs.Statements.{statement_walk}
 use Rattle.sv_elab_rules.specs.Declarations.{Site, nothing_declared, declarations_walk}
-use Rattle.sv_elab_rules.specs.LabelSteps.{Tables, label_walk, given_label, labels_walk}
+use Rattle.sv_elab_rules.specs.LabelSteps.{SharedTables, label_walk, given_label, labels_walk}
 use Rattle.sv_elab_rules.specs.Overrides.{overrides_walk}
 use Rattle.sv_elab_rules.specs.Links.{links_walk}
 use Rattle.sv_elab_rules.specs.InstanceSteps.{Built, ports_of, value_walk, assign_walk, always_walk}
@@ -124,7 +124,7 @@ module _ (modules : List ModuleTree) where
 
 -- ---- the walk adds these
 
-given_keeps : (tables : Tables) (names : Names) (o : Option LabelTree) (s t : SignalForm)
+given_keeps : (tables : SharedTables) (names : Names) (o : Option LabelTree) (s t : SignalForm)
     → (given_label tables names o s).end ≡ Ok t → plain_form t ≡ plain_form s
 unfolding given_label
 given_keeps tables names None s t h = ap plain_form (sym (same_ok s t h))
@@ -132,7 +132,7 @@ given_keeps tables names (Some l) s t h =
     let first = parts_done (label_walk tables names l) _ t h in
     ap plain_form (sym (same_ok (record s { label = first.0 }) t first.2))
 
-labels_keep : (tables : Tables) (names : Names) (form : DeclarationTree → SignalForm)
+labels_keep : (tables : SharedTables) (names : Names) (form : DeclarationTree → SignalForm)
     (ds : List DeclarationTree) (all : List SignalForm)
     → (labels_walk tables names ds (map form ds)).end ≡ Ok all
     → map plain_form all ≡ map (λ d. plain_form (form d)) ds
@@ -185,7 +185,7 @@ module _ (names : Names) where
       let body = parts_done (statement_walk names s) _ after asked.2 in
       adds_none built after (ap (λ (b : Built). b.signals) (sym (same_ok _ after body.2)))
 
-module _ (tables : Tables) where
+module _ (tables : SharedTables) where
   abbrev pub AddsAll : (inside : Site → Built → Walk Built) → (levels : ℕ) → Type 0
   AddsAll inside levels = (site : Site) (built after : Built)
       → (inside site built).end ≡ Ok after

@@ -16,7 +16,7 @@ use Rattle.sv_ast.proofs.Reaching.{flows_by_pairs}
 use Rattle.sv_flat.specs.Design.{FlatDesign}
 use Rattle.sv_flat.proofs.Depths.{from_all}
 use Rattle.sv_elab_rules.specs.LabelMaps.{maps_walk}
-use Rattle.sv_elab_rules.specs.Lattices.{Order, lattice_walk}
+use Rattle.sv_elab_rules.specs.Lattices.{PointOrder, lattice_walk}
 use Rattle.sv_elab_rules.specs.Rules.{no_top}
 use Rattle.sv_elab_rules.specs.Texts.{module_names, top_walk, tables_of, design_of, walk_of, flat_of}
 use Rattle.sv_elab_rules.specs.Walks.{found}
@@ -39,7 +39,8 @@ onward : {X : Type 0} {pairs : List (X × X)} {a b c : X} → Leads pairs a b �
 onward here way = way
 onward (step pair rest) way = step pair (onward rest way)
 
-module _ (text : TextTree) (order : Order) (h : (lattice_walk text.lattice).end ≡ Ok order) where
+module _ (text : TextTree) (order : PointOrder)
+    (h : (lattice_walk text.lattice).end ≡ Ok order) where
   abbrev is : IsOrderFrom (points text) (pairs text) order
   is = order_of text order h
 

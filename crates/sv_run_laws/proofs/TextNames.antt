@@ -21,7 +21,7 @@ use Rattle.sv_flat.specs.Admission.{IsAdmitted}
 use Rattle.sv_flat.specs.Design.{SignalForm, FlatDesign}
 use Rattle.sv_flat.specs.FlatSystem.{flat_system}
 use Rattle.sv_flat.proofs.LeastSets.{some_from, from_some}
-use Rattle.sv_elab_rules.specs.LabelSteps.{Tables}
+use Rattle.sv_elab_rules.specs.LabelSteps.{SharedTables}
 use Rattle.sv_elab_rules.specs.Texts.{flat_of}
 use Rattle.sv_elab_laws.specs.FlattenedTexts.{CanBeFlattened}
 use Rattle.sv_elab_laws.proofs.JoinedClocks.{same_bool}
@@ -98,7 +98,7 @@ module _ (text : TextTree) (asked : Option (List ℕ)) (design : FlatDesign)
   least_in : IsPointNumber side.order.points (least text) side.tables.least
   least_in =
       least_number text side.order order_is side.lattice
-      ∙ ap (λ (t : Tables). Some t.least) (sym side.tables_are)
+      ∙ ap (λ (t : SharedTables). Some t.least) (sym side.tables_are)
 
   abbrev pub Alike : Option Point → Option (List ℕ) → Type 0
   Alike level other = SeeAlike (flat_system design) (text_system text asked) joined level other

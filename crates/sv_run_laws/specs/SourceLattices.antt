@@ -6,11 +6,11 @@ use Rattle.sv_lattice.specs.Tables.{flow_test}
 use Rattle.sv_ast.specs.SourceLabels.{points, Flows, flows, least, PointsAreLattice}
 use Rattle.sv_ast.specs.Tree.{TextTree}
 use Rattle.sv_flat.specs.Design.{FlatDesign}
-use Rattle.sv_elab_rules.specs.Lattices.{Order, lattice_walk}
+use Rattle.sv_elab_rules.specs.Lattices.{PointOrder, lattice_walk}
 
 -- the text breaks none of the rules on its lattice, 301 to 305
 abbrev pub PassesLattice : TextTree → Type 0
-PassesLattice text = (order : Order) × ((lattice_walk text.lattice).end ≡ Ok order)
+PassesLattice text = (order : PointOrder) × ((lattice_walk text.lattice).end ≡ Ok order)
 
 -- the test of flows means that declared pairs lead from the one point to the other
 abbrev pub FlowsAreByPairs : TextTree → Type 0

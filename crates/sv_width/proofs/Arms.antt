@@ -14,7 +14,7 @@ use Rattle.sv_ast.specs.Tree.{ExpressionTree, ExpressionTrees, bit_of, part_of, 
 use Rattle.sv_ast.specs.Tree.{choice, join, replication}
 use Rattle.sv_ast.specs.Values.{natural, whole_number}
 use Rattle.sv_ast.specs.Instances.{is_signal}
-use Rattle.sv_elab_rules.specs.Walks.{Step, ask}
+use Rattle.sv_elab_rules.specs.Walks.{WalkStep, ask}
 use Rattle.sv_elab_rules.specs.Rules.{unknown_name, bad_select}
 use Rattle.sv_elab_rules.specs.Names.{Names, means_signal, place_of}
 use Rattle.sv_elab_rules.specs.ExpressionSteps.{asked, asked_parts, own_divisors, is_part}
@@ -90,7 +90,7 @@ module _ (known : Known) (n : List ℕ) (p : Place) (k : KnownSignal)
   pub bit_broken : (i : ExpressionTree) (f : Fault) →
       IsBreach (index_steps (names_of known) k.width i).end f →
       IsBreach (asked (names_of known) false (bit_of n p i)).end f
-  bit_broken i f h = subst (λ (r : Result (Unit {0}) Step). IsBreach r f) (sym (index_end i)) h
+  bit_broken i f h = subst (λ (r : Result (Unit {0}) WalkStep). IsBreach r f) (sym (index_end i)) h
 
   module _ (h l : ExpressionTree) where
     pub part_high_broken : (f : Fault) → IsBreach (constant_steps (names_of known) h).end f →
@@ -142,7 +142,7 @@ module _ (known : Known) (n : List ℕ) (p : Place) (k : KnownSignal)
         → IsBreach (ask (is_part k.width (whole_of high) (whole_of low)) (bad_select p)).end f
         → IsBreach (asked (names_of known) false (part_of n p h l)).end f
     part_broken high low f is_high is_low breach =
-        subst (λ (r : Result (Unit {0}) Step).
+        subst (λ (r : Result (Unit {0}) WalkStep).
         IsBreach r f) (sym (part_end high low is_high is_low)) breach
 
     pub part_found : (high low : Bits) (u : MeasuredTree) → IsValue (names_of known) h high
@@ -210,7 +210,7 @@ module _ (names : Names) (c : Bool) where
       (f : Fault) → Found names c a t → Found names c b u
       → IsBreach (division_steps op p t u).end f → IsBreach (asked names c (binary op p a b)).end f
   binary_broken op p a b t u f left right h =
-      subst (λ (r : Result (Unit {0}) Step).
+      subst (λ (r : Result (Unit {0}) WalkStep).
       IsBreach r f) (sym (division_asked names c op p a b t u left.1 right.1 left.0 right.0)) h
 
   pub choice_found : (p : Place) (d a b : ExpressionTree) (q t u v : MeasuredTree)
@@ -257,7 +257,7 @@ module _ (names : Names) (c : Bool) where
       → (asked_parts names c es).end ≡ Ok tt → ts ≡ measured_parts names es
       → IsBreach (join_steps p es ts).end f → IsBreach (asked names c (join p es)).end f
   join_broken p es ts f first is h =
-      subst (λ (r : Result (Unit {0}) Step).
+      subst (λ (r : Result (Unit {0}) WalkStep).
       IsBreach r f) (sym (join_asked names c p es ts is first)) h
 
   pub count_broken : (p : Place) (k : ExpressionTree) (es : ExpressionTrees) (f : Fault)
@@ -300,6 +300,6 @@ module _ (names : Names) (c : Bool) where
       → IsBreach (replication_steps p (place_of k) (whole_of bits) es ts).end f
       → IsBreach (asked names c (replication p k es)).end f
   replication_broken p k es bits ts f count first is h =
-      subst (λ (r : Result (Unit {0}) Step). IsBreach r f)
+      subst (λ (r : Result (Unit {0}) WalkStep). IsBreach r f)
       (sym (replication_asked names c p k es (whole_of bits) ts (whole_value names k bits count) is
       count.0 count.1 first)) h

@@ -5,31 +5,31 @@ use Rattle.sv_num.specs.declared.faults.Place.{Place}
 use Rattle.sv_num.specs.declared.faults.Fault.{Fault}
 use Rattle.sv_num.specs.declared.faults.Fault.TheVariants.{Rule, OutOfMemory}
 use Rattle.sv_num.specs.Faults.{Refuses}
-use Rattle.sv_elab_rules.specs.Walks.{Step}
+use Rattle.sv_elab_rules.specs.Walks.{WalkStep}
 use Rattle.sv_elab_rules.specs.Rules.{step}
 use Rattle.sv_width.specs.Answers.{step_of, IsBreach}
 
 pub breach_of : {X : Type 0} (f : Fault) (number : ℕ) (place : Place) (names given : List (List ℕ))
-    → Refuses f number place names → names ≡ given → (end : Result X Step)
+    → Refuses f number place names → names ≡ given → (end : Result X WalkStep)
     → end ≡ Err (step number place given) → IsBreach end f
 breach_of (Rule r) number place names given refuses is end e =
-    e ∙ sym (ap (λ (s : Step).
+    e ∙ sym (ap (λ (s : WalkStep).
     Err s) (ap (λ (t : ℕ × Place × List (List ℕ)). step t.0 t.1 t.2) refuses
     ∙ ap (λ ns. step number place ns) is))
 breach_of OutOfMemory number place names given refuses is end e = tt
 
-one_step : (end : Result (Unit {0}) Step) (s t : Step) → end ≡ Err s → end ≡ Err t → s ≡ t
+one_step : (end : Result (Unit {0}) WalkStep) (s t : WalkStep) → end ≡ Err s → end ≡ Err t → s ≡ t
 one_step end s t g h = cc
 
 -- what refuses by a step refuses where a walk of anything is broken by it
-pub breach_by : {X : Type 0} (f : Fault) (s : Step)
-    → ((end : Result (Unit {0}) Step) → end ≡ Err s → IsBreach end f)
-    → (end : Result X Step) → end ≡ Err s → IsBreach end f
+pub breach_by : {X : Type 0} (f : Fault) (s : WalkStep)
+    → ((end : Result (Unit {0}) WalkStep) → end ≡ Err s → IsBreach end f)
+    → (end : Result X WalkStep) → end ≡ Err s → IsBreach end f
 breach_by (Rule r) s refuses end e =
-    e ∙ ap (λ (t : Step). Err t) (one_step (Err s) s (step_of r) refl (refuses (Err s) refl))
+    e ∙ ap (λ (t : WalkStep). Err t) (one_step (Err s) s (step_of r) refl (refuses (Err s) refl))
 breach_by OutOfMemory s refuses end e = tt
 
-pub breach_memory : {X : Type 0} (f : Fault) → f ≡ OutOfMemory → (end : Result X Step) →
+pub breach_memory : {X : Type 0} (f : Fault) → f ≡ OutOfMemory → (end : Result X WalkStep) →
     IsBreach end f
 breach_memory (Rule r) is end = absurd (cc is)
 breach_memory OutOfMemory is end = tt

@@ -21,7 +21,7 @@ use Rattle.sv_flat.specs.Values.{value as flat_value}
 use Rattle.sv_flat.specs.Soundness.{well_formed}
 use Rattle.sv_flat.specs.declared.expressions.FExpr.{FExpr}
 use Rattle.sv_flat.specs.Views.{typed_tree}
-use Rattle.sv_elab_rules.specs.Walks.{Step, Steps, done, then_walk, ◌>>=◌}
+use Rattle.sv_elab_rules.specs.Walks.{WalkStep, Steps, done, then_walk, ◌>>=◌}
 use Rattle.sv_elab_rules.specs.Names.{Names}
 use Rattle.sv_elab_rules.specs.TypedExpressions.{typed_of}
 use Rattle.sv_elab_rules.specs.ExpressionSteps.{asked, asked_parts, divisors, own_divisors, typed_walk}
@@ -297,7 +297,7 @@ constant_broken names e f h = along_steps (asked names true e) (own_divisors nam
         → IsBreach (v >>= λ _. w >>= λ _. done (constant_of names.scope e)).end f
     along_steps v w (Rule r) h = by_first v.end h
       where
-        by_first : (r1 : Result (Unit {0}) Step)
+        by_first : (r1 : Result (Unit {0}) WalkStep)
             → (then_walk v.passed r1 (λ _. w)).end ≡ Err (step_of r)
             → (then_walk v.passed r1 (λ _. w >>= λ _. done (constant_of names.scope e))).end ≡
             Err (step_of r)

@@ -21,7 +21,7 @@ use Rattle.sv_num.specs.Vectors.{width_of, is_signed, value_of}
 use Rattle.sv_num.specs.BinaryValues.{class_of, binary_value, HaveOneType, HasDivisor, is_division}
 use Rattle.sv_num.proofs.NumberLemmas.{word_low}
 use Rattle.sv_ast.specs.Values.{natural}
-use Rattle.sv_elab_rules.specs.Walks.{Step}
+use Rattle.sv_elab_rules.specs.Walks.{WalkStep}
 use Rattle.sv_elab_rules.specs.ExpressionSteps.{is_count}
 use Rattle.sv_elab_rules.specs.TypedExpressions.{left_length, left_signed, right_length}
 use Rattle.sv_elab_rules.specs.TypedExpressions.{right_signed}
@@ -180,7 +180,7 @@ module _ (own : OwnForm) (op : BinOp) (place : Place) (A B : MeasuredTree) (n : 
       breach_after (divisors_of A (left_at op n A B) (left_as op s A B)) _ tt f (left_end ∙ first)
       (breach_after (divisors_of B (right_at op n A B) (right_as op s A B)) _ tt f (right_end
       ∙ second.0)
-      (subst (λ (r : Result (Unit {0}) Step). IsBreach r f) (sym (zero_end right second.3)) h))
+      (subst (λ (r : Result (Unit {0}) WalkStep). IsBreach r f) (sym (zero_end right second.3)) h))
 
 -- ---- replications
 

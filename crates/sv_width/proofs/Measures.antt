@@ -18,7 +18,7 @@ use Rattle.sv_ast.specs.Values.{natural, binary_length, binary_signed, length_of
 use Rattle.sv_ast.specs.Values.{signed_of, whole_number}
 use Rattle.sv_num.specs.Parts.{span_of}
 use Rattle.sv_ast.specs.Instances.{is_signal}
-use Rattle.sv_elab_rules.specs.Walks.{Step, Walk, Steps, done, ask, then_walk, ◌>>=◌}
+use Rattle.sv_elab_rules.specs.Walks.{WalkStep, Walk, Steps, done, ask, then_walk, ◌>>=◌}
 use Rattle.sv_elab_rules.specs.Names.{Names, is_parameter, means_signal, place_of}
 use Rattle.sv_elab_rules.specs.Rules.{unknown_name, not_constant, bad_select}
 use Rattle.sv_elab_rules.specs.TypedExpressions.{names_signal, some_names_signal}
@@ -51,7 +51,7 @@ pub breach_after : {X Y : Type 0} (w : Walk X) (more : X → Walk Y) (x : X) (f 
 breach_after w more x (Rule r) e h = end_after w more x e ∙ h
 breach_after w more x OutOfMemory e h = tt
 
-pub passes_on : {Y : Type 0} (w : Steps) (more : Unit {0} → Walk Y) (r : Result Y Step) →
+pub passes_on : {Y : Type 0} (w : Steps) (more : Unit {0} → Walk Y) (r : Result Y WalkStep) →
     w.end ≡ Ok tt → (more tt).end ≡ r → (w >>= more).end ≡ r
 passes_on w more r e h = end_after w more tt e ∙ h
 
@@ -60,7 +60,7 @@ pub breach_inner : (v w : Steps) (more : Unit {0} → Steps) (f : Fault) →
     IsBreach (v >>= λ _. w).end f → IsBreach (v >>= λ _. w >>= more).end f
 breach_inner v w more (Rule r) h = by_first v.end h
   where
-    by_first : (r1 : Result (Unit {0}) Step)
+    by_first : (r1 : Result (Unit {0}) WalkStep)
         → (then_walk v.passed r1 (λ _. w)).end ≡ Err (step_of r)
         → (then_walk v.passed r1 (λ _. w >>= more)).end ≡ Err (step_of r)
     by_first (Ok x) h = end_broken w more (step_of r) h

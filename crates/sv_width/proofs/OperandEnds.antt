@@ -12,7 +12,7 @@ use Rattle.sv_flat.specs.Design.{SignalForm, TypedTree}
 use Rattle.sv_flat.specs.Soundness.{well_formed}
 use Rattle.sv_flat.specs.declared.expressions.FExpr.{FExpr}
 use Rattle.sv_flat.specs.Views.{typed_tree}
-use Rattle.sv_elab_rules.specs.Walks.{Step}
+use Rattle.sv_elab_rules.specs.Walks.{WalkStep}
 use Rattle.sv_elab_rules.specs.Names.{Names}
 use Rattle.sv_elab_rules.specs.ExpressionSteps.{divisors}
 use Rattle.sv_width.specs.declared.measured.Measured.{Measured}
@@ -105,4 +105,4 @@ module _ (names : Names) (c : Bool) (e : ExpressionTree) (o : Measured)
 
   pub operand_divided : (f : Fault) → IsBreach (divisors_of (measured_tree o) n s).end f
       → IsBreach (divisors names.scope e m r).end f
-  operand_divided f h = subst (λ (x : Result (Unit {0}) Step). IsBreach x f) same_divisors h
+  operand_divided f h = subst (λ (x : Result (Unit {0}) WalkStep). IsBreach x f) same_divisors h

@@ -7,7 +7,7 @@ use Rattle.sv_ast.specs.Tree.{ExpressionTree, ExpressionTrees, literal, named, b
 use Rattle.sv_ast.specs.Tree.{unary, binary, choice, join, replication, no_expressions}
 use Rattle.sv_ast.specs.Tree.{more_expressions}
 use Rattle.sv_ast.specs.Values.{length_of, joined_length, whole_number}
-use Rattle.sv_elab_rules.specs.Walks.{Step, Steps, done, ask, then_walk, ◌>>=◌}
+use Rattle.sv_elab_rules.specs.Walks.{WalkStep, Steps, done, ask, then_walk, ◌>>=◌}
 use Rattle.sv_elab_rules.specs.Names.{Names, is_parameter, in_reach, means_signal, place_of}
 use Rattle.sv_elab_rules.specs.Rules.{unknown_name, too_wide, bad_select, not_constant}
 use Rattle.sv_elab_rules.specs.TypedExpressions.{names_signal}
@@ -24,7 +24,8 @@ pub both_pass : (w : Steps) (more : Unit {0} → Steps) → Passes (w >>= more) 
     Passes w × Passes (more tt)
 both_pass w more = by_end w.end refl
   where
-    by_end : (r : Result (Unit {0}) Step) → w.end ≡ r → (then_walk w.passed r more).end ≡ Ok tt →
+    by_end : (r : Result (Unit {0}) WalkStep) → w.end ≡ r
+        → (then_walk w.passed r more).end ≡ Ok tt →
         Passes w × Passes (more tt)
     by_end (Ok x) e h = (e, h)
     by_end (Err s) e h = absurd (cc h)

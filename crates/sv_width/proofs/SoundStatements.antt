@@ -25,7 +25,7 @@ use Rattle.sv_flat.specs.Design.{after, assign, branch}
 use Rattle.sv_flat.specs.Values.{signal_width, expression_width, expression_signed}
 use Rattle.sv_flat.specs.Soundness.{is_whole as is_whole_piece, is_part_of, piece_fits, well_formed}
 use Rattle.sv_flat.specs.Soundness.{statement_sound, is_signal as is_number_of_signal}
-use Rattle.sv_elab_rules.specs.Walks.{Step, Steps, done, ask, each, value_or}
+use Rattle.sv_elab_rules.specs.Walks.{WalkStep, Steps, done, ask, each, value_or}
 use Rattle.sv_elab_rules.specs.Names.{Names}
 use Rattle.sv_elab_rules.specs.TypedExpressions.{typed_of}
 use Rattle.sv_elab_rules.specs.ExpressionSteps.{is_below, asked, divisors, constant_walk, typed_walk}
@@ -118,7 +118,7 @@ passed_length names e h =
     ap (λ r. value_or r 0) (end_after (asked names true e) (λ _.
     done (length_of names.scope e)) tt h)
 
-pub broken_length : (names : Names) (e : ExpressionTree) (s : Step)
+pub broken_length : (names : Names) (e : ExpressionTree) (s : WalkStep)
     → (asked names true e).end ≡ Err s
     → item_length names e ≡ 0
 unfolding item_length
@@ -364,7 +364,8 @@ module _ (names : Names) (declared : AllDeclared names) (lengths : HaveLengths n
       item_length names e ≤ 64
   item_few e shape numbers = by (asked names true e).end refl
     where
-      by : (r : Result (Unit {0}) Step) → (asked names true e).end ≡ r → item_length names e ≤ 64
+      by : (r : Result (Unit {0}) WalkStep) → (asked names true e).end ≡ r
+          → item_length names e ≤ 64
       by (Ok x) h = omega (arith, passed_length names e h, own true e h shape numbers)
       by (Err s) h = omega (arith, broken_length names e s h)
 

@@ -22,7 +22,7 @@ use Rattle.sv_ast.specs.Values.{nowhere, length_of, joined_length, signed_of, va
 use Rattle.sv_ast.specs.Values.{natural, whole_number}
 use Rattle.sv_flat.specs.Design as flat
 use Rattle.sv_flat.specs.Design.{TypedTree, TypedTrees, NodeTree, typed}
-use Rattle.sv_elab_rules.specs.Walks.{Step, Steps, done, ask, then_walk, ◌>>=◌}
+use Rattle.sv_elab_rules.specs.Walks.{WalkStep, Steps, done, ask, then_walk, ◌>>=◌}
 use Rattle.sv_elab_rules.specs.Rules.{zero_divisor}
 use Rattle.sv_elab_rules.specs.Names.{Names, place_of}
 use Rattle.sv_elab_rules.specs.TypedExpressions.{names_signal, left_length, left_signed}
@@ -45,7 +45,8 @@ use Rattle.sv_width.proofs.Constants.{own_measured, folded_same}
 
 -- ---- walks with equal ends
 
-ends_along : (p t : List Step) (r u : Result (Unit {0}) Step) (f g : Unit {0} → Steps) → r ≡ u
+ends_along : (p t : List WalkStep) (r u : Result (Unit {0}) WalkStep) (f g : Unit {0} → Steps)
+    → r ≡ u
     → (f tt).end ≡ (g tt).end
     → (then_walk p r f).end ≡ (then_walk t u g).end
 ends_along p t (Ok x) (Ok y) f g is h = h
@@ -81,7 +82,7 @@ division_class LogicAnd h = absurd (cc h)
 division_class LogicOr h = absurd (cc h)
 
 -- a test that is asked only sometimes, of equal values there
-asked_same : (d : Bool) (x y : ℕ) (s : Step) → (d ≡ true → x ≡ y)
+asked_same : (d : Bool) (x y : ℕ) (s : WalkStep) → (d ≡ true → x ≡ y)
     → (elim d as (λ z. Steps) [ true ↦ ask (not (x == 0)) s | false ↦ done tt ]).end
     ≡ (elim d as (λ z. Steps) [ true ↦ ask (not (y == 0)) s | false ↦ done tt ]).end
 asked_same true x y s h = ap (λ z. (ask (not (z == 0)) s).end) (h refl)

@@ -2,7 +2,7 @@
 -- meaning stands in `asked` of sv_elab_rules/specs/ExpressionSteps.antt.
 use Rattle.std.specs.Prelude.{ℕ, Bool, true, false, not, List, if◌then◌else◌}
 use Rattle.sv_num.specs.declared.faults.Place.{Place}
-use Rattle.sv_elab_rules.specs.Walks.{Step, Steps, ask, ◌>>=◌}
+use Rattle.sv_elab_rules.specs.Walks.{WalkStep, Steps, ask, ◌>>=◌}
 use Rattle.sv_elab_rules.specs.Rules.{unknown_name, not_constant}
 use Rattle.sv_elab_rules.specs.Names.{Names, means_signal}
 use Rattle.sv_width.specs.declared.lookups.Setting.{Setting}
@@ -22,7 +22,7 @@ is_constant Constant = true
 is_constant Declaring = true
 
 -- the step that refuses a name that stands for nothing yet
-abbrev pub absent_step : Names → Place → List ℕ → Step
+abbrev pub absent_step : Names → Place → List ℕ → WalkStep
 absent_step names place n = if names.later n then not_constant place else unknown_name place n
 
 -- the steps at the name of which a bit or a part is taken

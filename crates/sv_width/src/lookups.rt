@@ -4,7 +4,7 @@ ghost use Rattle.sv_num.specs.Rules.{rule_number};
 ghost use Rattle.sv_ast.specs.Instances.{is_signal};
 ghost use Rattle.sv_ast.specs.Tree as tree;
 ghost use Rattle.sv_ast.specs.Views.{expression_tree, expression_trees, parts_of};
-ghost use Rattle.sv_elab_rules.specs.Walks.{Step};
+ghost use Rattle.sv_elab_rules.specs.Walks.{WalkStep};
 ghost use Rattle.sv_elab_rules.specs.Rules.{step, unknown_name};
 ghost use Rattle.sv_elab_rules.specs.Names.{place_of};
 ghost use Rattle.sv_elab_rules.specs.ExpressionSteps.{asked};
@@ -36,7 +36,7 @@ pub enum Setting {
 
 /// The refusal by a rule at a place, without names.
 pub fn refusal(alloc: Global, rule: Rule, place: Place) -> Fault
-    ensures { (end : Result (Unit {0}) Step) → end ≡ Err (step (rule_number rule) place []) →
+    ensures { (end : Result (Unit {0}) WalkStep) → end ≡ Err (step (rule_number rule) place []) →
         IsBreach end result }
 {
     Fault::broken(rule, place, Vec::new(alloc))
@@ -44,8 +44,8 @@ pub fn refusal(alloc: Global, rule: Rule, place: Place) -> Fault
 
 /// The refusal by a rule at a place, with one name.
 pub fn refusal_naming(alloc: Global, rule: Rule, place: Place, name: &Name) -> Fault
-    ensures { (end : Result (Unit {0}) Step) → end ≡ Err (step (rule_number rule) place (name.now ∷ [])) →
-        IsBreach end result }
+    ensures { (end : Result (Unit {0}) WalkStep)
+        → end ≡ Err (step (rule_number rule) place (name.now ∷ [])) → IsBreach end result }
 {
     match name.alone(alloc) {
         Ok(names) => Fault::broken(rule, place, names),
@@ -55,7 +55,7 @@ pub fn refusal_naming(alloc: Global, rule: Rule, place: Place, name: &Name) -> F
 
 /// The refusal by rule 401: the name stands for nothing that may stand there.
 pub fn unknown_name(alloc: Global, name: &Name, place: Place) -> Fault
-    ensures { (end : Result (Unit {0}) Step) → end ≡ Err (unknown_name place name.now) →
+    ensures { (end : Result (Unit {0}) WalkStep) → end ≡ Err (unknown_name place name.now) →
         IsBreach end result }
 {
     refusal_naming(alloc, Rule::UnknownName, place, name)
@@ -100,7 +100,7 @@ fn is_constant(setting: Setting) -> bool
 
 // What refuses a name that stands for nothing yet.
 fn absent(alloc: Global, name: &Name, place: Place, scope: &Scope, setting: Setting) -> Fault
-    ensures { (end : Result (Unit {0}) Step) →
+    ensures { (end : Result (Unit {0}) WalkStep) →
         end ≡ Err (absent_step (names_in setting scope.now) place name.now) → IsBreach end result }
 {
     if setting == Setting::Declaring && scope.is_announced(name) {

@@ -11,7 +11,7 @@ use Rattle.sv_elab_rules.specs.InstanceSteps.{item_walk, items_from, site_walk}
 use Rattle.sv_width.specs.Scopes.{Known, names_of}
 use Rattle.sv_elab_decl.specs.Sites.{tables_of}
 use Rattle.sv_elab.specs.Instances.{Opened, built_form, declared_names, taken_in, opened}
-use Rattle.sv_elab.specs.Nests.{Nesting, site_at}
+use Rattle.sv_elab.specs.Nests.{InstanceNesting, site_at}
 use Rattle.sv_elab.proofs.DeclaredLattices.{breach_on}
 use Rattle.sv_elab.proofs.InstanceEnds.{master_broken, set_up_broken, instance_ends}
 use Rattle.sv_elab.proofs.InstanceCode.{items_shaped, items_none}
@@ -46,7 +46,7 @@ add_instance-returns-in_err-scope-clause-broken t c =
     let m = module_tree c.in_ok-master.master.now in
     let master = c.in_ok-master.ensures.found in
     let fewer : n ≡ suc (n - 1) = omega (arith, c.requires.room, c.in_ok-master.ensures.few) in
-    let there = sym (ap (λ (k : Nesting). k.path) c.in_ok-enter.ensures) in
+    let there = sym (ap (λ (k : InstanceNesting). k.path) c.in_ok-enter.ensures) in
     let p = err_from_is_err_and c.from_residual-in_err-scope.result
     c.from_residual-in_err-scope.ensures.1 in
     rw (p.1, p.2) (breach_on c.in_err-scope.field-0.0 _ _
@@ -79,12 +79,12 @@ add_instance-returns-in_err-add_items-clause-broken t c =
     let m = module_tree c.in_ok-master.master.now in
     let master = c.in_ok-master.ensures.found in
     let fewer : n ≡ suc (n - 1) = omega (arith, c.requires.room, c.in_ok-master.ensures.few) in
-    let there = sym (ap (λ (k : Nesting). k.path) c.in_ok-enter.ensures) in
+    let there = sym (ap (λ (k : InstanceNesting). k.path) c.in_ok-enter.ensures) in
     let o : Opened = opened c.deref.result.now (built_form c.set_up_in_box.new.built) in
     let to_items = instance_ends tables names taken built i nest n m master (n - 1) fewer _ there o
     (c.in_ok-scope.ensures.found
     ∙ ap (λ scope. Ok (opened scope (built_form c.set_up_in_box.new.built))) (sym c.deref.ensures))
-    ∙ ap (λ (k : Nesting).
+    ∙ ap (λ (k : InstanceNesting).
     (items_from (site_walk (n - 1) tables) tables (site_at k) o.names o.taken o.built
     m.items).end) (sym c.in_ok-enter.ensures)
     ∙ ap (λ xs. (items_from (site_walk (n - 1) tables) tables (site_at c.enter.new.self) o.names
@@ -106,12 +106,12 @@ add_instance-returns-clause-found t c =
     let m = module_tree c.in_ok-master.master.now in
     let master = c.in_ok-master.ensures.found in
     let fewer : n ≡ suc (n - 1) = omega (arith, c.requires.room, c.in_ok-master.ensures.few) in
-    let there = sym (ap (λ (k : Nesting). k.path) c.in_ok-enter.ensures) in
+    let there = sym (ap (λ (k : InstanceNesting). k.path) c.in_ok-enter.ensures) in
     let o : Opened = opened c.deref.result.now (built_form c.set_up_in_box.new.built) in
     let to_items = instance_ends tables names taken built i nest n m master (n - 1) fewer _ there o
     (c.in_ok-scope.ensures.found
     ∙ ap (λ scope. Ok (opened scope (built_form c.set_up_in_box.new.built))) (sym c.deref.ensures))
-    ∙ ap (λ (k : Nesting).
+    ∙ ap (λ (k : InstanceNesting).
     (items_from (site_walk (n - 1) tables) tables (site_at k) o.names o.taken o.built
     m.items).end) (sym c.in_ok-enter.ensures)
     ∙ ap (λ xs. (items_from (site_walk (n - 1) tables) tables (site_at c.enter.new.self) o.names
@@ -212,7 +212,7 @@ add_items-loop-item-preserved t c =
     let rest = map item_tree (drop (k + 1) items) in
     record {
       walk =
-          ap (λ (nest : Nesting).
+          ap (λ (nest : InstanceNesting).
           (items_from inside tables (site_at nest) names (taken_in c.add_item.new.inside)
           (built_form c.add_item.new.built) rest).end) c.in_ok-add_item.ensures.nest
           ∙ ap (λ (ks : List (List ℕ)).

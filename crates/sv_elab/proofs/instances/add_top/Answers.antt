@@ -6,14 +6,14 @@ use Rattle.sv_ast.specs.Views.{item_tree, module_tree}
 use Rattle.sv_elab_rules.specs.InstanceSteps.{items_from, site_walk}
 use Rattle.sv_elab_decl.specs.Sites.{tables_of}
 use Rattle.sv_elab.specs.Instances.{Opened, built_form, opened}
-use Rattle.sv_elab.specs.Nests.{Nesting, site_at}
+use Rattle.sv_elab.specs.Nests.{InstanceNesting, site_at}
 use Rattle.sv_elab.proofs.DeclaredLattices.{breach_on}
 use Rattle.sv_elab.proofs.InstanceEnds.{top_broken, top_end}
 use Rattle.sv_elab.proofs.InstanceCode.{items_shaped}
 use Rattle.sv_elab.proofs.instances.add_top.Goals as goal
 
 pub set_up_top-requires-clause-top : goal.set_up_top-requires-clause-top
-set_up_top-requires-clause-top c = ap (λ (k : Nesting). k.path) c.in_ok-nest.ensures
+set_up_top-requires-clause-top c = ap (λ (k : InstanceNesting). k.path) c.in_ok-nest.ensures
 
 pub returns-in_err-scope-clause-broken : goal.returns-in_err-scope-clause-broken
 returns-in_err-scope-clause-broken c =
@@ -34,7 +34,7 @@ returns-in_err-add_items-clause-broken c =
     let m = module_tree c.args.master.now in
     let o : Opened = opened c.in_ok-scope.scope (built_form c.set_up_top.new.built) in
     let to_items = top_end tables m o c.in_ok-scope.ensures.found
-    ∙ ap (λ (k : Nesting).
+    ∙ ap (λ (k : InstanceNesting).
     (items_from (site_walk 1024 tables) tables (site_at k) o.names o.taken o.built m.items).end)
     (sym c.in_ok-nest.ensures)
     ∙ ap (λ xs. (items_from (site_walk 1024 tables) tables (site_at c.in_ok-nest.nest) o.names
@@ -50,7 +50,7 @@ returns-clause-found c =
     let m = module_tree c.args.master.now in
     let o : Opened = opened c.in_ok-scope.scope (built_form c.set_up_top.new.built) in
     let to_items = top_end tables m o c.in_ok-scope.ensures.found
-    ∙ ap (λ (k : Nesting).
+    ∙ ap (λ (k : InstanceNesting).
     (items_from (site_walk 1024 tables) tables (site_at k) o.names o.taken o.built m.items).end)
     (sym c.in_ok-nest.ensures)
     ∙ ap (λ xs. (items_from (site_walk 1024 tables) tables (site_at c.in_ok-nest.nest) o.names

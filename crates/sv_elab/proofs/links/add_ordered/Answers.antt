@@ -10,7 +10,7 @@ use Rattle.sv_ast.specs.Shape.{is_shaped_expression}
 use Rattle.sv_ast.specs.Views.{declaration_tree, expression_tree}
 use Rattle.sv_flat.specs.Design.{ProcessForm}
 use Rattle.sv_flat.specs.Views.{process_form}
-use Rattle.sv_elab_rules.specs.Walks.{Step}
+use Rattle.sv_elab_rules.specs.Walks.{WalkStep}
 use Rattle.sv_elab_rules.specs.Rules.{links_over}
 use Rattle.sv_elab_rules.specs.Links.{ordered_links_walk}
 use Rattle.sv_width.specs.Scopes.{names_of}
@@ -45,7 +45,7 @@ returns-in-None-clause-broken c =
     ∙ ap (λ rest. (ordered_links_walk names ports [] ps (map expression_tree rest)).end)
     (left_more exprs i e c.loop-index-test.true c.index-exprs-index.is)
     ∙ ordered_over names ports ps (expression_tree e) (map expression_tree (drop (i + 1) exprs))
-    ∙ ap (λ (p : Place). let r : Result (List ProcessForm) Step = Err (links_over p) in
+    ∙ ap (λ (p : Place). let r : Result (List ProcessForm) WalkStep = Err (links_over p) in
     r) (sym c.place_of.ensures))
 
 pub link-requires-clause-shaped : goal.link-requires-clause-shaped

@@ -5,7 +5,7 @@ use Rattle.sv_num.specs.declared.faults.Place.{Place}
 use Rattle.sv_ast.specs.Views.{declaration_tree, expression_tree}
 use Rattle.sv_flat.specs.Design.{ProcessForm, port_in}
 use Rattle.sv_flat.specs.Views.{typed_tree}
-use Rattle.sv_elab_rules.specs.Walks.{Step}
+use Rattle.sv_elab_rules.specs.Walks.{WalkStep}
 use Rattle.sv_elab_rules.specs.ExpressionSteps.{expression_walk}
 use Rattle.sv_elab_rules.specs.Names.{place_of}
 use Rattle.sv_elab_rules.specs.Links.{whole_assignment, port_number, input_link}
@@ -38,14 +38,14 @@ returns-clause-found c =
     let width = c.width_of-width.ensures.width in
     input_found names ports d e v (ap (λ w. (expression_walk names e w).end) (sym width)
     ∙ c.in_ok-value.ensures.found)
-    ∙ ap (λ w. let r : Result ProcessForm Step = Ok
+    ∙ ap (λ w. let r : Result ProcessForm WalkStep = Ok
     (whole_assignment (place_of e) port_in (port_number ports d.name) w v) in r) (sym width)
-    ∙ ap (λ n. let r : Result ProcessForm Step = Ok
+    ∙ ap (λ n. let r : Result ProcessForm WalkStep = Ok
     (whole_assignment (place_of e) port_in n c.width_of-width.result v) in
     r) (sym c.in_ok-signal.ensures)
     ∙ ap (λ (p : Place).
-    let r : Result ProcessForm Step = Ok
+    let r : Result ProcessForm WalkStep = Ok
     (whole_assignment p port_in c.in_ok-signal.signal.0 c.width_of-width.result v) in
     r) (sym c.place_of-place.ensures)
-    ∙ ap (λ (f : ProcessForm). let r : Result ProcessForm Step = Ok f in
+    ∙ ap (λ (f : ProcessForm). let r : Result ProcessForm WalkStep = Ok f in
     r) (sym c.in_ok-whole_assignment.ensures)

@@ -4,7 +4,7 @@ use Rattle.sv_num.specs.declared.faults.Place.{Place}
 use Rattle.sv_ast.specs.Scopes.{width_of}
 use Rattle.sv_ast.specs.Views.{declaration_tree, expression_tree}
 use Rattle.sv_flat.specs.Design.{TypedTree, ProcessForm, port_out}
-use Rattle.sv_elab_rules.specs.Walks.{Step}
+use Rattle.sv_elab_rules.specs.Walks.{WalkStep}
 use Rattle.sv_elab_rules.specs.Rules.{wrong_link}
 use Rattle.sv_elab_rules.specs.Names.{place_of}
 use Rattle.sv_elab_rules.specs.Links.{whole_assignment, port_value, output_link}
@@ -25,7 +25,7 @@ returns-in-None-clause-broken c =
     c.refusal_naming.ensures
     (output_link names ports d e).end
     (output_broken names ports d e c.in-None.ensures
-    ∙ ap (λ (p : Place). let r : Result ProcessForm Step = Err (wrong_link p d.name) in
+    ∙ ap (λ (p : Place). let r : Result ProcessForm WalkStep = Err (wrong_link p d.name) in
     r) (sym c.place_of-place.ensures))
 
 pub returns-clause-found : goal.returns-clause-found
@@ -38,16 +38,16 @@ returns-clause-found c =
     let whole = c.in-Some.ensures in
     output_found names ports d e whole.0 whole.1
     ∙ ap (λ (m : Option Meaning).
-    let r : Result ProcessForm Step = Ok
+    let r : Result ProcessForm WalkStep = Ok
     (whole_assignment (place_of e) port_out (signal_number m)
     (width_of (option_map binding_of m))
     (port_value ports d (width_of (option_map binding_of m)) (place_of e))) in r) whole.2
     ∙ ap (λ (p : Place).
-    let r : Result ProcessForm Step = Ok (whole_assignment p port_out known.signal.0 known.width
+    let r : Result ProcessForm WalkStep = Ok (whole_assignment p port_out known.signal.0 known.width
     (port_value ports d known.width p)) in r) (sym c.place_of-place.ensures)
     ∙ ap (λ (v : TypedTree).
-    let r : Result ProcessForm Step = Ok
+    let r : Result ProcessForm WalkStep = Ok
     (whole_assignment c.place_of-place.result port_out known.signal.0 known.width v) in r)
     (sym c.in_ok-value.ensures)
-    ∙ ap (λ (f : ProcessForm). let r : Result ProcessForm Step = Ok f in
+    ∙ ap (λ (f : ProcessForm). let r : Result ProcessForm WalkStep = Ok f in
     r) (sym c.in_ok-whole_assignment.ensures)

@@ -1,7 +1,7 @@
 use Rattle.std.proofs.Common.{◌≡◌, [], Option, Some, None, refl, sym, ap, ◌∙◌, subst}
 use Rattle.std.specs.Prelude.{map}
 use Rattle.sv_ast.specs.Views.{placed_name, pair_tree, lattice_tree}
-use Rattle.sv_elab_rules.specs.Walks.{Step}
+use Rattle.sv_elab_rules.specs.Walks.{WalkStep}
 use Rattle.sv_elab_rules.specs.Lattices.{point_questions, pair_questions}
 use Rattle.sv_elab.specs.Earliest.{earlier, earliest, name_step, names_of, name_steps}
 use Rattle.sv_elab.proofs.NameLemmas.{KnowSame}
@@ -42,7 +42,7 @@ returns-in-None-clause-names c =
     c.in_ok-names.ensures.all (none_first _ _ (sym c.in-None.ensures))
     ∙ ap names_of c.deref.ensures.value ∙ sym (point_names_are c.args.text.now.points.items)
   where
-    none_first : (a b : Option Step) → earlier a b ≡ None → a ≡ None
+    none_first : (a b : Option WalkStep) → earlier a b ≡ None → a ≡ None
     none_first None b h = refl
     none_first (Some a) None h = h
     none_first (Some a) (Some b) h = absurd (cc h)

@@ -3,7 +3,7 @@ use Rattle.std.specs.Prelude.{Result, Ok, Err}
 use Rattle.std.proofs.lemmas.Result.{on_ok_weaker, err_from_is_err_and}
 use Rattle.sv_ast.specs.declared.modules.Item.TheVariants as item
 use Rattle.sv_ast.specs.Views.{item_tree, declaration_tree, module_tree}
-use Rattle.sv_elab_rules.specs.Walks.{Step}
+use Rattle.sv_elab_rules.specs.Walks.{WalkStep}
 use Rattle.sv_elab_rules.specs.Declarations.{Declared as WalkDeclared}
 use Rattle.sv_elab_decl.specs.Sites.{site_of, declared_of}
 use Rattle.sv_width.specs.Answers.{IsBreach}
@@ -25,7 +25,7 @@ returns-in-Param-clause-broken c =
     let is : c.args.item.now ≡ item.Param c.in-Param.param = cc in
     let d = declared_of c.args.declared.now in
     err_each c.declare_param.result _ _
-    (λ f h. subst (λ (e : Result WalkDeclared Step). IsBreach e f)
+    (λ f h. subst (λ (e : Result WalkDeclared WalkStep). IsBreach e f)
     (sym (item_parameter c.args.site.now.base c.args.least.0 (site_of c.args.site.now) d
     c.args.item.now c.in-Param.param is))
     (stops_breach f _ d c.declare_param.new.declared h)) c.declare_param.ensures.stopped
@@ -46,7 +46,7 @@ returns-in_err-refusal-in-Decl-clause-broken c =
     let f = c.in_err-refusal-in-Decl.field-0.0 in
     let q = err_from_is_err_and c.from_residual.result c.from_residual.ensures.1 in
     rw (q.1, q.2)
-    (subst (λ (e : Result WalkDeclared Step). IsBreach e f)
+    (subst (λ (e : Result WalkDeclared WalkStep). IsBreach e f)
     (sym (item_signal base least site (declared_of old) c.args.item.now c.in-Decl.decl is))
     (none_broken base least site (declaration_tree c.in-Decl.decl) (declared_of old) old.scope
     c.declare_signal.new.declared.scope f refl c.in_err-refusal-in-Decl.ensures.stopped))

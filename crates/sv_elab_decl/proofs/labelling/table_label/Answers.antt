@@ -5,7 +5,7 @@ use Rattle.sv_lattice.specs.declared.labels.Label.TheVariants.{Table}
 use Rattle.sv_lattice.specs.Labels.{map_of}
 use Rattle.sv_ast.specs.Instances.{is_signal}
 use Rattle.sv_ast.specs.Tree.{table_label}
-use Rattle.sv_elab_rules.specs.Walks.{Step, ask}
+use Rattle.sv_elab_rules.specs.Walks.{WalkStep, ask}
 use Rattle.sv_elab_rules.specs.Rules.{bad_label}
 use Rattle.sv_elab_rules.specs.LabelSteps.{second_selector, same_number, second_fits, second_number}
 use Rattle.sv_elab_rules.specs.LabelSteps.{label_walk}

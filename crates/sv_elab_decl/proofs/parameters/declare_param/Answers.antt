@@ -4,7 +4,7 @@ use Rattle.std.specs.Prelude.{Result, Ok, Err, is_some}
 use Rattle.std.proofs.lemmas.Result.{err_from_is_err_and}
 use Rattle.sv_ast.specs.Scopes.{Number, Binding, parameter}
 use Rattle.sv_ast.specs.Views.{parameter_tree, module_tree}
-use Rattle.sv_elab_rules.specs.Walks.{Step}
+use Rattle.sv_elab_rules.specs.Walks.{WalkStep}
 use Rattle.sv_elab_rules.specs.Declarations.{Declared as WalkDeclared, range_steps, override_of}
 use Rattle.sv_elab_rules.specs.Declarations.{final_walk, parameter_walk}
 use Rattle.sv_elab_rules.specs.Names.{names_at}
@@ -105,7 +105,7 @@ returns-clause-stopped c =
     let p = parameter_tree c.args.param.now in
     let names = names_ahead old.scope in
     let same : c.in_ok-name.name ≡ p.name = c.in_ok-name.ensures in
-    let end : Result WalkDeclared Step = (parameter_walk base site d p).end in
+    let end : Result WalkDeclared WalkStep = (parameter_walk base site d p).end in
     err_two c.add_param.result _ _ _
     (λ f twice unchanged.
     subst (λ (k : Known). Stops end d (record { scope = k; signals = old.signals }) f)

@@ -9,7 +9,7 @@ use Rattle.sv_flat.specs.declared.signals.SigId.{SigId}
 use Rattle.sv_flat.specs.declared.signals.Signal.{Signal}
 use Rattle.sv_flat.specs.Design.{SignalForm}
 use Rattle.sv_flat.specs.Views.{signal_form}
-use Rattle.sv_elab_rules.specs.Walks.{Step}
+use Rattle.sv_elab_rules.specs.Walks.{WalkStep}
 use Rattle.sv_elab_rules.specs.Declarations.{signal_ahead}
 use Rattle.sv_elab_rules.specs.Names.{names_at}
 use Rattle.sv_width.specs.Scopes.{Known, names_ahead}
@@ -64,7 +64,7 @@ returns-then-number-ge-MOST_SIGNALS-clause-found c =
     c.in_ok-optional_width.field-0 c.in_ok-optional_width.ensures.found c.add_signal.new.self
     c.in_ok-name.name c.in_ok-name.ensures _ c.unwrap_or-width.result c.unwrap_or-width.ensures
     c.in_ok-add_signal.ensures.added c.in_ok-add_signal.ensures.new d refl) over
-    ∙ ap (λ (s : Step). Err s) (sym c.too_many.ensures)
+    ∙ ap (λ (s : WalkStep). Err s) (sym c.too_many.ensures)
 
 pub returns-then-number-ge-MOST_SIGNALS-clause-names :
     goal.returns-then-number-ge-MOST_SIGNALS-clause-names

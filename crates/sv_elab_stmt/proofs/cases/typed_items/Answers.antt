@@ -7,7 +7,7 @@ use Rattle.sv_flat.specs.Views.{typed_tree, typed_trees}
 use Rattle.sv_elab_rules.specs.Statements.{items_walk}
 use Rattle.sv_width.specs.Answers.{IsBreach}
 use Rattle.sv_width.specs.Scopes.{names_of}
-use Rattle.sv_elab_stmt.specs.declared.cases.Item.{Item}
+use Rattle.sv_elab_stmt.specs.declared.cases.CaseItem.{CaseItem}
 use Rattle.sv_elab_stmt.specs.Cases.{item_tree, item_trees, AreItems, greatest}
 use Rattle.sv_elab_stmt.proofs.WalkFacts.{left_more, left_none, forms_push, mapped, mapped_push}
 use Rattle.sv_elab_stmt.proofs.WalkFacts.{mapped_none, breach_mapped, items_none, items_more}
@@ -22,7 +22,7 @@ typed_item-requires c =
     let rest = drop (i + 1) c.args.items.now in
     let split = left_more c.args.items.now i item c.loop-item-test.true c.item-item.is in
     let each = subst (AreItems names) split c.loop-item.invariant.each in
-    let wide = subst (λ (xs : List Item).
+    let wide = subst (λ (xs : List CaseItem).
     greatest xs ≤ c.args.to.width) split c.loop-item.invariant.wide in
     record {
       shaped =
@@ -67,7 +67,7 @@ loop-item-preserved c =
     let new = c.in_ok-typed_item.field-0 in
     let found = c.in_ok-typed_item.ensures.found in
     let split = left_more items i item c.loop-item-test.true c.item-item.is in
-    let wide = subst (λ (xs : List Item). greatest xs ≤ n) split c.loop-item.invariant.wide in
+    let wide = subst (λ (xs : List CaseItem). greatest xs ≤ n) split c.loop-item.invariant.wide in
     record {
       walk = ap (λ ts. mapped (λ fs. ts ++ fs) (items_walk names n s (item_trees rest)).end)
           (ap typed_trees c.in_ok-push.ensures.items ∙ forms_push typed_tree old new)

@@ -4,7 +4,7 @@ use Rattle.std.specs.Prelude.{◌||◌, ◌==◌}
 use Rattle.std.proofs.lemmas.Result.{err_from_is_err_and}
 use Rattle.sv_ast.specs.Values.{nowhere, value}
 use Rattle.sv_num.specs.Parts.{extended}
-use Rattle.sv_elab_stmt.specs.declared.cases.Item.{Item}
+use Rattle.sv_elab_stmt.specs.declared.cases.CaseItem.{CaseItem}
 use Rattle.sv_elab_stmt.specs.Cases.{item_tree, item_trees, AreItems, ArePassed, greatest, values_of}
 use Rattle.sv_elab_stmt.specs.Cases.{is_held}
 use Rattle.sv_elab_stmt.proofs.CompleteFacts.{either_false}
@@ -27,7 +27,7 @@ returns-in_err-mark_item-clause-memory c =
     (λ names items passed.
     let h = c.loop-item.invariant.held names items passed in
     let each = subst (AreItems names) split h.0 in
-    let all = subst (λ (xs : List Item). ArePassed names n s (item_trees xs)) split h.1 in
+    let all = subst (λ (xs : List CaseItem). ArePassed names n s (item_trees xs)) split h.1 in
     c.in_err-mark_item.ensures.memory names each.0 all.0)
 
 pub loop-item-preserved : goal.loop-item-preserved
@@ -40,14 +40,15 @@ loop-item-preserved c =
     let old = c.loop-item.held.items in
     let split = left_more c.args.items.now c.loop-item.item-index item c.loop-item-test.true
     c.item-item.is in
-    let wide = subst (λ (xs : List Item). greatest xs ≤ n) split c.loop-item.invariant.wide in
+    let wide = subst (λ (xs : List CaseItem). greatest xs ≤ n) split c.loop-item.invariant.wide in
     record {
       size = c.in_ok-mark_item.ensures.size ∙ c.loop-item.invariant.size;
       wide = omega (arith, wide);
       held = λ names items passed.
           let h = c.loop-item.invariant.held names items passed in
           let each = subst (AreItems names) split h.0 in
-          let all = subst (λ (xs : List Item). ArePassed names n s (item_trees xs)) split h.1 in (
+          let all = subst (λ (xs : List CaseItem).
+          ArePassed names n s (item_trees xs)) split h.1 in (
             each.1,
             all.1,
             λ v low. ap (λ b. b || is_held own n s (values_of names n s (item_trees rest)) v)

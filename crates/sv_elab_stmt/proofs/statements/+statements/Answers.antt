@@ -29,7 +29,7 @@ use Rattle.sv_width.specs.Answers.{IsBreach}
 use Rattle.sv_width.specs.Operands.{own_width, own_signed}
 use Rattle.sv_width.specs.Scopes.{names_of}
 use Rattle.sv_width.proofs.Breaches.{ok_weaker, err_weaker, breach_memory}
-use Rattle.sv_elab_stmt.specs.declared.cases.Item.{Item}
+use Rattle.sv_elab_stmt.specs.declared.cases.CaseItem.{CaseItem}
 use Rattle.sv_elab_stmt.specs.Cases.{item_trees, AreItems, ArePassed, greatest, all_signed}
 use Rattle.sv_elab_stmt.specs.Chains.{flat_arm, flat_arms, has_items}
 use Rattle.sv_elab_stmt.proofs.ItemFacts.{trees_long}
@@ -245,7 +245,7 @@ flat_arms-loop-arm-preserved t c =
           ∙ c.loop-arm.invariant.walk;
       all = ap item_trees (sym behind) ∙ own.3;
       each = subst (AreItems names) behind own.4;
-      wide = subst (λ (xs : List Item). greatest xs ≤ n) behind own.5;
+      wide = subst (λ (xs : List CaseItem). greatest xs ≤ n) behind own.5;
       inside =
           omega (arith, long, size, count, length-drop next items, c.loop-arm.invariant.inside);
       shaped = shapes.1;

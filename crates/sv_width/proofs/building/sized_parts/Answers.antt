@@ -13,7 +13,7 @@ use Rattle.sv_ast.specs.declared.expressions.Expr.{Expr}
 use Rattle.sv_ast.specs.Views.{expression_tree, expression_trees, parts_of}
 use Rattle.sv_elab_rules.specs.Names.{place_of}
 use Rattle.sv_elab_rules.specs.Rules.{unsized_part}
-use Rattle.sv_elab_rules.specs.Walks.{Step, ask, ◌>>=◌}
+use Rattle.sv_elab_rules.specs.Walks.{WalkStep, ask, ◌>>=◌}
 use Rattle.sv_elab_rules.specs.ExpressionSteps.{is_sized, sized_parts}
 use Rattle.sv_width.proofs.building.sized_parts.Goals as goal
 
@@ -21,11 +21,11 @@ abbrev unsized : Expr → Option Place
 unsized e =
     if is_sized (expression_tree e) then None else Some (place_of (expression_tree e))
 
-abbrev end_of : List Expr → Result (Unit {0}) Step
+abbrev end_of : List Expr → Result (Unit {0}) WalkStep
 end_of es = (sized_parts (parts_of (expression_trees es))).end
 
 -- the end of the walk at the place of an unsized part, or else another one
-abbrev end_at : Option Place → Result (Unit {0}) Step → Result (Unit {0}) Step
+abbrev end_at : Option Place → Result (Unit {0}) WalkStep → Result (Unit {0}) WalkStep
 end_at None rest = rest
 end_at (Some p) rest = Err (unsized_part p)
 

@@ -16,7 +16,7 @@ use Rattle.sv_elab_rules.specs.TypedExpressions.{names_signal, some_names_signal
 use Rattle.sv_ast.specs.Shape.{is_shaped_expression, are_shaped_parts, has_part}
 use Rattle.sv_ast.specs.Views.{expression_tree, expression_trees, row_parts, parts_of}
 use Rattle.sv_ast.proofs.Rows.{row_parts-hidden}
-use Rattle.sv_elab_rules.specs.Walks.{Step, ask}
+use Rattle.sv_elab_rules.specs.Walks.{WalkStep, ask}
 use Rattle.sv_elab_rules.specs.Rules.{bad_select}
 use Rattle.sv_elab_rules.specs.Names.{Names, place_of}
 use Rattle.sv_elab_rules.specs.ExpressionSteps.{asked, asked_parts, own_divisors, is_below}
@@ -468,7 +468,7 @@ measured_replication-returns-clause-broken t c =
     (parts_of (expression_trees c.args.parts.now)) c.in_ok-count.count
     (measured_row (measured_trees c.in_ok-operands.operands.items)) f
     c.in_ok-count.ensures.found c.in_ok-operands.ensures.found.0 c.in_ok-operands.ensures.found.1
-    (subst (λ (r : Result (Unit {0}) Step).
+    (subst (λ (r : Result (Unit {0}) WalkStep).
     IsBreach r f) (ap (λ (x : Place).
     (replication_steps c.args.place x (whole_of c.in_ok-count.count)
     (parts_of (expression_trees c.args.parts.now))
@@ -485,7 +485,7 @@ constant_index-returns-in_err-bits-clause-broken t c =
     c.in_err-bits.field-0.0 c.in_ok-operand.ensures.found.0
     (breach_first (own_divisors (names_of c.args.scope.now).scope
     (expression_tree c.args.index.now)) _ c.in_err-bits.field-0.0
-    (subst (λ (r : Result (Unit {0}) Step). IsBreach r c.in_err-bits.field-0.0)
+    (subst (λ (r : Result (Unit {0}) WalkStep). IsBreach r c.in_err-bits.field-0.0)
     (own_divisors_at (names_of c.args.scope.now) (setting_lengths Constant c.args.scope.now) true
     (λ e. absurd (cc e)) (expression_tree c.args.index.now) c.requires
     (expression_lengths c.args.index.now) c.in_ok-operand.ensures.found.0
@@ -581,7 +581,7 @@ measured_constant-returns-clause-broken t c =
     (λ f h. breach_after
     (asked (names_in c.args.setting c.args.scope.now) true (expression_tree c.args.expr.now)) _
     tt f found.0
-    (subst (λ (r : Result (Unit {0}) Step).
+    (subst (λ (r : Result (Unit {0}) WalkStep).
     IsBreach r f) (own_divisors_at (names_in c.args.setting c.args.scope.now)
     (setting_lengths c.args.setting c.args.scope.now) true (λ e.
     absurd (cc e)) (expression_tree c.args.expr.now) c.requires
@@ -596,7 +596,7 @@ measured_parts-returns-in_err-measured-clause-broken t c =
     let p = err_from_is_err_and c.from_residual-in_err-measured.result
     c.from_residual-in_err-measured.ensures.1 in
     rw (p.1, p.2)
-    (subst (λ (r : Result (Unit {0}) Step).
+    (subst (λ (r : Result (Unit {0}) WalkStep).
     IsBreach r c.in_err-measured.field-0.0) c.loop-expr.invariant.asks
     (subst (λ (es : ExpressionTrees).
     IsBreach (asked_parts (names_in c.args.setting c.args.scope.now)

@@ -1,5 +1,5 @@
 use Rattle.std.proofs.Common.{ap, ◌∙◌}
-use Rattle.sv_elab_rules.specs.Lattices.{Order, least_point}
+use Rattle.sv_elab_rules.specs.Lattices.{PointOrder, least_point}
 use Rattle.sv_elab.proofs.LeastLemmas.{least_is}
 use Rattle.sv_elab.proofs.lattices.Points.least.Goals as goal
 
@@ -7,4 +7,4 @@ pub returns : goal.returns
 returns c =
     least_is c.self.inside.lattice c.least.ensures.lattice c.least.result.0 c.least.ensures.point
     c.least.ensures.least
-    ∙ ap (λ (o : Order). least_point o.table) c.self.view_is
+    ∙ ap (λ (o : PointOrder). least_point o.table) c.self.view_is

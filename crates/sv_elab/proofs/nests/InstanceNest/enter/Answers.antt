@@ -2,9 +2,9 @@ use Rattle.std.proofs.Common.{◌≡◌, List, ℕ, [], ◌∷◌, ◌++◌, rev
 use Rattle.std.specs.List.{list_any}
 use Rattle.std.specs.Str.{bytes_eq}
 use Rattle.indexmap.specs.IndexSet.{insert_key}
-use Rattle.sv_elab.specs.Nests.{Nesting, entered}
+use Rattle.sv_elab.specs.Nests.{InstanceNesting, entered}
 use Rattle.sv_elab.proofs.NestLemmas.{around_more}
-use Rattle.sv_elab.proofs.nests.Nest.enter.Goals as goal
+use Rattle.sv_elab.proofs.nests.InstanceNest.enter.Goals as goal
 
 pub returns : goal.returns
 returns c =
@@ -15,10 +15,12 @@ returns c =
     let around : reverse c.insert.new.self.keys ≡ c.args.master.now ∷ reverse keys =
     ap reverse (c.in_ok-insert.ensures.keys ∙ ap (insert_key bytes_eq keys) c.in_ok-copy-2.ensures)
     ∙ around_more keys c.args.master.now
-    (ap (λ (n : Nesting). list_any (bytes_eq c.args.master.now) n.around) c.self.view_is
+    (ap (λ (n : InstanceNesting). list_any (bytes_eq c.args.master.now) n.around) c.self.view_is
     ∙ c.requires) in
     ap (λ (p : List (List ℕ)).
-    let n : Nesting = record { path = p; around = reverse c.insert.new.self.keys } in n) path
+    let n : InstanceNesting = record { path = p; around = reverse c.insert.new.self.keys } in n)
+    path
     ∙ ap (λ (a : List (List ℕ)).
-    let n : Nesting = record { path = names ++ c.args.name.now ∷ []; around = a } in n) around
-    ∙ ap (λ (n : Nesting). entered n c.args.name.now c.args.master.now) c.self.view_is
+    let n : InstanceNesting = record { path = names ++ c.args.name.now ∷ []; around = a } in n)
+    around
+    ∙ ap (λ (n : InstanceNesting). entered n c.args.name.now c.args.master.now) c.self.view_is

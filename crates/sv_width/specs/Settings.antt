@@ -5,6 +5,7 @@ use Rattle.sv_num.specs.declared.faults.Place.{Place}
 use Rattle.sv_elab_rules.specs.Walks.{WalkStep, Steps, ask, ◌>>=◌}
 use Rattle.sv_elab_rules.specs.Rules.{unknown_name, not_constant}
 use Rattle.sv_elab_rules.specs.Names.{Names, means_signal}
+use Rattle.sv_width.specs.declared.lookups.Reach.{Reach}
 use Rattle.sv_width.specs.declared.lookups.Setting.{Setting}
 use Rattle.sv_width.specs.declared.lookups.Setting.TheVariants.{Open, Constant, Declaring}
 use Rattle.sv_width.specs.Scopes.{Known, names_of, names_ahead}
@@ -14,6 +15,9 @@ abbrev pub names_in : Setting → Known → Names
 names_in Open known = names_of known
 names_in Constant known = names_of known
 names_in Declaring known = names_ahead known
+
+abbrev pub reach_names : Reach → Names
+reach_names r = names_in r.setting r.scope.now
 
 -- whether it is a constant place
 abbrev pub is_constant : Setting → Bool

@@ -34,6 +34,13 @@ pub enum Setting {
     Declaring,
 }
 
+/// What an expression may name: names of a scope, as far as the setting allows.
+#[derive(Clone, Copy)]
+pub struct Reach<'a> {
+    pub scope: &'a Scope,
+    pub setting: Setting,
+}
+
 /// The refusal by a rule at a place, without names.
 pub fn refusal(alloc: Global, rule: Rule, place: Place) -> Fault
     ensures { (end : Result (Unit {0}) WalkStep) → end ≡ Err (step (rule_number rule) place []) →

@@ -10,12 +10,12 @@ ghost use Rattle.sv_width.specs.Measured.{measured_of};
 ghost use Rattle.sv_width.specs.Outcomes.{IsMeasure, AreMeasures, IsValue, constant_steps};
 ghost use Rattle.sv_width.specs.Outcomes.{index_steps, constant_index_steps};
 ghost use Rattle.sv_width.specs.Scopes.{names_of};
-ghost use Rattle.sv_width.specs.Settings.{names_in, is_constant};
+ghost use Rattle.sv_width.specs.Settings.{reach_names, is_constant};
 ghost use Rattle.sv_width.specs.Views.{measured_tree};
 
 use crate::building::{binary, bit, choice, inside, is_below, join, part, replication, unary};
 use crate::folding::folded;
-use crate::lookups::{Setting, named, names_signal, place_of, refusal, selected};
+use crate::lookups::{Reach, Setting, named, names_signal, place_of, refusal, selected};
 use crate::measured::{Measured, value};
 use crate::scope::Scope;
 use std::alloc::Global;
@@ -27,38 +27,28 @@ use sv_num::{BinOp, Bits, Fault, Name, Place, Rule, UnOp};
 // As many calls stand inside each other as the expression has levels, so each kind of operator has
 // a function of its own, to keep the frame of this one small.
 #[cycle(measuring)]
-pub fn measured(
-    alloc: Global,
-    expr: &Expr,
-    scope: &Scope,
-    setting: Setting,
-) -> Result<Measured, Fault>
+pub fn measured(alloc: Global, expr: &Expr, reach: &Reach) -> Result<Measured, Fault>
     requires { IsTrue (is_shaped_expression (expression_tree expr.now)) }
     ensures found { IfOk result
-        (IsMeasure (names_in setting scope.now) (is_constant setting) (expression_tree expr.now)) }
+        (IsMeasure (reach_names reach.now) (is_constant reach.now.setting)
+        (expression_tree expr.now)) }
     ensures broken { IfErr result
-        (IsBreach (asked (names_in setting scope.now) (is_constant setting)
+        (IsBreach (asked (reach_names reach.now) (is_constant reach.now.setting)
         (expression_tree expr.now)).end) }
 {
     match expr {
         Expr::Number(number, _) => Ok(value(number.bits)),
-        Expr::Name(name, place) => named(alloc, name, *place, scope, setting),
-        Expr::Bit(name, place, index) => measured_bit(alloc, name, *place, index, scope, setting),
-        Expr::Part(name, place, high, low) => {
-            measured_part(alloc, name, *place, high, low, scope, setting)
-        }
-        Expr::Unary(op, place, operand) => {
-            measured_unary(alloc, *op, *place, operand, scope, setting)
-        }
+        Expr::Name(name, place) => named(alloc, name, *place, reach.scope, reach.setting),
+        Expr::Bit(name, place, index) => measured_bit(alloc, name, *place, index, reach),
+        Expr::Part(name, place, high, low) => measured_part(alloc, name, *place, high, low, reach),
+        Expr::Unary(op, place, operand) => measured_unary(alloc, *op, *place, operand, reach),
         Expr::Binary(op, place, left, right) => {
-            measured_binary(alloc, *op, *place, left, right, scope, setting)
+            measured_binary(alloc, *op, *place, left, right, reach)
         }
-        Expr::Choice(place, cond, yes, no) => {
-            measured_choice(alloc, *place, cond, yes, no, scope, setting)
-        }
-        Expr::Join(place, parts) => measured_join(alloc, *place, parts, scope, setting),
+        Expr::Choice(place, cond, yes, no) => measured_choice(alloc, *place, cond, yes, no, reach),
+        Expr::Join(place, parts) => measured_join(alloc, *place, parts, reach),
         Expr::Repeat(place, count, parts) => {
-            measured_replication(alloc, *place, count, parts, scope, setting)
+            measured_replication(alloc, *place, count, parts, reach)
         }
     }
 }
@@ -70,18 +60,17 @@ fn measured_bit(
     name: &Name,
     place: Place,
     index: &Expr,
-    scope: &Scope,
-    setting: Setting,
+    reach: &Reach,
 ) -> Result<Measured, Fault>
     requires { IsTrue (is_shaped_expression (expression_tree index.now)) }
-    ensures found { IfOk result (IsMeasure (names_in setting scope.now) (is_constant setting)
+    ensures found { IfOk result (IsMeasure (reach_names reach.now) (is_constant reach.now.setting)
         (tree.bit_of name.now place (expression_tree index.now))) }
     ensures broken { IfErr result
-        (IsBreach (asked (names_in setting scope.now) (is_constant setting)
+        (IsBreach (asked (reach_names reach.now) (is_constant reach.now.setting)
         (tree.bit_of name.now place (expression_tree index.now))).end) }
 {
-    let known = selected(alloc, name, place, scope, setting)?;
-    let index = measured_index(alloc, index, known.width, scope)?;
+    let known = selected(alloc, name, place, reach.scope, reach.setting)?;
+    let index = measured_index(alloc, index, known.width, reach.scope)?;
     Ok(bit(alloc, known, place, index)?)
 }
 
@@ -93,20 +82,19 @@ fn measured_part(
     place: Place,
     high: &Expr,
     low: &Expr,
-    scope: &Scope,
-    setting: Setting,
+    reach: &Reach,
 ) -> Result<Measured, Fault>
     requires high { IsTrue (is_shaped_expression (expression_tree high.now)) }
     requires low { IsTrue (is_shaped_expression (expression_tree low.now)) }
-    ensures found { IfOk result (IsMeasure (names_in setting scope.now) (is_constant setting)
+    ensures found { IfOk result (IsMeasure (reach_names reach.now) (is_constant reach.now.setting)
         (tree.part_of name.now place (expression_tree high.now) (expression_tree low.now))) }
     ensures broken { IfErr result
-        (IsBreach (asked (names_in setting scope.now) (is_constant setting)
+        (IsBreach (asked (reach_names reach.now) (is_constant reach.now.setting)
         (tree.part_of name.now place (expression_tree high.now) (expression_tree low.now))).end) }
 {
-    let known = selected(alloc, name, place, scope, setting)?;
-    let high = measured_constant(alloc, high, scope, setting)?;
-    let low = measured_constant(alloc, low, scope, setting)?;
+    let known = selected(alloc, name, place, reach.scope, reach.setting)?;
+    let high = measured_constant(alloc, high, reach)?;
+    let low = measured_constant(alloc, low, reach)?;
     part(alloc, known, place, high, low)
 }
 
@@ -117,17 +105,16 @@ fn measured_unary(
     op: UnOp,
     place: Place,
     operand: &Expr,
-    scope: &Scope,
-    setting: Setting,
+    reach: &Reach,
 ) -> Result<Measured, Fault>
     requires { IsTrue (is_shaped_expression (expression_tree operand.now)) }
-    ensures found { IfOk result (IsMeasure (names_in setting scope.now) (is_constant setting)
+    ensures found { IfOk result (IsMeasure (reach_names reach.now) (is_constant reach.now.setting)
         (tree.unary op place (expression_tree operand.now))) }
     ensures broken { IfErr result
-        (IsBreach (asked (names_in setting scope.now) (is_constant setting)
+        (IsBreach (asked (reach_names reach.now) (is_constant reach.now.setting)
         (tree.unary op place (expression_tree operand.now))).end) }
 {
-    let operand = measured(alloc, operand, scope, setting)?;
+    let operand = measured(alloc, operand, reach)?;
     Ok(unary(alloc, op, operand)?)
 }
 
@@ -139,20 +126,19 @@ fn measured_binary(
     place: Place,
     left: &Expr,
     right: &Expr,
-    scope: &Scope,
-    setting: Setting,
+    reach: &Reach,
 ) -> Result<Measured, Fault>
     requires left { IsTrue (is_shaped_expression (expression_tree left.now)) }
     requires right { IsTrue (is_shaped_expression (expression_tree right.now)) }
-    ensures found { IfOk result (IsMeasure (names_in setting scope.now) (is_constant setting)
+    ensures found { IfOk result (IsMeasure (reach_names reach.now) (is_constant reach.now.setting)
         (tree.binary op place (expression_tree left.now) (expression_tree right.now))) }
     ensures broken { IfErr result
-        (IsBreach (asked (names_in setting scope.now) (is_constant setting)
+        (IsBreach (asked (reach_names reach.now) (is_constant reach.now.setting)
         (tree.binary op place (expression_tree left.now) (expression_tree right.now))).end) }
 {
     let after = place_of(right);
-    let left = measured(alloc, left, scope, setting)?;
-    let right = measured(alloc, right, scope, setting)?;
+    let left = measured(alloc, left, reach)?;
+    let right = measured(alloc, right, reach)?;
     binary(alloc, op, place, after, left, right)
 }
 
@@ -164,23 +150,22 @@ fn measured_choice(
     cond: &Expr,
     yes: &Expr,
     no: &Expr,
-    scope: &Scope,
-    setting: Setting,
+    reach: &Reach,
 ) -> Result<Measured, Fault>
     requires cond { IsTrue (is_shaped_expression (expression_tree cond.now)) }
     requires yes { IsTrue (is_shaped_expression (expression_tree yes.now)) }
     requires no { IsTrue (is_shaped_expression (expression_tree no.now)) }
-    ensures found { IfOk result (IsMeasure (names_in setting scope.now) (is_constant setting)
+    ensures found { IfOk result (IsMeasure (reach_names reach.now) (is_constant reach.now.setting)
         (tree.choice place (expression_tree cond.now) (expression_tree yes.now)
         (expression_tree no.now))) }
     ensures broken { IfErr result
-        (IsBreach (asked (names_in setting scope.now) (is_constant setting)
+        (IsBreach (asked (reach_names reach.now) (is_constant reach.now.setting)
         (tree.choice place (expression_tree cond.now) (expression_tree yes.now)
         (expression_tree no.now))).end) }
 {
-    let cond = measured(alloc, cond, scope, setting)?;
-    let yes = measured(alloc, yes, scope, setting)?;
-    let no = measured(alloc, no, scope, setting)?;
+    let cond = measured(alloc, cond, reach)?;
+    let yes = measured(alloc, yes, reach)?;
+    let no = measured(alloc, no, reach)?;
     Ok(choice(alloc, place, cond, yes, no)?)
 }
 
@@ -190,18 +175,17 @@ fn measured_join(
     alloc: Global,
     place: Place,
     parts: &[Expr],
-    scope: &Scope,
-    setting: Setting,
+    reach: &Reach,
 ) -> Result<Measured, Fault>
     requires some { IsTrue (has_part (parts_of (expression_trees parts.now))) }
     requires shaped { IsTrue (are_shaped_parts (parts_of (expression_trees parts.now))) }
-    ensures found { IfOk result (IsMeasure (names_in setting scope.now) (is_constant setting)
+    ensures found { IfOk result (IsMeasure (reach_names reach.now) (is_constant reach.now.setting)
         (tree.join place (parts_of (expression_trees parts.now)))) }
     ensures broken { IfErr result
-        (IsBreach (asked (names_in setting scope.now) (is_constant setting)
+        (IsBreach (asked (reach_names reach.now) (is_constant reach.now.setting)
         (tree.join place (parts_of (expression_trees parts.now)))).end) }
 {
-    let operands = measured_parts(alloc, parts, scope, setting)?;
+    let operands = measured_parts(alloc, parts, reach)?;
     join(alloc, place, parts, operands)
 }
 
@@ -212,41 +196,39 @@ fn measured_replication(
     place: Place,
     count: &Expr,
     parts: &[Expr],
-    scope: &Scope,
-    setting: Setting,
+    reach: &Reach,
 ) -> Result<Measured, Fault>
     requires count { IsTrue (is_shaped_expression (expression_tree count.now)) }
     requires some { IsTrue (has_part (parts_of (expression_trees parts.now))) }
     requires shaped { IsTrue (are_shaped_parts (parts_of (expression_trees parts.now))) }
-    ensures found { IfOk result (IsMeasure (names_in setting scope.now) (is_constant setting)
+    ensures found { IfOk result (IsMeasure (reach_names reach.now) (is_constant reach.now.setting)
         (tree.replication place (expression_tree count.now)
         (parts_of (expression_trees parts.now)))) }
     ensures broken { IfErr result
-        (IsBreach (asked (names_in setting scope.now) (is_constant setting)
+        (IsBreach (asked (reach_names reach.now) (is_constant reach.now.setting)
         (tree.replication place (expression_tree count.now)
         (parts_of (expression_trees parts.now)))).end) }
 {
     let at = place_of(count);
-    let count = measured_constant(alloc, count, scope, setting)?;
-    let operands = measured_parts(alloc, parts, scope, setting)?;
+    let count = measured_constant(alloc, count, reach)?;
+    let operands = measured_parts(alloc, parts, reach)?;
     replication(alloc, place, at, count, parts, operands)
 }
 
 /// A constant at its own length and signedness: a bound, an index or a count of an expression, or a
 /// whole constant.
 #[cycle(measuring)]
-pub fn measured_constant(
-    alloc: Global,
-    expr: &Expr,
-    scope: &Scope,
-    setting: Setting,
-) -> Result<Bits, Fault>
+pub fn measured_constant(alloc: Global, expr: &Expr, reach: &Reach) -> Result<Bits, Fault>
     requires { IsTrue (is_shaped_expression (expression_tree expr.now)) }
-    ensures found { IfOk result (IsValue (names_in setting scope.now) (expression_tree expr.now)) }
+    ensures found { IfOk result (IsValue (reach_names reach.now) (expression_tree expr.now)) }
     ensures broken { IfErr result
-        (IsBreach (constant_steps (names_in setting scope.now) (expression_tree expr.now)).end) }
+        (IsBreach (constant_steps (reach_names reach.now) (expression_tree expr.now)).end) }
 {
-    let operand = measured(alloc, expr, scope, inside(setting))?;
+    let within = Reach {
+        scope: reach.scope,
+        setting: inside(reach.setting),
+    };
+    let operand = measured(alloc, expr, &within)?;
     folded(alloc, &operand, operand.own_type())
 }
 
@@ -262,7 +244,11 @@ fn measured_index(alloc: Global, index: &Expr, width: u8, scope: &Scope) -> Resu
         (IsBreach (index_steps (names_of scope.now) width (expression_tree index.now)).end) }
 {
     if names_signal(index, scope) {
-        measured(alloc, index, scope, Setting::Open)
+        let reach = Reach {
+            scope,
+            setting: Setting::Open,
+        };
+        measured(alloc, index, &reach)
     } else {
         constant_index(alloc, index, width, scope)
     }
@@ -281,7 +267,11 @@ fn constant_index(alloc: Global, index: &Expr, width: u8, scope: &Scope) -> Resu
         (IsBreach (constant_index_steps (names_of scope.now) width
         (expression_tree index.now)).end) }
 {
-    let operand = measured(alloc, index, scope, Setting::Constant)?;
+    let reach = Reach {
+        scope,
+        setting: Setting::Constant,
+    };
+    let operand = measured(alloc, index, &reach)?;
     let bits = folded(alloc, &operand, operand.own_type())?;
     if is_below(bits, width) {
         Ok(operand)
@@ -291,23 +281,18 @@ fn constant_index(alloc: Global, index: &Expr, width: u8, scope: &Scope) -> Resu
 }
 
 #[cycle(measuring)]
-fn measured_parts(
-    alloc: Global,
-    exprs: &[Expr],
-    scope: &Scope,
-    setting: Setting,
-) -> Result<Vec<Measured>, Fault>
+fn measured_parts(alloc: Global, exprs: &[Expr], reach: &Reach) -> Result<Vec<Measured>, Fault>
     requires { IsTrue (are_shaped_parts (parts_of (expression_trees exprs.now))) }
     ensures found { IfOk result (λ ms.
-        AreMeasures (names_in setting scope.now) (is_constant setting)
+        AreMeasures (reach_names reach.now) (is_constant reach.now.setting)
         (parts_of (expression_trees exprs.now)) ms.items) }
     ensures broken { IfErr result
-        (IsBreach (asked_parts (names_in setting scope.now) (is_constant setting)
+        (IsBreach (asked_parts (reach_names reach.now) (is_constant reach.now.setting)
         (parts_of (expression_trees exprs.now))).end) }
 {
     let mut operands = Vec::with_capacity(alloc, exprs.len())?;
     for expr in exprs {
-        operands.push(measured(alloc, expr, scope, setting)?)?;
+        operands.push(measured(alloc, expr, reach)?)?;
     }
     Ok(operands)
 }

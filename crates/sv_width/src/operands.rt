@@ -16,7 +16,7 @@ ghost use Rattle.sv_width.specs.Scopes.{Known, names_of};
 ghost use Rattle.sv_width.specs.Settings.{names_in, is_constant};
 
 use crate::folding::folded;
-use crate::lookups::Setting;
+use crate::lookups::{Reach, Setting};
 use crate::measured::Measured;
 use crate::measuring::measured;
 use crate::scope::Scope;
@@ -57,7 +57,11 @@ impl Operand {
         ensures broken { IfErr result
             (IsBreach (asked (names_of scope.now) constant (expression_tree expr.now)).end) }
     {
-        let measured = measured(alloc, expr, scope, setting_of(constant))?;
+        let reach = Reach {
+            scope,
+            setting: setting_of(constant),
+        };
+        let measured = measured(alloc, expr, &reach)?;
         Ok(Operand { measured })
     }
 

@@ -18,7 +18,7 @@ ghost use Rattle.sv_width.specs.Scopes.{number_of, names_of, names_ahead, bindin
 ghost use Rattle.sv_width.specs.Views.{measured_tree, measured_trees, parts_of};
 
 use crate::folding::{at_type, folded};
-use crate::lookups::Setting;
+use crate::lookups::{Reach, Setting};
 use crate::measured::Measured;
 use crate::measuring::{measured, measured_constant};
 use crate::scope::Scope;
@@ -51,7 +51,11 @@ pub fn typed(alloc: Global, expr: &Expr, scope: &Scope, target_width: u8) -> Res
         (IsBreach (expression_walk (names_of scope.now) (expression_tree expr.now)
         target_width).end) }
 {
-    let operand = measured(alloc, expr, scope, Setting::Open)?;
+    let reach = Reach {
+        scope,
+        setting: Setting::Open,
+    };
+    let operand = measured(alloc, expr, &reach)?;
     let own = operand.own_type();
     let to = BitType {
         width: own.width.max(target_width),
@@ -70,7 +74,11 @@ pub fn constant(alloc: Global, expr: &Expr, scope: &Scope) -> Result<Bits, Fault
     ensures broken { IfErr result
         (IsBreach (constant_walk (names_ahead scope.now) (expression_tree expr.now)).end) }
 {
-    measured_constant(alloc, expr, scope, Setting::Declaring)
+    let reach = Reach {
+        scope,
+        setting: Setting::Declaring,
+    };
+    measured_constant(alloc, expr, &reach)
 }
 
 /// The value of a constant at its own length and signedness, where all declarations are made.
@@ -81,7 +89,11 @@ pub fn constant_in_reach(alloc: Global, expr: &Expr, scope: &Scope) -> Result<Bi
     ensures broken { IfErr result
         (IsBreach (constant_walk (names_of scope.now) (expression_tree expr.now)).end) }
 {
-    measured_constant(alloc, expr, scope, Setting::Constant)
+    let reach = Reach {
+        scope,
+        setting: Setting::Constant,
+    };
+    measured_constant(alloc, expr, &reach)
 }
 
 /// The typed form at a type. Rule 405 refuses the first divisor that is 0.

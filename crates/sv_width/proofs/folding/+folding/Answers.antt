@@ -1,16 +1,13 @@
-use Rattle.std.proofs.Common.{◌≡◌, min, sym, ap, subst, ◌∙◌}
+use Rattle.std.proofs.Common.{◌≡◌, min, refl, sym, ap, subst, ◌∙◌}
 use Rattle.std.proofs.lemmas.Result.{err_from_is_err_and}
 use Rattle.sv_width.specs.declared.measured.Measured.{Measured}
-use Rattle.sv_width.specs.declared.measured.Measured.TheBlock.{hidden-the_row-Measured-0}
-use Rattle.sv_width.specs.Answers.{IsBreach}
-use Rattle.sv_width.specs.Measured.{MeasuredTrees}
 use Rattle.sv_width.specs.Outcomes.{IsFolded}
 use Rattle.sv_width.specs.Pushed.{joined_width, behind_times, folded_of, joined_from, divisors_of}
 use Rattle.sv_width.specs.Pushed.{divisors_in}
-use Rattle.sv_width.specs.Views.{measured_tree, measured_trees, row_parts, parts_of}
+use Rattle.sv_width.specs.Views.{measured_tree, measured_trees, parts_of}
 use Rattle.sv_width.proofs.Folds.{capped_times}
 use Rattle.sv_width.proofs.Low.{bit_low}
-use Rattle.sv_width.proofs.MRows.{row_parts-hidden}
+use Rattle.sv_width.proofs.MRows.{row_at, parts_refused}
 use Rattle.sv_width.proofs.folding.+folding.Goals as goal
 
 pub folded-of_type-requires-then-gives_one_bit-clause-low :
@@ -27,16 +24,10 @@ unfolding divisors_of divisors_in
 folded-returns-in_err-value-in-Join-clause-broken t c =
     let p = err_from_is_err_and c.from_residual-in_err-value-in-Join.result
     c.from_residual-in_err-value-in-Join.ensures.1 in
-    let parts : parts_of (measured_trees c.deref-in-Join.result.now) ≡
-    row_parts (hidden-the_row-Measured-0 c.in-Join.parts) =
-    ap (λ es. parts_of (measured_trees es)) c.deref-in-Join.ensures.value
-    ∙ sym (row_parts-hidden c.in-Join.parts) in
     rw (p.1, p.2)
-    (subst (λ (e : Measured).
-    IsBreach (divisors_of (measured_tree e) c.args.to.width c.args.to.signed).end
-    c.in_err-value-in-Join.field-0.0) (sym c.in-Join.is)
-    (subst (λ (es : MeasuredTrees). IsBreach (divisors_in es).end c.in_err-value-in-Join.field-0.0)
-    parts c.in_err-value-in-Join.ensures.broken))
+    (parts_refused c.args.expr.now _ c.args.to.width c.args.to.signed c.in-Join.parts
+    c.deref-in-Join.result.now c.in_err-value-in-Join.field-0.0 c.in-Join.is refl
+    c.deref-in-Join.ensures.value c.in_err-value-in-Join.ensures.broken)
 
 pub folded-returns-in_err-value-in-Repeat-clause-broken :
     goal.folded-returns-in_err-value-in-Repeat-clause-broken
@@ -44,26 +35,17 @@ unfolding divisors_of divisors_in
 folded-returns-in_err-value-in-Repeat-clause-broken t c =
     let p = err_from_is_err_and c.from_residual-in_err-value-in-Repeat.result
     c.from_residual-in_err-value-in-Repeat.ensures.1 in
-    let parts : parts_of (measured_trees c.deref-in-Repeat.result.now) ≡
-    row_parts (hidden-the_row-Measured-0 c.in-Repeat.parts) =
-    ap (λ es. parts_of (measured_trees es)) c.deref-in-Repeat.ensures.value
-    ∙ sym (row_parts-hidden c.in-Repeat.parts) in
     rw (p.1, p.2)
-    (subst (λ (e : Measured).
-    IsBreach (divisors_of (measured_tree e) c.args.to.width c.args.to.signed).end
-    c.in_err-value-in-Repeat.field-0.0) (sym c.in-Repeat.is)
-    (subst (λ (es : MeasuredTrees).
-    IsBreach (divisors_in es).end c.in_err-value-in-Repeat.field-0.0) parts
-    c.in_err-value-in-Repeat.ensures.broken))
+    (parts_refused c.args.expr.now _ c.args.to.width c.args.to.signed c.in-Repeat.parts
+    c.deref-in-Repeat.result.now c.in_err-value-in-Repeat.field-0.0 c.in-Repeat.is refl
+    c.deref-in-Repeat.ensures.value c.in_err-value-in-Repeat.ensures.broken)
 
 pub folded-returns-in_ok-value-in-Join-clause-found :
     goal.folded-returns-in_ok-value-in-Join-clause-found
 unfolding folded_of joined_from divisors_of divisors_in
 folded-returns-in_ok-value-in-Join-clause-found t c =
-    let parts : parts_of (measured_trees c.deref-in-Join.result.now) ≡
-    row_parts (hidden-the_row-Measured-0 c.in-Join.parts) =
-    ap (λ es. parts_of (measured_trees es)) c.deref-in-Join.ensures.value
-    ∙ sym (row_parts-hidden c.in-Join.parts) in
+    let parts = row_at c.in-Join.parts c.deref-in-Join.result.now
+    c.deref-in-Join.ensures.value in
     subst (λ (e : Measured).
     IsFolded (measured_tree e) c.args.to.width c.args.to.signed c.of_type-in-Join.result)
     (sym c.in-Join.is) (
@@ -79,10 +61,8 @@ pub folded-returns-in_ok-value-in-Repeat-clause-found :
 unfolding folded_of joined_from divisors_of divisors_in
 folded-returns-in_ok-value-in-Repeat-clause-found t c =
     let n = c.args.to.width in
-    let parts : parts_of (measured_trees c.deref-in-Repeat.result.now) ≡
-    row_parts (hidden-the_row-Measured-0 c.in-Repeat.parts) =
-    ap (λ es. parts_of (measured_trees es)) c.deref-in-Repeat.ensures.value
-    ∙ sym (row_parts-hidden c.in-Repeat.parts) in
+    let parts = row_at c.in-Repeat.parts c.deref-in-Repeat.result.now
+    c.deref-in-Repeat.ensures.value in
     let width : c.joined_width.result ≡
     min (joined_width (parts_of (measured_trees c.deref-in-Repeat.result.now))) 65 =
     c.joined_width.ensures

@@ -15,17 +15,17 @@ use Rattle.sv_ast.specs.Values.{length_of, joined_length, signed_of}
 use Rattle.sv_elab_rules.specs.TypedExpressions.{names_signal, some_names_signal}
 use Rattle.sv_ast.specs.Shape.{is_shaped_expression, are_shaped_parts, has_part}
 use Rattle.sv_ast.specs.Views.{expression_tree, expression_trees, row_parts, parts_of}
-use Rattle.sv_ast.proofs.Rows.{row_parts-hidden}
 use Rattle.sv_elab_rules.specs.Walks.{WalkStep, ask}
 use Rattle.sv_elab_rules.specs.Rules.{bad_select}
 use Rattle.sv_elab_rules.specs.Names.{Names, place_of}
 use Rattle.sv_elab_rules.specs.ExpressionSteps.{asked, asked_parts, own_divisors, is_below}
+use Rattle.sv_width.specs.declared.lookups.Reach.{Reach}
 use Rattle.sv_width.specs.declared.lookups.Setting.{Setting}
 use Rattle.sv_width.specs.declared.lookups.Setting.TheVariants.{Open, Constant}
 use Rattle.sv_width.specs.declared.measured.Measured.{Measured}
 use Rattle.sv_width.specs.Answers.{IsBreach}
-use Rattle.sv_width.specs.Scopes.{Known, names_of}
-use Rattle.sv_width.specs.Settings.{names_in, is_constant}
+use Rattle.sv_width.specs.Scopes.{names_of}
+use Rattle.sv_width.specs.Settings.{names_in, reach_names, is_constant}
 use Rattle.sv_width.specs.Measured as measured
 use Rattle.sv_width.specs.Measured.{MeasuredTree, MeasuredTrees, more_parts, own_form, measured_of}
 use Rattle.sv_width.specs.Measured.{measured_parts}
@@ -34,7 +34,7 @@ use Rattle.sv_width.specs.Outcomes.{IsValue, constant_steps}
 use Rattle.sv_width.specs.Outcomes.{constant_index_steps}
 use Rattle.sv_width.specs.Views.{measured_tree, measured_trees, parts_of as measured_row}
 use Rattle.sv_width.proofs.Breaches.{ok_both, ok_weaker, err_weaker}
-use Rattle.sv_width.proofs.Rest.{parts_split, parts_done}
+use Rattle.sv_width.proofs.Rest.{row_at, parts_split, parts_done}
 use Rattle.sv_width.proofs.Arms.{unary_broken, Found, bit_found, bit_broken, part_high_broken}
 use Rattle.sv_width.proofs.Arms.{part_low_broken, part_broken, part_found, unary_found}
 use Rattle.sv_width.proofs.Arms.{binary_found, binary_left_broken, binary_right_broken}
@@ -61,42 +61,40 @@ found_at : (names : Names) (c : Bool) (e d : Expr) (m : Measured) → e ≡ d
 found_at names c e d m is h =
     subst (λ (x : Expr). IsMeasure names c (expression_tree x) m) (sym is) h
 
-open_breach : (s : Setting) (known : Known) (e : ExpressionTree) (f : Fault) → s ≡ Open
-    → IsBreach (asked (names_of known) false e).end f
-    → IsBreach (asked (names_in s known) (is_constant s) e).end f
-open_breach s known e f is h =
-    subst (λ (x : Setting). IsBreach (asked (names_in x known) (is_constant x) e).end f) (sym is) h
+open_breach : (r : Reach) (e : ExpressionTree) (f : Fault) → r.setting ≡ Open
+    → IsBreach (asked (names_of r.scope.now) false e).end f
+    → IsBreach (asked (reach_names r) (is_constant r.setting) e).end f
+open_breach r e f is h =
+    subst (λ (x : Setting).
+    IsBreach (asked (names_in x r.scope.now) (is_constant x) e).end f) (sym is) h
 
-open_found : (s : Setting) (known : Known) (e : ExpressionTree) (t : MeasuredTree) → s ≡ Open
-    → Found (names_of known) false e t
-    → Found (names_in s known) (is_constant s) e t
-open_found s known e t is h =
-    subst (λ (x : Setting). Found (names_in x known) (is_constant x) e t) (sym is) h
+open_found : (r : Reach) (e : ExpressionTree) (t : MeasuredTree) → r.setting ≡ Open
+    → Found (names_of r.scope.now) false e t
+    → Found (reach_names r) (is_constant r.setting) e t
+open_found r e t is h =
+    subst (λ (x : Setting). Found (names_in x r.scope.now) (is_constant x) e t) (sym is) h
 
-value_in : (s : Setting) (known : Known) (e : ExpressionTree) (bits : Bits) → s ≡ Open →
-    IsValue (names_in s known) e bits → IsValue (names_of known) e bits
-value_in s known e bits is h = subst (λ (x : Setting). IsValue (names_in x known) e bits) is h
+value_in : (r : Reach) (e : ExpressionTree) (bits : Bits) → r.setting ≡ Open →
+    IsValue (reach_names r) e bits → IsValue (names_of r.scope.now) e bits
+value_in r e bits is h = subst (λ (x : Setting). IsValue (names_in x r.scope.now) e bits) is h
 
-steps_in : (s : Setting) (known : Known) (e : ExpressionTree) (f : Fault) → s ≡ Open
-    → IsBreach (constant_steps (names_in s known) e).end f
-    → IsBreach (constant_steps (names_of known) e).end f
-steps_in s known e f is h =
-    subst (λ (x : Setting). IsBreach (constant_steps (names_in x known) e).end f) is h
+steps_in : (r : Reach) (e : ExpressionTree) (f : Fault) → r.setting ≡ Open
+    → IsBreach (constant_steps (reach_names r) e).end f
+    → IsBreach (constant_steps (names_of r.scope.now) e).end f
+steps_in r e f is h =
+    subst (λ (x : Setting). IsBreach (constant_steps (names_in x r.scope.now) e).end f) is h
 
 pub measured-returns-in-Number-clause-found : goal.measured-returns-in-Number-clause-found
 unfolding asked asked_parts measured_of measured_parts length_of joined_length signed_of
     names_signal
     some_names_signal
 measured-returns-in-Number-clause-found t c =
-    found_at (names_in c.args.setting c.args.scope.now) (is_constant c.args.setting) c.args.expr.now
+    found_at (reach_names c.args.reach.now) (is_constant c.args.reach.now.setting) c.args.expr.now
     _ c.value.result c.in-Number.is (refl, c.value.ensures)
 
 pub measured-measured_join-requires : goal.measured-measured_join-requires
 measured-measured_join-requires t c =
-    let rows : parts_of (expression_trees c.deref-in-Join.result.now) ≡
-    (row_parts (hidden-the_row-Expr-0 c.in-Join.parts)) =
-    ap (λ es. parts_of (expression_trees es)) c.deref-in-Join.ensures.value
-    ∙ sym (row_parts-hidden c.in-Join.parts) in
+    let rows = row_at c.in-Join.parts c.deref-in-Join.result.now c.deref-in-Join.ensures.value in
     let both = and_parts (has_part (row_parts (hidden-the_row-Expr-0 c.in-Join.parts)))
     (are_shaped_parts (row_parts (hidden-the_row-Expr-0 c.in-Join.parts)))
     (subst (λ (e : Expr). IsTrue (is_shaped_expression (expression_tree e))) c.in-Join.is
@@ -112,30 +110,28 @@ measured-measured_join-requires t c =
 pub measured-returns-in-Join-clause-found : goal.measured-returns-in-Join-clause-found
 measured-returns-in-Join-clause-found t c =
     ok_weaker c.measured_join.result _ _ (λ m h.
-    found_at (names_in c.args.setting c.args.scope.now) (is_constant c.args.setting)
+    found_at (reach_names c.args.reach.now) (is_constant c.args.reach.now.setting)
     c.args.expr.now _ m c.in-Join.is
-    (subst (λ es. Found (names_in c.args.setting c.args.scope.now) (is_constant c.args.setting)
+    (subst (λ es. Found (reach_names c.args.reach.now) (is_constant c.args.reach.now.setting)
     (join c.in-Join.place es) (measured_tree m))
-    (ap (λ es. parts_of (expression_trees es)) c.deref-in-Join.ensures.value
-    ∙ sym (row_parts-hidden c.in-Join.parts)) h)) c.measured_join.ensures.found
+    (row_at c.in-Join.parts c.deref-in-Join.result.now c.deref-in-Join.ensures.value) h))
+    c.measured_join.ensures.found
 
 pub measured-returns-in-Join-clause-broken : goal.measured-returns-in-Join-clause-broken
 measured-returns-in-Join-clause-broken t c =
     err_weaker c.measured_join.result _ _ (λ f h.
-    breach_at (names_in c.args.setting c.args.scope.now) (is_constant c.args.setting)
+    breach_at (reach_names c.args.reach.now) (is_constant c.args.reach.now.setting)
     c.args.expr.now _ f c.in-Join.is
     (subst (λ es. IsBreach
-    (asked (names_in c.args.setting c.args.scope.now) (is_constant c.args.setting)
+    (asked (reach_names c.args.reach.now) (is_constant c.args.reach.now.setting)
     (join c.in-Join.place es)).end f)
-    (ap (λ es. parts_of (expression_trees es)) c.deref-in-Join.ensures.value
-    ∙ sym (row_parts-hidden c.in-Join.parts)) h)) c.measured_join.ensures.broken
+    (row_at c.in-Join.parts c.deref-in-Join.result.now c.deref-in-Join.ensures.value) h))
+    c.measured_join.ensures.broken
 
 pub measured-measured_replication-requires : goal.measured-measured_replication-requires
 measured-measured_replication-requires t c =
-    let rows : parts_of (expression_trees c.deref-in-Repeat-2.result.now) ≡
-    (row_parts (hidden-the_row-Expr-0 c.in-Repeat.parts)) =
-    ap (λ es. parts_of (expression_trees es)) c.deref-in-Repeat-2.ensures.value
-    ∙ sym (row_parts-hidden c.in-Repeat.parts) in
+    let rows = row_at c.in-Repeat.parts c.deref-in-Repeat-2.result.now
+    c.deref-in-Repeat-2.ensures.value in
     let shape = subst (λ (e : Expr).
     IsTrue (is_shaped_expression (expression_tree e))) c.in-Repeat.is c.requires in
     let both = replication_shape c.in-Repeat.place (expression_tree c.in-Repeat.count.value)
@@ -161,15 +157,14 @@ measured-measured_replication-requires t c =
 pub measured-returns-in-Repeat-clause-found : goal.measured-returns-in-Repeat-clause-found
 measured-returns-in-Repeat-clause-found t c =
     ok_weaker c.measured_replication.result _ _ (λ m h.
-    found_at (names_in c.args.setting c.args.scope.now) (is_constant c.args.setting)
+    found_at (reach_names c.args.reach.now) (is_constant c.args.reach.now.setting)
     c.args.expr.now _ m c.in-Repeat.is
-    (subst (λ es. Found (names_in c.args.setting c.args.scope.now) (is_constant c.args.setting)
+    (subst (λ es. Found (reach_names c.args.reach.now) (is_constant c.args.reach.now.setting)
     (replication c.in-Repeat.place (expression_tree c.in-Repeat.count.value) es)
-    (measured_tree m)) (ap (λ es.
-    parts_of (expression_trees es)) c.deref-in-Repeat-2.ensures.value
-    ∙ sym (row_parts-hidden c.in-Repeat.parts))
+    (measured_tree m)) (row_at c.in-Repeat.parts c.deref-in-Repeat-2.result.now
+    c.deref-in-Repeat-2.ensures.value)
     (subst (λ (x : Expr).
-    Found (names_in c.args.setting c.args.scope.now) (is_constant c.args.setting)
+    Found (reach_names c.args.reach.now) (is_constant c.args.reach.now.setting)
     (replication c.in-Repeat.place (expression_tree x)
     (parts_of (expression_trees c.deref-in-Repeat-2.result.now))) (measured_tree m))
     c.deref-in-Repeat.ensures h))) c.measured_replication.ensures.found
@@ -177,15 +172,14 @@ measured-returns-in-Repeat-clause-found t c =
 pub measured-returns-in-Repeat-clause-broken : goal.measured-returns-in-Repeat-clause-broken
 measured-returns-in-Repeat-clause-broken t c =
     err_weaker c.measured_replication.result _ _ (λ f h.
-    breach_at (names_in c.args.setting c.args.scope.now) (is_constant c.args.setting)
+    breach_at (reach_names c.args.reach.now) (is_constant c.args.reach.now.setting)
     c.args.expr.now _ f c.in-Repeat.is
     (subst (λ es. IsBreach
-    (asked (names_in c.args.setting c.args.scope.now) (is_constant c.args.setting)
+    (asked (reach_names c.args.reach.now) (is_constant c.args.reach.now.setting)
     (replication c.in-Repeat.place (expression_tree c.in-Repeat.count.value) es)).end f)
-    (ap (λ es. parts_of (expression_trees es)) c.deref-in-Repeat-2.ensures.value
-    ∙ sym (row_parts-hidden c.in-Repeat.parts))
+    (row_at c.in-Repeat.parts c.deref-in-Repeat-2.result.now c.deref-in-Repeat-2.ensures.value)
     (subst (λ (x : Expr).
-    IsBreach (asked (names_in c.args.setting c.args.scope.now) (is_constant c.args.setting)
+    IsBreach (asked (reach_names c.args.reach.now) (is_constant c.args.reach.now.setting)
     (replication c.in-Repeat.place (expression_tree x)
     (parts_of (expression_trees c.deref-in-Repeat-2.result.now)))).end f)
     c.deref-in-Repeat.ensures h))) c.measured_replication.ensures.broken
@@ -195,7 +189,7 @@ pub measured_bit-returns-in_err-known-clause-broken :
 measured_bit-returns-in_err-known-clause-broken t c =
     let p = err_from_is_err_and c.from_residual.result c.from_residual.ensures.1 in
     rw (p.1, p.2)
-    (bit_refused (names_in c.args.setting c.args.scope.now) (is_constant c.args.setting)
+    (bit_refused (reach_names c.args.reach.now) (is_constant c.args.reach.now.setting)
     c.args.name.now c.args.place (expression_tree c.args.index.now) c.in_err-known.field-0.0
     c.in_err-known.ensures.broken)
 
@@ -205,16 +199,16 @@ measured_bit-returns-in_err-index-clause-broken t c =
     let p = err_from_is_err_and c.from_residual-in_err-index.result
     c.from_residual-in_err-index.ensures.1 in
     rw (p.1, p.2)
-    (open_breach c.args.setting c.args.scope.now _ c.in_err-index.field-0.0
+    (open_breach c.args.reach.now _ c.in_err-index.field-0.0
     c.in_ok-known.ensures.open
-    (bit_broken c.args.scope.now c.args.name.now c.args.place c.in_ok-known.known
+    (bit_broken c.args.reach.now.scope.now c.args.name.now c.args.place c.in_ok-known.known
     c.in_ok-known.ensures.found (expression_tree c.args.index.now) c.in_err-index.field-0.0
     c.in_err-index.ensures.broken))
 
 pub measured_bit-returns-clause-found : goal.measured_bit-returns-clause-found
 measured_bit-returns-clause-found t c =
-    open_found c.args.setting c.args.scope.now _ _ c.in_ok-known.ensures.open
-    (bit_found c.args.scope.now c.args.name.now c.args.place c.in_ok-known.known
+    open_found c.args.reach.now _ _ c.in_ok-known.ensures.open
+    (bit_found c.args.reach.now.scope.now c.args.name.now c.args.place c.in_ok-known.known
     c.in_ok-known.ensures.found (expression_tree c.args.index.now)
     (measured_tree c.in_ok-index.index) _
     c.in_ok-index.ensures.asked c.in_ok-index.ensures.found c.in_ok-bit.ensures.found)
@@ -224,7 +218,7 @@ pub measured_part-returns-in_err-known-clause-broken :
 measured_part-returns-in_err-known-clause-broken t c =
     let p = err_from_is_err_and c.from_residual.result c.from_residual.ensures.1 in
     rw (p.1, p.2)
-    (part_refused (names_in c.args.setting c.args.scope.now) (is_constant c.args.setting)
+    (part_refused (reach_names c.args.reach.now) (is_constant c.args.reach.now.setting)
     c.args.name.now c.args.place (expression_tree c.args.high.now)
     (expression_tree c.args.low.now) c.in_err-known.field-0.0 c.in_err-known.ensures.broken)
 
@@ -234,12 +228,12 @@ measured_part-returns-in_err-high-clause-broken t c =
     let p = err_from_is_err_and c.from_residual-in_err-high.result
     c.from_residual-in_err-high.ensures.1 in
     rw (p.1, p.2)
-    (open_breach c.args.setting c.args.scope.now _ c.in_err-high.field-0.0
+    (open_breach c.args.reach.now _ c.in_err-high.field-0.0
     c.in_ok-known.ensures.open
-    (part_high_broken c.args.scope.now c.args.name.now c.args.place c.in_ok-known.known
+    (part_high_broken c.args.reach.now.scope.now c.args.name.now c.args.place c.in_ok-known.known
     c.in_ok-known.ensures.found (expression_tree c.args.high.now)
     (expression_tree c.args.low.now) c.in_err-high.field-0.0
-    (steps_in c.args.setting c.args.scope.now _ c.in_err-high.field-0.0 c.in_ok-known.ensures.open
+    (steps_in c.args.reach.now _ c.in_err-high.field-0.0 c.in_ok-known.ensures.open
     c.in_err-high.ensures.broken)))
 
 pub measured_part-returns-in_err-low-clause-broken :
@@ -248,37 +242,37 @@ measured_part-returns-in_err-low-clause-broken t c =
     let p = err_from_is_err_and c.from_residual-in_err-low.result
     c.from_residual-in_err-low.ensures.1 in
     rw (p.1, p.2)
-    (open_breach c.args.setting c.args.scope.now _ c.in_err-low.field-0.0 c.in_ok-known.ensures.open
-    (part_low_broken c.args.scope.now c.args.name.now c.args.place c.in_ok-known.known
+    (open_breach c.args.reach.now _ c.in_err-low.field-0.0 c.in_ok-known.ensures.open
+    (part_low_broken c.args.reach.now.scope.now c.args.name.now c.args.place c.in_ok-known.known
     c.in_ok-known.ensures.found (expression_tree c.args.high.now)
     (expression_tree c.args.low.now) c.in_ok-high.high c.in_err-low.field-0.0
-    (value_in c.args.setting c.args.scope.now _ c.in_ok-high.high c.in_ok-known.ensures.open
+    (value_in c.args.reach.now _ c.in_ok-high.high c.in_ok-known.ensures.open
     c.in_ok-high.ensures.found)
-    (steps_in c.args.setting c.args.scope.now _ c.in_err-low.field-0.0 c.in_ok-known.ensures.open
+    (steps_in c.args.reach.now _ c.in_err-low.field-0.0 c.in_ok-known.ensures.open
     c.in_err-low.ensures.broken)))
 
 pub measured_part-returns-clause-found : goal.measured_part-returns-clause-found
 measured_part-returns-clause-found t c =
     ok_both c.part.result _ _ _ (λ inside m made.
-    open_found c.args.setting c.args.scope.now _ _ c.in_ok-known.ensures.open
-    (part_found c.args.scope.now c.args.name.now c.args.place c.in_ok-known.known
+    open_found c.args.reach.now _ _ c.in_ok-known.ensures.open
+    (part_found c.args.reach.now.scope.now c.args.name.now c.args.place c.in_ok-known.known
     c.in_ok-known.ensures.found (expression_tree c.args.high.now)
     (expression_tree c.args.low.now) c.in_ok-high.high c.in_ok-low.low (measured_tree m)
-    (value_in c.args.setting c.args.scope.now _ c.in_ok-high.high c.in_ok-known.ensures.open
+    (value_in c.args.reach.now _ c.in_ok-high.high c.in_ok-known.ensures.open
     c.in_ok-high.ensures.found)
-    (value_in c.args.setting c.args.scope.now _ c.in_ok-low.low c.in_ok-known.ensures.open
+    (value_in c.args.reach.now _ c.in_ok-low.low c.in_ok-known.ensures.open
     c.in_ok-low.ensures.found) inside made)) c.part.ensures.asked c.part.ensures.found
 
 pub measured_part-returns-clause-broken : goal.measured_part-returns-clause-broken
 measured_part-returns-clause-broken t c =
     err_weaker c.part.result _ _ (λ f h.
-    open_breach c.args.setting c.args.scope.now _ f c.in_ok-known.ensures.open
-    (part_broken c.args.scope.now c.args.name.now c.args.place c.in_ok-known.known
+    open_breach c.args.reach.now _ f c.in_ok-known.ensures.open
+    (part_broken c.args.reach.now.scope.now c.args.name.now c.args.place c.in_ok-known.known
     c.in_ok-known.ensures.found (expression_tree c.args.high.now)
     (expression_tree c.args.low.now) c.in_ok-high.high c.in_ok-low.low f
-    (value_in c.args.setting c.args.scope.now _ c.in_ok-high.high c.in_ok-known.ensures.open
+    (value_in c.args.reach.now _ c.in_ok-high.high c.in_ok-known.ensures.open
     c.in_ok-high.ensures.found)
-    (value_in c.args.setting c.args.scope.now _ c.in_ok-low.low c.in_ok-known.ensures.open
+    (value_in c.args.reach.now _ c.in_ok-low.low c.in_ok-known.ensures.open
     c.in_ok-low.ensures.found) h)) c.part.ensures.broken
 
 pub measured_unary-returns-in_err-operand-clause-broken :
@@ -286,13 +280,13 @@ pub measured_unary-returns-in_err-operand-clause-broken :
 measured_unary-returns-in_err-operand-clause-broken t c =
     let p = err_from_is_err_and c.from_residual.result c.from_residual.ensures.1 in
     rw (p.1, p.2)
-    (unary_broken (names_in c.args.setting c.args.scope.now) (is_constant c.args.setting) c.args.op
+    (unary_broken (reach_names c.args.reach.now) (is_constant c.args.reach.now.setting) c.args.op
     c.args.place (expression_tree c.args.operand.now) c.in_err-operand.field-0.0
     c.in_err-operand.ensures.broken)
 
 pub measured_unary-returns-clause-found : goal.measured_unary-returns-clause-found
 measured_unary-returns-clause-found t c =
-    unary_found (names_in c.args.setting c.args.scope.now) (is_constant c.args.setting) c.args.op
+    unary_found (reach_names c.args.reach.now) (is_constant c.args.reach.now.setting) c.args.op
     c.args.place (expression_tree c.args.operand.now) (measured_tree c.in_ok-operand.operand) _
     c.in_ok-operand.ensures.found c.in_ok-unary.ensures.found
 
@@ -301,7 +295,7 @@ pub measured_binary-returns-in_err-left-clause-broken :
 measured_binary-returns-in_err-left-clause-broken t c =
     let p = err_from_is_err_and c.from_residual.result c.from_residual.ensures.1 in
     rw (p.1, p.2)
-    (binary_left_broken (names_in c.args.setting c.args.scope.now) (is_constant c.args.setting)
+    (binary_left_broken (reach_names c.args.reach.now) (is_constant c.args.reach.now.setting)
     c.args.op c.args.place (expression_tree c.args.left.now) (expression_tree c.args.right.now)
     c.in_err-left.field-0.0 c.in_err-left.ensures.broken)
 
@@ -311,7 +305,7 @@ measured_binary-returns-in_err-right-clause-broken t c =
     let p = err_from_is_err_and c.from_residual-in_err-right.result
     c.from_residual-in_err-right.ensures.1 in
     rw (p.1, p.2)
-    (binary_right_broken (names_in c.args.setting c.args.scope.now) (is_constant c.args.setting)
+    (binary_right_broken (reach_names c.args.reach.now) (is_constant c.args.reach.now.setting)
     c.args.op c.args.place (expression_tree c.args.left.now) (expression_tree c.args.right.now)
     c.in_err-right.field-0.0
     c.in_ok-left.ensures.found.0 c.in_err-right.ensures.broken)
@@ -319,7 +313,7 @@ measured_binary-returns-in_err-right-clause-broken t c =
 pub measured_binary-returns-clause-found : goal.measured_binary-returns-clause-found
 measured_binary-returns-clause-found t c =
     ok_both c.binary.result _ _ _ (λ passes m made.
-    binary_found (names_in c.args.setting c.args.scope.now) (is_constant c.args.setting)
+    binary_found (reach_names c.args.reach.now) (is_constant c.args.reach.now.setting)
     c.args.op c.args.place (expression_tree c.args.left.now) (expression_tree c.args.right.now)
     (measured_tree c.in_ok-left.left) (measured_tree c.in_ok-right.right) (measured_tree m)
     c.in_ok-left.ensures.found c.in_ok-right.ensures.found passes
@@ -332,7 +326,7 @@ measured_binary-returns-clause-found t c =
 pub measured_binary-returns-clause-broken : goal.measured_binary-returns-clause-broken
 measured_binary-returns-clause-broken t c =
     err_weaker c.binary.result _ _ (λ f h.
-    binary_broken (names_in c.args.setting c.args.scope.now) (is_constant c.args.setting)
+    binary_broken (reach_names c.args.reach.now) (is_constant c.args.reach.now.setting)
     c.args.op c.args.place (expression_tree c.args.left.now) (expression_tree c.args.right.now)
     (measured_tree c.in_ok-left.left) (measured_tree c.in_ok-right.right) f
     c.in_ok-left.ensures.found c.in_ok-right.ensures.found h) c.binary.ensures.broken
@@ -342,7 +336,7 @@ pub measured_choice-returns-in_err-cond-clause-broken :
 measured_choice-returns-in_err-cond-clause-broken t c =
     let p = err_from_is_err_and c.from_residual.result c.from_residual.ensures.1 in
     rw (p.1, p.2)
-    (choice_first_broken (names_in c.args.setting c.args.scope.now) (is_constant c.args.setting)
+    (choice_first_broken (reach_names c.args.reach.now) (is_constant c.args.reach.now.setting)
     c.args.place (expression_tree c.args.cond.now) (expression_tree c.args.yes.now)
     (expression_tree c.args.no.now) c.in_err-cond.field-0.0 c.in_err-cond.ensures.broken)
 
@@ -352,7 +346,7 @@ measured_choice-returns-in_err-yes-clause-broken t c =
     let p = err_from_is_err_and c.from_residual-in_err-yes.result
     c.from_residual-in_err-yes.ensures.1 in
     rw (p.1, p.2)
-    (choice_second_broken (names_in c.args.setting c.args.scope.now) (is_constant c.args.setting)
+    (choice_second_broken (reach_names c.args.reach.now) (is_constant c.args.reach.now.setting)
     c.args.place (expression_tree c.args.cond.now) (expression_tree c.args.yes.now)
     (expression_tree c.args.no.now) c.in_err-yes.field-0.0
     c.in_ok-cond.ensures.found.0 c.in_err-yes.ensures.broken)
@@ -363,14 +357,14 @@ measured_choice-returns-in_err-no-clause-broken t c =
     let p = err_from_is_err_and c.from_residual-in_err-no.result
     c.from_residual-in_err-no.ensures.1 in
     rw (p.1, p.2)
-    (choice_third_broken (names_in c.args.setting c.args.scope.now) (is_constant c.args.setting)
+    (choice_third_broken (reach_names c.args.reach.now) (is_constant c.args.reach.now.setting)
     c.args.place (expression_tree c.args.cond.now) (expression_tree c.args.yes.now)
     (expression_tree c.args.no.now) c.in_err-no.field-0.0
     c.in_ok-cond.ensures.found.0 c.in_ok-yes.ensures.found.0 c.in_err-no.ensures.broken)
 
 pub measured_choice-returns-clause-found : goal.measured_choice-returns-clause-found
 measured_choice-returns-clause-found t c =
-    choice_found (names_in c.args.setting c.args.scope.now) (is_constant c.args.setting)
+    choice_found (reach_names c.args.reach.now) (is_constant c.args.reach.now.setting)
     c.args.place (expression_tree c.args.cond.now) (expression_tree c.args.yes.now)
     (expression_tree c.args.no.now)
     (measured_tree c.in_ok-cond.cond) (measured_tree c.in_ok-yes.yes)
@@ -380,9 +374,10 @@ measured_choice-returns-clause-found t c =
 
 pub measured_join-join-requires : goal.measured_join-join-requires
 measured_join-join-requires t c =
-    some_width (names_in c.args.setting c.args.scope.now)
-    (setting_lengths c.args.setting c.args.scope.now) (is_constant c.args.setting)
-    (setting_known c.args.setting c.args.scope.now)
+    some_width (reach_names c.args.reach.now)
+    (setting_lengths c.args.reach.now.setting c.args.reach.now.scope.now)
+    (is_constant c.args.reach.now.setting)
+    (setting_known c.args.reach.now.setting c.args.reach.now.scope.now)
     (parts_of (expression_trees c.args.parts.now))
     (measured_row (measured_trees c.in_ok-operands.operands.items))
     c.in_ok-operands.ensures.found.0 c.in_ok-operands.ensures.found.1 c.requires.some
@@ -393,14 +388,14 @@ pub measured_join-returns-in_err-operands-clause-broken :
 measured_join-returns-in_err-operands-clause-broken t c =
     let p = err_from_is_err_and c.from_residual.result c.from_residual.ensures.1 in
     rw (p.1, p.2)
-    (join_parts_broken (names_in c.args.setting c.args.scope.now) (is_constant c.args.setting)
+    (join_parts_broken (reach_names c.args.reach.now) (is_constant c.args.reach.now.setting)
     c.args.place (parts_of (expression_trees c.args.parts.now)) c.in_err-operands.field-0.0
     c.in_err-operands.ensures.broken)
 
 pub measured_join-returns-clause-found : goal.measured_join-returns-clause-found
 measured_join-returns-clause-found t c =
     ok_both c.join.result _ _ _ (λ passes m made.
-    join_found (names_in c.args.setting c.args.scope.now) (is_constant c.args.setting)
+    join_found (reach_names c.args.reach.now) (is_constant c.args.reach.now.setting)
     c.args.place (parts_of (expression_trees c.args.parts.now))
     (measured_row (measured_trees c.in_ok-operands.operands.items)) (measured_tree m)
     c.in_ok-operands.ensures.found.0 c.in_ok-operands.ensures.found.1 passes made)
@@ -409,7 +404,7 @@ measured_join-returns-clause-found t c =
 pub measured_join-returns-clause-broken : goal.measured_join-returns-clause-broken
 measured_join-returns-clause-broken t c =
     err_weaker c.join.result _ _ (λ f h.
-    join_broken (names_in c.args.setting c.args.scope.now) (is_constant c.args.setting)
+    join_broken (reach_names c.args.reach.now) (is_constant c.args.reach.now.setting)
     c.args.place (parts_of (expression_trees c.args.parts.now))
     (measured_row (measured_trees c.in_ok-operands.operands.items)) f
     c.in_ok-operands.ensures.found.0 c.in_ok-operands.ensures.found.1 h) c.join.ensures.broken
@@ -419,7 +414,7 @@ pub measured_replication-returns-in_err-count-clause-broken :
 measured_replication-returns-in_err-count-clause-broken t c =
     let p = err_from_is_err_and c.from_residual.result c.from_residual.ensures.1 in
     rw (p.1, p.2)
-    (count_broken (names_in c.args.setting c.args.scope.now) (is_constant c.args.setting)
+    (count_broken (reach_names c.args.reach.now) (is_constant c.args.reach.now.setting)
     c.args.place (expression_tree c.args.count.now)
     (parts_of (expression_trees c.args.parts.now)) c.in_err-count.field-0.0
     c.in_err-count.ensures.broken)
@@ -430,7 +425,7 @@ measured_replication-returns-in_err-operands-clause-broken t c =
     let p = err_from_is_err_and c.from_residual-in_err-operands.result
     c.from_residual-in_err-operands.ensures.1 in
     rw (p.1, p.2)
-    (repeated_parts_broken (names_in c.args.setting c.args.scope.now) (is_constant c.args.setting)
+    (repeated_parts_broken (reach_names c.args.reach.now) (is_constant c.args.reach.now.setting)
     c.args.place (expression_tree c.args.count.now)
     (parts_of (expression_trees c.args.parts.now)) c.in_ok-count.count
     c.in_err-operands.field-0.0
@@ -438,9 +433,10 @@ measured_replication-returns-in_err-operands-clause-broken t c =
 
 pub measured_replication-replication-requires : goal.measured_replication-replication-requires
 measured_replication-replication-requires t c =
-    some_width (names_in c.args.setting c.args.scope.now)
-    (setting_lengths c.args.setting c.args.scope.now) (is_constant c.args.setting)
-    (setting_known c.args.setting c.args.scope.now)
+    some_width (reach_names c.args.reach.now)
+    (setting_lengths c.args.reach.now.setting c.args.reach.now.scope.now)
+    (is_constant c.args.reach.now.setting)
+    (setting_known c.args.reach.now.setting c.args.reach.now.scope.now)
     (parts_of (expression_trees c.args.parts.now))
     (measured_row (measured_trees c.in_ok-operands.operands.items))
     c.in_ok-operands.ensures.found.0 c.in_ok-operands.ensures.found.1 c.requires.some
@@ -449,7 +445,7 @@ measured_replication-replication-requires t c =
 pub measured_replication-returns-clause-found : goal.measured_replication-returns-clause-found
 measured_replication-returns-clause-found t c =
     ok_both c.replication.result _ _ _ (λ passes m made.
-    replication_found (names_in c.args.setting c.args.scope.now) (is_constant c.args.setting)
+    replication_found (reach_names c.args.reach.now) (is_constant c.args.reach.now.setting)
     c.args.place (expression_tree c.args.count.now)
     (parts_of (expression_trees c.args.parts.now)) c.in_ok-count.count
     (measured_row (measured_trees c.in_ok-operands.operands.items)) (measured_tree m)
@@ -463,7 +459,7 @@ measured_replication-returns-clause-found t c =
 pub measured_replication-returns-clause-broken : goal.measured_replication-returns-clause-broken
 measured_replication-returns-clause-broken t c =
     err_weaker c.replication.result _ _ (λ f h.
-    replication_broken (names_in c.args.setting c.args.scope.now) (is_constant c.args.setting)
+    replication_broken (reach_names c.args.reach.now) (is_constant c.args.reach.now.setting)
     c.args.place (expression_tree c.args.count.now)
     (parts_of (expression_trees c.args.parts.now)) c.in_ok-count.count
     (measured_row (measured_trees c.in_ok-operands.operands.items)) f
@@ -544,24 +540,25 @@ constant_index-returns-else-is_below-clause-broken t c =
 
 pub measured_constant-returns-clause-found : goal.measured_constant-returns-clause-found
 measured_constant-returns-clause-found t c =
-    let found : IsMeasure (names_in c.args.setting c.args.scope.now) true
+    let found : IsMeasure (reach_names c.args.reach.now) true
     (expression_tree c.args.expr.now) c.in_ok-operand.operand = (subst (λ (n : Names).
     IsMeasure n true (expression_tree c.args.expr.now) c.in_ok-operand.operand)
-    (c.inside.ensures.names c.args.scope.now)
+    (c.inside.ensures.names c.args.reach.now.scope.now)
     (subst (λ (b : Bool).
-    IsMeasure (names_in c.inside.result c.args.scope.now) b (expression_tree c.args.expr.now)
-    c.in_ok-operand.operand) c.inside.ensures.constant c.in_ok-operand.ensures.found)) in
+    IsMeasure (names_in c.inside.result c.args.reach.now.scope.now) b
+    (expression_tree c.args.expr.now) c.in_ok-operand.operand) c.inside.ensures.constant
+    c.in_ok-operand.ensures.found)) in
     ok_weaker c.folded.result _ _
     (λ bits h. (
       found.0,
-      sym (own_divisors_at (names_in c.args.setting c.args.scope.now)
-          (setting_lengths c.args.setting c.args.scope.now) true (λ e.
+      sym (own_divisors_at (reach_names c.args.reach.now)
+          (setting_lengths c.args.reach.now.setting c.args.reach.now.scope.now) true (λ e.
           absurd (cc e)) (expression_tree c.args.expr.now) c.requires
           (expression_lengths c.args.expr.now) found.0 (measured_tree c.in_ok-operand.operand)
           found.1 c.own_type.result.width c.own_type.result.signed c.own_type.ensures.width
           c.own_type.ensures.signed) ∙ h.0,
-      value_at_own (names_in c.args.setting c.args.scope.now)
-          (setting_lengths c.args.setting c.args.scope.now) true (λ e.
+      value_at_own (reach_names c.args.reach.now)
+          (setting_lengths c.args.reach.now.setting c.args.reach.now.scope.now) true (λ e.
           absurd (cc e)) (expression_tree c.args.expr.now) c.requires
           (expression_lengths c.args.expr.now) found.0 (measured_tree c.in_ok-operand.operand)
           found.1 c.own_type.result.width c.own_type.result.signed bits c.own_type.ensures.width
@@ -570,20 +567,21 @@ measured_constant-returns-clause-found t c =
 
 pub measured_constant-returns-clause-broken : goal.measured_constant-returns-clause-broken
 measured_constant-returns-clause-broken t c =
-    let found : IsMeasure (names_in c.args.setting c.args.scope.now) true
+    let found : IsMeasure (reach_names c.args.reach.now) true
     (expression_tree c.args.expr.now) c.in_ok-operand.operand = (subst (λ (n : Names).
     IsMeasure n true (expression_tree c.args.expr.now) c.in_ok-operand.operand)
-    (c.inside.ensures.names c.args.scope.now)
+    (c.inside.ensures.names c.args.reach.now.scope.now)
     (subst (λ (b : Bool).
-    IsMeasure (names_in c.inside.result c.args.scope.now) b (expression_tree c.args.expr.now)
-    c.in_ok-operand.operand) c.inside.ensures.constant c.in_ok-operand.ensures.found)) in
+    IsMeasure (names_in c.inside.result c.args.reach.now.scope.now) b
+    (expression_tree c.args.expr.now) c.in_ok-operand.operand) c.inside.ensures.constant
+    c.in_ok-operand.ensures.found)) in
     err_weaker c.folded.result _ _
     (λ f h. breach_after
-    (asked (names_in c.args.setting c.args.scope.now) true (expression_tree c.args.expr.now)) _
+    (asked (reach_names c.args.reach.now) true (expression_tree c.args.expr.now)) _
     tt f found.0
     (subst (λ (r : Result (Unit {0}) WalkStep).
-    IsBreach r f) (own_divisors_at (names_in c.args.setting c.args.scope.now)
-    (setting_lengths c.args.setting c.args.scope.now) true (λ e.
+    IsBreach r f) (own_divisors_at (reach_names c.args.reach.now)
+    (setting_lengths c.args.reach.now.setting c.args.reach.now.scope.now) true (λ e.
     absurd (cc e)) (expression_tree c.args.expr.now) c.requires
     (expression_lengths c.args.expr.now) found.0 (measured_tree c.in_ok-operand.operand) found.1
     c.own_type.result.width c.own_type.result.signed c.own_type.ensures.width
@@ -599,11 +597,11 @@ measured_parts-returns-in_err-measured-clause-broken t c =
     (subst (λ (r : Result (Unit {0}) WalkStep).
     IsBreach r c.in_err-measured.field-0.0) c.loop-expr.invariant.asks
     (subst (λ (es : ExpressionTrees).
-    IsBreach (asked_parts (names_in c.args.setting c.args.scope.now)
-    (is_constant c.args.setting) es).end c.in_err-measured.field-0.0)
+    IsBreach (asked_parts (reach_names c.args.reach.now)
+    (is_constant c.args.reach.now.setting) es).end c.in_err-measured.field-0.0)
     (sym (parts_split c.args.exprs.now c.loop-expr.expr-index c.expr-item.result
     c.loop-expr-test.true c.expr-item.is))
-    (breach_first (asked (names_in c.args.setting c.args.scope.now) (is_constant c.args.setting)
+    (breach_first (asked (reach_names c.args.reach.now) (is_constant c.args.reach.now.setting)
     (expression_tree c.expr-item.result)) _ c.in_err-measured.field-0.0
     c.in_err-measured.ensures.broken)))
 
@@ -619,36 +617,36 @@ measured_parts-loop-expr-preserved t c = record {
       (parts_split c.args.exprs.now c.loop-expr.expr-index c.expr-item.result
       c.loop-expr-test.true c.expr-item.is) c.loop-expr.invariant.shaped)).1;
   asks =
-      sym (passes_on (asked (names_in c.args.setting c.args.scope.now) (is_constant c.args.setting)
+      sym (passes_on (asked (reach_names c.args.reach.now) (is_constant c.args.reach.now.setting)
       (expression_tree c.expr-item.result)) _
-      (asked_parts (names_in c.args.setting c.args.scope.now) (is_constant c.args.setting)
+      (asked_parts (reach_names c.args.reach.now) (is_constant c.args.reach.now.setting)
       (parts_of (expression_trees (drop (c.loop-expr.expr-index + 1) c.args.exprs.now)))).end
       c.in_ok-measured.ensures.found.0 refl)
       ∙ sym (ap (λ (es : ExpressionTrees).
-      (asked_parts (names_in c.args.setting c.args.scope.now) (is_constant c.args.setting)
+      (asked_parts (reach_names c.args.reach.now) (is_constant c.args.reach.now.setting)
       es).end) (parts_split c.args.exprs.now c.loop-expr.expr-index c.expr-item.result
       c.loop-expr-test.true c.expr-item.is)) ∙ c.loop-expr.invariant.asks;
   gives =
       ap (λ ms. before (measured_trees ms)
-      (measured_parts (names_in c.args.setting c.args.scope.now)
+      (measured_parts (reach_names c.args.reach.now)
       (parts_of (expression_trees (drop (c.loop-expr.expr-index + 1) c.args.exprs.now)))))
       c.in_ok-push.ensures.items
       ∙ ap (λ ts. before ts
-      (measured_parts (names_in c.args.setting c.args.scope.now)
+      (measured_parts (reach_names c.args.reach.now)
       (parts_of (expression_trees (drop (c.loop-expr.expr-index + 1) c.args.exprs.now)))))
       (trees_push c.loop-expr.operands.items c.in_ok-measured.field-0)
       ∙ before_push (measured_trees c.loop-expr.operands.items)
       (measured_tree c.in_ok-measured.field-0)
-      (measured_parts (names_in c.args.setting c.args.scope.now)
+      (measured_parts (reach_names c.args.reach.now)
       (parts_of (expression_trees (drop (c.loop-expr.expr-index + 1) c.args.exprs.now))))
       ∙ ap (λ (x : MeasuredTree).
       before (measured_trees c.loop-expr.operands.items)
-      (more_parts x (measured_parts (names_in c.args.setting c.args.scope.now)
+      (more_parts x (measured_parts (reach_names c.args.reach.now)
       (parts_of (expression_trees (drop (c.loop-expr.expr-index + 1) c.args.exprs.now))))))
       c.in_ok-measured.ensures.found.1
       ∙ sym (ap (λ (es : ExpressionTrees).
       before (measured_trees c.loop-expr.operands.items)
-      (measured_parts (names_in c.args.setting c.args.scope.now) es))
+      (measured_parts (reach_names c.args.reach.now) es))
       (parts_split c.args.exprs.now c.loop-expr.expr-index c.expr-item.result
       c.loop-expr-test.true c.expr-item.is))
       ∙ c.loop-expr.invariant.gives;
@@ -659,11 +657,11 @@ unfolding asked asked_parts measured_of measured_parts
 measured_parts-returns-clause-found t c =
     let none = parts_done c.args.exprs.now c.loop-expr.expr-index c.loop-expr-test.false in (
       sym c.loop-expr.invariant.asks ∙ ap (λ (es : ExpressionTrees).
-          (asked_parts (names_in c.args.setting c.args.scope.now) (is_constant c.args.setting)
+          (asked_parts (reach_names c.args.reach.now) (is_constant c.args.reach.now.setting)
           es).end) none,
       sym (before_end (measured_trees c.loop-expr.operands.items))
           ∙ sym (ap (λ (es : ExpressionTrees).
           before (measured_trees c.loop-expr.operands.items)
-          (measured_parts (names_in c.args.setting c.args.scope.now) es)) none)
+          (measured_parts (reach_names c.args.reach.now) es)) none)
           ∙ c.loop-expr.invariant.gives,
     )

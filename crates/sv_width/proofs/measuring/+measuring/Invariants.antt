@@ -5,7 +5,7 @@ use Rattle.sv_ast.specs.Shape.{are_shaped_parts}
 use Rattle.sv_ast.specs.Views.{expression_trees, parts_of}
 use Rattle.sv_elab_rules.specs.ExpressionSteps.{asked_parts}
 use Rattle.sv_width.specs.Measured.{measured_parts}
-use Rattle.sv_width.specs.Settings.{names_in, is_constant}
+use Rattle.sv_width.specs.Settings.{reach_names, is_constant}
 use Rattle.sv_width.specs.Views.{measured_trees}
 use Rattle.sv_width.proofs.MRows.{before}
 use Rattle.sv_width.proofs.measuring.+measuring.Given as goal
@@ -52,8 +52,7 @@ decreases-measured_replication l =
       alloc = l.alloc;
       place = l.place;
       parts = l.parts;
-      scope = l.scope;
-      setting = l.setting;
+      reach = l.reach;
       the-lifetimes = l.the-lifetimes.1;
     }) in
     4 * max (size-Expr l.count.now) parts + 2
@@ -62,12 +61,12 @@ decreases-measured_replication l =
 abbrev pub invariant-measured_parts-loop-expr : goal.invariant-measured_parts-loop-expr
 invariant-measured_parts-loop-expr l = record {
   shaped : IsTrue (are_shaped_parts (parts_of (expression_trees (drop l.expr-index l.exprs))));
-  asks : (asked_parts (names_in l.setting l.scope) (is_constant l.setting)
+  asks : (asked_parts (reach_names l.reach) (is_constant l.reach.setting)
       (parts_of (expression_trees (drop l.expr-index l.exprs)))).end
-      ≡ (asked_parts (names_in l.setting l.scope) (is_constant l.setting)
+      ≡ (asked_parts (reach_names l.reach) (is_constant l.reach.setting)
       (parts_of (expression_trees l.exprs))).end;
   gives : before (measured_trees l.operands.items)
-      (measured_parts (names_in l.setting l.scope)
+      (measured_parts (reach_names l.reach)
       (parts_of (expression_trees (drop l.expr-index l.exprs))))
-      ≡ measured_parts (names_in l.setting l.scope) (parts_of (expression_trees l.exprs));
+      ≡ measured_parts (reach_names l.reach) (parts_of (expression_trees l.exprs));
 }

@@ -1,4 +1,4 @@
-use Rattle.std.proofs.Common.{◌≡◌, ◌+◌, drop, refl, sym, ap, subst, ◌∙◌}
+use Rattle.std.proofs.Common.{◌+◌, drop, refl, sym, ap, ◌∙◌}
 use Rattle.std.proofs.lemmas.Result.{err_from_is_err_and}
 use Rattle.sv_flat.specs.Design as flat
 use Rattle.sv_flat.specs.Design.{TypedTree, TypedTrees, typed}
@@ -6,12 +6,10 @@ use Rattle.sv_flat.specs.Views.{typed_tree, typed_trees, row_parts as flat_parts
 use Rattle.sv_flat.specs.declared.expressions.FNode.TheBlock.{hidden-the_row-FExpr-0}
 use Rattle.sv_flat.proofs.Rows.{row_parts-hidden as flat_row-hidden}
 use Rattle.sv_width.specs.declared.measured.Measured.{Measured}
-use Rattle.sv_width.specs.declared.measured.Measured.TheBlock.{hidden-the_row-Measured-0}
-use Rattle.sv_width.specs.Answers.{IsBreach}
 use Rattle.sv_width.specs.Measured.{MeasuredTrees, own_form}
 use Rattle.sv_width.specs.Pushed.{divisors_of, divisors_in, node_of, nodes_in}
-use Rattle.sv_width.specs.Views.{measured_tree, measured_trees, row_parts, parts_of}
-use Rattle.sv_width.proofs.MRows.{row_parts-hidden}
+use Rattle.sv_width.specs.Views.{measured_tree, measured_trees, parts_of}
+use Rattle.sv_width.proofs.MRows.{row_at, parts_refused}
 use Rattle.sv_width.proofs.Measures.{passes_on}
 use Rattle.sv_width.proofs.FlatRows.{typed_before, typed_push, typed_end, forms_push}
 use Rattle.sv_width.proofs.FlatRows.{measured_split, measured_done}
@@ -23,17 +21,10 @@ unfolding divisors_of divisors_in
 node-returns-in_err-pushed_parts-in-Join-clause-broken t c =
     let p = err_from_is_err_and c.from_residual-in_err-pushed_parts-in-Join.result
     c.from_residual-in_err-pushed_parts-in-Join.ensures.1 in
-    let parts : parts_of (measured_trees c.deref-in-Join.result.now) ≡
-    row_parts (hidden-the_row-Measured-0 c.in-Join.parts) =
-    ap (λ es. parts_of (measured_trees es)) c.deref-in-Join.ensures.value
-    ∙ sym (row_parts-hidden c.in-Join.parts) in
     rw (p.1, p.2)
-    (subst (λ (e : Measured).
-    IsBreach (divisors_of (measured_tree e) c.args.to.width c.args.to.signed).end
-    c.in_err-pushed_parts-in-Join.field-0.0) (sym c.in-Join.is)
-    (subst (λ (es : MeasuredTrees).
-    IsBreach (divisors_in es).end c.in_err-pushed_parts-in-Join.field-0.0) parts
-    c.in_err-pushed_parts-in-Join.ensures.broken))
+    (parts_refused c.args.expr.now _ c.args.to.width c.args.to.signed c.in-Join.parts
+    c.deref-in-Join.result.now c.in_err-pushed_parts-in-Join.field-0.0 c.in-Join.is refl
+    c.deref-in-Join.ensures.value c.in_err-pushed_parts-in-Join.ensures.broken)
 
 pub node-returns-in_err-pushed_parts-in-Repeat-clause-broken :
     goal.node-returns-in_err-pushed_parts-in-Repeat-clause-broken
@@ -41,26 +32,17 @@ unfolding divisors_of divisors_in
 node-returns-in_err-pushed_parts-in-Repeat-clause-broken t c =
     let p = err_from_is_err_and c.from_residual-in_err-pushed_parts-in-Repeat.result
     c.from_residual-in_err-pushed_parts-in-Repeat.ensures.1 in
-    let parts : parts_of (measured_trees c.deref-in-Repeat.result.now) ≡
-    row_parts (hidden-the_row-Measured-0 c.in-Repeat.parts) =
-    ap (λ es. parts_of (measured_trees es)) c.deref-in-Repeat.ensures.value
-    ∙ sym (row_parts-hidden c.in-Repeat.parts) in
     rw (p.1, p.2)
-    (subst (λ (e : Measured).
-    IsBreach (divisors_of (measured_tree e) c.args.to.width c.args.to.signed).end
-    c.in_err-pushed_parts-in-Repeat.field-0.0) (sym c.in-Repeat.is)
-    (subst (λ (es : MeasuredTrees).
-    IsBreach (divisors_in es).end c.in_err-pushed_parts-in-Repeat.field-0.0) parts
-    c.in_err-pushed_parts-in-Repeat.ensures.broken))
+    (parts_refused c.args.expr.now _ c.args.to.width c.args.to.signed c.in-Repeat.parts
+    c.deref-in-Repeat.result.now c.in_err-pushed_parts-in-Repeat.field-0.0 c.in-Repeat.is refl
+    c.deref-in-Repeat.ensures.value c.in_err-pushed_parts-in-Repeat.ensures.broken)
 
 pub node-returns-in_ok-pushed_parts-in-Join-clause-found :
     goal.node-returns-in_ok-pushed_parts-in-Join-clause-found
 unfolding node_of nodes_in divisors_of divisors_in
 node-returns-in_ok-pushed_parts-in-Join-clause-found t c =
-    let parts : parts_of (measured_trees c.deref-in-Join.result.now) ≡
-    row_parts (hidden-the_row-Measured-0 c.in-Join.parts) =
-    ap (λ es. parts_of (measured_trees es)) c.deref-in-Join.ensures.value
-    ∙ sym (row_parts-hidden c.in-Join.parts) in (
+    let parts = row_at c.in-Join.parts c.deref-in-Join.result.now
+    c.deref-in-Join.ensures.value in (
       ap (λ (e : Measured). (divisors_of (measured_tree e) c.args.to.width c.args.to.signed).end)
           c.in-Join.is
           ∙ sym (ap (λ es. (divisors_in es).end) parts)
@@ -75,10 +57,8 @@ pub node-returns-in_ok-pushed_parts-in-Repeat-clause-found :
     goal.node-returns-in_ok-pushed_parts-in-Repeat-clause-found
 unfolding node_of nodes_in divisors_of divisors_in
 node-returns-in_ok-pushed_parts-in-Repeat-clause-found t c =
-    let parts : parts_of (measured_trees c.deref-in-Repeat.result.now) ≡
-    row_parts (hidden-the_row-Measured-0 c.in-Repeat.parts) =
-    ap (λ es. parts_of (measured_trees es)) c.deref-in-Repeat.ensures.value
-    ∙ sym (row_parts-hidden c.in-Repeat.parts) in (
+    let parts = row_at c.in-Repeat.parts c.deref-in-Repeat.result.now
+    c.deref-in-Repeat.ensures.value in (
       ap (λ (e : Measured). (divisors_of (measured_tree e) c.args.to.width c.args.to.signed).end)
           c.in-Repeat.is
           ∙ sym (ap (λ es. (divisors_in es).end) parts)

@@ -113,6 +113,16 @@ module _ (names : Names) (e : ExpressionTree) (o : Measured) (is : IsOperandOf n
       (all_signed_is names items each ∙ ap (items_signed names) all
       ∙ sym (arms_sign_items names arms))
 
+  -- so the length and the signedness of a list with these items are the common ones
+  pub common_type_is : (now : List CaseItem) (n : ℕ) (s : Bool) → now ≡ items
+      → n ≡ max (own_width o) (greatest now)
+      → s ≡ (own_signed o && all_signed now)
+      → (n ≡ common_length names e arms) × (s ≡ common_signed names e arms)
+  common_type_is now n s same width signed = (
+    width ∙ ap (λ xs. max (own_width o) (greatest xs)) same ∙ common_width,
+    signed ∙ ap (λ xs. own_signed o && all_signed xs) same ∙ common_is_signed,
+  )
+
 -- ---- the walk of a case, at a length and signedness that are the common ones
 
 module _ (names : Names) (p : Place) (e : ExpressionTree) (arms : ArmTrees) (n : ℕ) (s : Bool)

@@ -1,4 +1,4 @@
-use Rattle.std.proofs.Common.{◌≡◌, ◌+◌, ◌-◌, ◌≤◌, max, Bool, false, Option, Some, None, map, List}
+use Rattle.std.proofs.Common.{◌≡◌, ◌+◌, ◌-◌, ◌≤◌, Bool, false, Option, Some, None, map, List}
 use Rattle.std.proofs.Common.{◌++◌, length, drop, refl, sym, ap, subst, ◌∙◌, arith, rules}
 use Rattle.std.specs.Prelude.{◌&&◌, filter, Ok, IsTrue}
 use Rattle.std.specs.List.{list_all}
@@ -26,11 +26,10 @@ use Rattle.sv_elab_rules.specs.CaseChains.{arm_items, case_chain, default_of, is
 use Rattle.sv_elab_rules.specs.Targets.{assignment_walk}
 use Rattle.sv_elab_rules.specs.Statements.{items_walk, statement_walk, statements_walk, arms_walk}
 use Rattle.sv_width.specs.Answers.{IsBreach}
-use Rattle.sv_width.specs.Operands.{own_width, own_signed}
 use Rattle.sv_width.specs.Scopes.{names_of}
 use Rattle.sv_width.proofs.Breaches.{ok_weaker, err_weaker, breach_memory}
 use Rattle.sv_elab_stmt.specs.declared.cases.CaseItem.{CaseItem}
-use Rattle.sv_elab_stmt.specs.Cases.{item_trees, AreItems, ArePassed, greatest, all_signed}
+use Rattle.sv_elab_stmt.specs.Cases.{item_trees, AreItems, ArePassed, greatest}
 use Rattle.sv_elab_stmt.specs.Chains.{flat_arm, flat_arms, has_items}
 use Rattle.sv_elab_stmt.proofs.ItemFacts.{trees_long}
 use Rattle.sv_elab_stmt.proofs.WalkFacts.{left_more, left_none, forms_push, mapped, mapped_push}
@@ -38,9 +37,9 @@ use Rattle.sv_elab_stmt.proofs.WalkFacts.{mapped_none, breach_mapped, arms_none,
 use Rattle.sv_elab_stmt.proofs.WalkFacts.{arm_found, arm_unasked, arm_unwalked, before, before_nothing}
 use Rattle.sv_elab_stmt.proofs.WalkFacts.{block_push, statements_none, statements_more}
 use Rattle.sv_elab_stmt.proofs.WalkFacts.{statements_broken}
-use Rattle.sv_elab_stmt.proofs.CaseWalks.{trees_length, case_shape, own_items, passed_arms, common_width}
-use Rattle.sv_elab_stmt.proofs.CaseWalks.{common_is_signed, case_unasked, case_undivided, selector_found}
-use Rattle.sv_elab_stmt.proofs.CaseWalks.{case_unarmed, case_found, if_unasked, if_unwalked, if_found}
+use Rattle.sv_elab_stmt.proofs.CaseWalks.{trees_length, case_shape, own_items, passed_arms}
+use Rattle.sv_elab_stmt.proofs.CaseWalks.{common_type_is, case_unasked, case_undivided}
+use Rattle.sv_elab_stmt.proofs.CaseWalks.{selector_found, case_unarmed, case_found, if_unasked, if_unwalked, if_found}
 use Rattle.sv_elab_stmt.proofs.CaseWalks.{else_unasked, else_unwalked, else_broken, else_found}
 use Rattle.sv_elab_stmt.proofs.statements.+statements.Goals as goal
 
@@ -527,22 +526,16 @@ case-returns-in_err-typed_selector-clause-broken t c =
     let names = names_of c.args.scope.now in
     let e = expression_tree c.args.selector.now in
     let arms = arms_of (arm_trees c.args.arms.now) in
-    let items = c.in_ok-items.items.items in
     let is = c.in_ok-operand.ensures.found in
-    let each = c.in_ok-items.ensures.each in
-    let all = c.in_ok-items.ensures.all in
-    let width = c.common_type-to.ensures.width
-    ∙ ap (λ xs. max (own_width c.in_ok-operand.operand) (greatest xs)) c.deref.ensures.value
-    ∙ common_width names e c.in_ok-operand.operand is items each arms all in
-    let signed = c.common_type-to.ensures.signed
-    ∙ ap (λ xs. own_signed c.in_ok-operand.operand && all_signed xs) c.deref.ensures.value
-    ∙ common_is_signed names e c.in_ok-operand.operand is items each arms all in
+    let common = common_type_is names e c.in_ok-operand.operand is c.in_ok-items.items.items
+    c.in_ok-items.ensures.each arms c.in_ok-items.ensures.all c.deref.result.now
+    c.common_type-to.result.width c.common_type-to.result.signed c.deref.ensures.value
+    c.common_type-to.ensures.width c.common_type-to.ensures.signed in
     let q = err_from_is_err_and c.from_residual-in_err-typed_selector.result
     c.from_residual-in_err-typed_selector.ensures.1 in
     rw (q.1, q.2)
     (λ p. case_undivided names p e arms c.common_type-to.result.width c.common_type-to.result.signed
-    width signed
-    c.in_err-typed_selector.field-0.0 is.0
+    common.0 common.1 c.in_err-typed_selector.field-0.0 is.0
     (c.in_err-typed_selector.ensures.broken names false e is))
 
 pub case-returns-in_err-flats-clause-broken : goal.case-returns-in_err-flats-clause-broken
@@ -550,25 +543,19 @@ case-returns-in_err-flats-clause-broken t c =
     let names = names_of c.args.scope.now in
     let e = expression_tree c.args.selector.now in
     let arms = arms_of (arm_trees c.args.arms.now) in
-    let items = c.in_ok-items.items.items in
     let is = c.in_ok-operand.ensures.found in
-    let each = c.in_ok-items.ensures.each in
-    let all = c.in_ok-items.ensures.all in
-    let width = c.common_type-to.ensures.width
-    ∙ ap (λ xs. max (own_width c.in_ok-operand.operand) (greatest xs)) c.deref.ensures.value
-    ∙ common_width names e c.in_ok-operand.operand is items each arms all in
-    let signed = c.common_type-to.ensures.signed
-    ∙ ap (λ xs. own_signed c.in_ok-operand.operand && all_signed xs) c.deref.ensures.value
-    ∙ common_is_signed names e c.in_ok-operand.operand is items each arms all in
+    let common = common_type_is names e c.in_ok-operand.operand is c.in_ok-items.items.items
+    c.in_ok-items.ensures.each arms c.in_ok-items.ensures.all c.deref.result.now
+    c.common_type-to.result.width c.common_type-to.result.signed c.deref.ensures.value
+    c.common_type-to.ensures.width c.common_type-to.ensures.signed in
     let typed = c.in_ok-typed_selector.ensures.found names false e is in
     let q = err_from_is_err_and c.from_residual-in_err-flats.result
     c.from_residual-in_err-flats.ensures.1 in
     rw (q.1, q.2)
     (λ p. case_unarmed names p e arms c.common_type-to.result.width c.common_type-to.result.signed
-    width signed
-    c.in_err-flats.field-0.0 (typed_tree c.in_ok-typed_selector.typed_selector)
+    common.0 common.1 c.in_err-flats.field-0.0 (typed_tree c.in_ok-typed_selector.typed_selector)
     (selector_found names p e arms c.common_type-to.result.width c.common_type-to.result.signed
-    width signed is.0 typed.0
+    common.0 common.1 is.0 typed.0
     (typed_tree c.in_ok-typed_selector.typed_selector) typed.1)
     c.in_err-flats.ensures.broken)
 
@@ -597,7 +584,6 @@ case-returns-clause-found t c = λ p.
     let names = names_of c.args.scope.now in
     let e = expression_tree c.args.selector.now in
     let arms = arms_of (arm_trees c.args.arms.now) in
-    let items = c.in_ok-items.items.items in
     let n = c.common_type-to.result.width in
     let s = c.common_type-to.result.signed in
     let is = c.in_ok-operand.ensures.found in
@@ -605,12 +591,9 @@ case-returns-clause-found t c = λ p.
     let all = c.in_ok-items.ensures.all in
     let selector = typed_tree c.in_ok-typed_selector.typed_selector in
     let flats = flat_arms c.in_ok-flats.flats.items in
-    let width = c.common_type-to.ensures.width
-    ∙ ap (λ xs. max (own_width c.in_ok-operand.operand) (greatest xs)) c.deref.ensures.value
-    ∙ common_width names e c.in_ok-operand.operand is items each arms all in
-    let signed = c.common_type-to.ensures.signed
-    ∙ ap (λ xs. own_signed c.in_ok-operand.operand && all_signed xs) c.deref.ensures.value
-    ∙ common_is_signed names e c.in_ok-operand.operand is items each arms all in
+    let common = common_type_is names e c.in_ok-operand.operand is c.in_ok-items.items.items
+    each arms all c.deref.result.now n s c.deref.ensures.value c.common_type-to.ensures.width
+    c.common_type-to.ensures.signed in
     let typed = c.in_ok-typed_selector.ensures.found names false e is in
     let value = c.deref-3.ensures.value in
     let trees = ap item_trees value ∙ all in
@@ -619,8 +602,8 @@ case-returns-clause-found t c = λ p.
     let complete = c.in_ok-complete.ensures.found names (subst (AreItems names) (sym value) each)
     passed (sym is.1 ∙ sym c.width.ensures.width)
     ∙ ap (λ es. is_complete names.scope e es n s) trees in
-    case_found names p e arms n s width signed selector flats
-    (selector_found names p e arms n s width signed is.0 typed.0 selector typed.1)
+    case_found names p e arms n s common.0 common.1 selector flats
+    (selector_found names p e arms n s common.0 common.1 is.0 typed.0 selector typed.1)
     c.in_ok-flats.ensures.found
     ∙ ap (λ b. Ok (case_chain selector b (filter has_items flats) (default_of flats)))
     (sym complete)

@@ -1,6 +1,6 @@
 -- Where the walk of a label ends, by its steps.
 use Rattle.std.proofs.Common.{◌≡◌, ℕ, Bool, true, false, List, [], ◌∷◌, ◌++◌, map, length, Option}
-use Rattle.std.proofs.Common.{Some, None, refl, sym, ap, ◌∙◌, append_assoc}
+use Rattle.std.proofs.Common.{Some, None, refl, sym, ap, ◌∙◌, append_assoc, eq-eqb}
 use Rattle.std.specs.Prelude.{Result, Ok, Err, position, option_map, ◌==◌}
 use Rattle.std.specs.Str.{bytes_eq}
 use Rattle.std.proofs.lemmas.Option.{same_Some}
@@ -24,7 +24,9 @@ use Rattle.sv_width.specs.declared.meanings.Meaning.{Meaning}
 use Rattle.sv_width.specs.declared.meanings.Meaning.TheVariants as meaning
 use Rattle.sv_width.specs.Scopes.{Known, binding_of, meaning_of, bindings_of, number_in}
 use Rattle.sv_width.specs.Scopes.{signal_number, names_of}
-use Rattle.sv_elab_decl.specs.Selectors.{IsSelector, IsSecond}
+use Rattle.sv_elab_decl.specs.declared.labelling.FoundMap.{FoundMap}
+use Rattle.sv_elab_decl.specs.declared.labelling.MapLabel.{MapLabel}
+use Rattle.sv_elab_decl.specs.Selectors.{IsSelector, IsSecond, IsMapNamed, map_label}
 
 -- ---- selectors
 
@@ -250,6 +252,77 @@ module _ (tables : SharedTables) (names : Names) (n first : List ℕ) (second : 
                 to_second_width
                 ∙ end_after (second_fits names p second (map_of tables.maps map).second) (λ _.
                 made map) tt h
+
+-- ---- the same, from what the code has found of the map and of its selectors
+
+module _ (tables : SharedTables) (known : Known) (text : MapLabel) (map : FoundMap)
+    (is : IsMapNamed tables text.name.now map) (first : KnownSignal)
+    (selects : IsSelector known text.first.now first) (second : Option KnownSignal)
+    (seconds : IsSecond known text.second.now second) where
+  first_ok : (ask (is_signal (bindings_of known text.first.now))
+      (bad_label text.place text.first.now)).end ≡ Ok tt
+  first_ok =
+      selector_asked known text.first.now first (bad_label text.place text.first.now) selects
+
+  second_ok : (second_selector (names_of known) text.place text.second.now).end ≡ Ok tt
+  second_ok = second_asked known text.place text.second.now second seconds
+
+  number_is : same_number (map_of tables.maps map.number).second text.second.now
+      ≡ same_number map.second second
+  number_is =
+      ap (λ (w : Option ℕ). same_number w text.second.now) (sym is.2)
+      ∙ same_numbers known map.second text.second.now second seconds
+
+  pub number_differs : same_number map.second second ≡ false
+      → (label_walk tables (names_of known) (map_label text)).end
+      ≡ Err (bad_label text.place text.name.now)
+  number_differs h =
+      number_wrong tables (names_of known) text.name.now text.first.now text.second.now text.place
+      map.number is.0 first_ok second_ok (number_is ∙ h)
+
+  module _ (number_ok : same_number map.second second ≡ true) where
+    pub first_misfits : (s : WalkStep)
+        → (ask (first.width == map.first) (bad_label text.place text.first.now)).end ≡ Err s
+        → (label_walk tables (names_of known) (map_label text)).end ≡ Err s
+    first_misfits s h =
+        width_stops tables (names_of known) text.name.now text.first.now text.second.now text.place
+        map.number is.0 first_ok second_ok (number_is ∙ number_ok) s
+        (ap (λ (w : ℕ). (ask (w == (map_of tables.maps map.number).first)
+        (bad_label text.place text.first.now)).end)
+        (selector_width known text.first.now first selects)
+        ∙ ap (λ (w : ℕ). (ask (first.width == w) (bad_label text.place text.first.now)).end)
+        (sym is.1) ∙ h)
+
+    module _ (fits : first.width ≡ map.first) where
+      width_ok : (width_of (bindings_of known text.first.now)
+          == (map_of tables.maps map.number).first) ≡ true
+      width_ok =
+          eq-eqb _ _ (selector_width known text.first.now first selects ∙ fits ∙ is.1)
+
+      pub second_misfits : (s : WalkStep)
+          → (second_fits (names_of known) text.place text.second.now map.second).end ≡ Err s
+          → (label_walk tables (names_of known) (map_label text)).end ≡ Err s
+      second_misfits s h =
+          second_width_stops tables (names_of known) text.name.now text.first.now text.second.now
+          text.place map.number is.0 first_ok second_ok (number_is ∙ number_ok) width_ok s
+          (ap (λ (w : Option ℕ).
+          (second_fits (names_of known) text.place text.second.now w).end) (sym is.2) ∙ h)
+
+      pub row_made : (second_fits (names_of known) text.place text.second.now map.second).end ≡
+          Ok tt
+          → (label_walk tables (names_of known) (map_label text)).end
+          ≡ Ok (Table map.number first.signal.0
+          (option_map (λ (s : KnownSignal). s.signal.0) second))
+      row_made h =
+          label_made tables (names_of known) text.name.now text.first.now text.second.now text.place
+          map.number is.0 first_ok second_ok (number_is ∙ number_ok) width_ok
+          (ap (λ (w : Option ℕ).
+          (second_fits (names_of known) text.place text.second.now w).end) (sym is.2) ∙ h)
+          ∙ ap (λ (k : ℕ).
+          Ok (Table map.number k (second_number (names_of known) text.second.now)))
+          (selector_number known text.first.now first selects)
+          ∙ ap (λ (o : Option ℕ). Ok (Table map.number first.signal.0 o))
+          (second_numbers known text.second.now second seconds)
 
 -- ---- a declaration's label
 

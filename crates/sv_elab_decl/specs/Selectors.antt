@@ -2,11 +2,13 @@
 use Rattle.std.specs.Prelude.{◌≡◌, ℕ, List, Option, Some, None, position}
 use Rattle.std.specs.Str.{bytes_eq}
 use Rattle.sv_lattice.specs.Labels.{map_of}
+use Rattle.sv_ast.specs.Tree.{LabelTree, table_label}
 use Rattle.sv_elab_rules.specs.LabelSteps.{SharedTables}
 use Rattle.sv_width.specs.declared.meanings.KnownSignal.{KnownSignal}
 use Rattle.sv_width.specs.declared.meanings.Meaning.TheVariants as meaning
 use Rattle.sv_width.specs.Scopes.{Known, meaning_of}
 use Rattle.sv_elab_decl.specs.declared.labelling.FoundMap.{FoundMap}
+use Rattle.sv_elab_decl.specs.declared.labelling.MapLabel.{MapLabel}
 
 -- the name stands for that signal
 abbrev pub IsSelector : Known → List ℕ → KnownSignal → Type 0
@@ -24,3 +26,7 @@ abbrev pub IsMapNamed : SharedTables → List ℕ → FoundMap → Type 0
 IsMapNamed tables n m = (position (bytes_eq n) tables.map_names ≡ Some m.number)
     × (m.first ≡ (map_of tables.maps m.number).first)
     × (m.second ≡ (map_of tables.maps m.number).second)
+
+-- a label by a map, as the grammar has it
+abbrev pub map_label : MapLabel → LabelTree
+map_label t = table_label t.name.now t.first.now t.second.now t.place

@@ -4,7 +4,7 @@ ghost use Rattle.std.specs.Prelude.{MatchOption, map, length, position, option_m
 ghost use Rattle.std.specs.Str.{bytes_eq};
 ghost use Rattle.sv_ast.specs.Instances.{is_signal};
 ghost use Rattle.sv_ast.specs.Parts.{declaration_of, declarations};
-ghost use Rattle.sv_ast.specs.Tree.{point_label, table_label};
+ghost use Rattle.sv_ast.specs.Tree.{point_label};
 ghost use Rattle.sv_ast.specs.Views.{declaration_tree, item_tree, label_tree, module_tree};
 ghost use Rattle.sv_flat.specs.Design.{SignalForm};
 ghost use Rattle.sv_flat.specs.Views.{signal_form};
@@ -16,7 +16,7 @@ ghost use Rattle.sv_elab_rules.specs.LabelSteps.{given_label, labels_walk};
 ghost use Rattle.sv_width.specs.Answers.{IsBreach};
 ghost use Rattle.sv_width.specs.Scopes.{Known, bindings_of, names_of};
 ghost use Rattle.sv_elab_decl.specs.Overridden.{declaration_trees};
-ghost use Rattle.sv_elab_decl.specs.Selectors.{IsSelector, IsSecond, IsMapNamed};
+ghost use Rattle.sv_elab_decl.specs.Selectors.{IsSelector, IsSecond, IsMapNamed, map_label};
 ghost use Rattle.sv_elab_decl.specs.Sites.{tables_of};
 
 use crate::sites::TextTables;
@@ -160,32 +160,38 @@ fn point_label(
     }
 }
 
+// A label by a map, as it is written: the names of the map and of its selectors, and the place.
+#[derive(Clone, Copy)]
+struct MapLabel<'a> {
+    name: &'a Name,
+    first: &'a Name,
+    second: &'a Option<Name>,
+    place: Place,
+}
+
 // The label by a map.
 fn table_label(
     alloc: Global,
     tables: &TextTables,
     scope: &Scope,
-    map: &Name,
-    first: &Name,
-    second: &Option<Name>,
-    place: Place,
+    text: &MapLabel,
 ) -> Result<Label, Fault>
     requires { length tables.now.maps.now.entries < 2 ^ 32 }
     ensures found { IfOk result (λ label. (label_walk (tables_of tables.now) (names_of scope.now)
-        (table_label map.now first.now second.now place)).end ≡ Ok label) }
+        (map_label text.now)).end ≡ Ok label) }
     ensures broken { IfErr result (IsBreach (label_walk (tables_of tables.now) (names_of scope.now)
-        (table_label map.now first.now second.now place)).end) }
+        (map_label text.now)).end) }
 {
-    let Some(found) = find_map(tables, map) else {
-        return Err(refusal_naming(alloc, Rule::Label, place, map));
+    let Some(found) = find_map(tables, text.name) else {
+        return Err(refusal_naming(alloc, Rule::Label, text.place, text.name));
     };
-    let first_signal = selector(alloc, scope, place, first)?;
-    let second_signal = optional_selector(alloc, scope, place, second)?;
+    let first_signal = selector(alloc, scope, text.place, text.first)?;
+    let second_signal = optional_selector(alloc, scope, text.place, text.second)?;
     if !same_number(found.second, second_signal) {
-        return Err(refusal_naming(alloc, Rule::Label, place, map));
+        return Err(refusal_naming(alloc, Rule::Label, text.place, text.name));
     }
-    fits(alloc, place, first, first_signal, found.first)?;
-    second_fits(alloc, place, second, second_signal, found.second)?;
+    fits(alloc, text.place, text.first, first_signal, found.first)?;
+    second_fits(alloc, text.place, text.second, second_signal, found.second)?;
     Ok(Label::Table {
         map: found.number,
         first: first_signal.signal.0,
@@ -219,8 +225,14 @@ fn label(
 {
     match text {
         LabelText::Point(name, place) => point_label(alloc, tables, name, *place),
-        LabelText::Table(map, first, second, place) => {
-            table_label(alloc, tables, scope, map, first, second, *place)
+        LabelText::Table(name, first, second, place) => {
+            let text = MapLabel {
+                name,
+                first,
+                second,
+                place: *place,
+            };
+            table_label(alloc, tables, scope, &text)
         }
     }
 }

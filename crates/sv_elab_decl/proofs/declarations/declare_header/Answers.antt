@@ -1,6 +1,4 @@
-use Rattle.std.proofs.Common.{◌≡◌, ◌+◌, ◌<◌, ◌≤◌, length, get_or, List, ◌++◌, Option, drop}
-use Rattle.std.proofs.Common.{map, subst, ap, sym, ◌∙◌}
-use Rattle.std.specs.List.{list_all}
+use Rattle.std.proofs.Common.{◌≡◌, ◌+◌, List, ◌++◌, Option, drop, map, subst, sym}
 use Rattle.std.proofs.lemmas.Result.{err_from_is_err_and}
 use Rattle.sv_num.specs.declared.faults.Refusal.{Refusal}
 use Rattle.sv_ast.specs.declared.declarations.Decl.{Decl}
@@ -17,7 +15,7 @@ use Rattle.sv_elab_decl.proofs.Headers.{Goes, goes_on, ports_more, port_stops, p
 use Rattle.sv_elab_decl.proofs.Headers.{ports_end}
 use Rattle.sv_elab_decl.proofs.SignalEnds.{is_ahead}
 use Rattle.sv_elab_decl.proofs.SiteLemmas.{shaped_ports}
-use Rattle.sv_elab_decl.proofs.Lists.{left_more, left_none, all_parts}
+use Rattle.sv_elab_decl.proofs.Lists.{more_listed, none_listed, rest_passes}
 use Rattle.sv_elab_decl.proofs.declarations.declare_header.Goals as goal
 
 pub returns-in_err-declare_param-clause-stopped : goal.returns-in_err-declare_param-clause-stopped
@@ -35,10 +33,8 @@ returns-in_err-declare_param-clause-stopped c =
     let ports = map declared (map declaration_tree m.ports.items) in
     let i = c.loop-param.param-index in
     let param = c.param-item.result in
-    let listed = c.deref-param-items.ensures.value in
-    let split = left_more m.params.items i param
-    (subst (λ (xs : List Param). i < length xs) listed c.loop-param-test.true)
-    (subst (λ (xs : List Param). param ≡ get_or xs i param) listed c.param-item.is) in
+    let split = more_listed m.params.items c.deref-param-items.result.now i param
+    c.deref-param-items.ensures.value c.loop-param-test.true c.param-item.is in
     let p = err_from_is_err_and c.from_residual.result c.from_residual.ensures.1 in
     rw (p.1, p.2)
     (parameter_stops base least s h d (parameter_tree param)
@@ -60,10 +56,8 @@ loop-param-preserved c =
     let ports = map declared (map declaration_tree m.ports.items) in
     let i = c.loop-param.param-index in
     let param = c.param-item.result in
-    let listed = c.deref-param-items.ensures.value in
-    let split = left_more m.params.items i param
-    (subst (λ (xs : List Param). i < length xs) listed c.loop-param-test.true)
-    (subst (λ (xs : List Param). param ≡ get_or xs i param) listed c.param-item.is) in
+    let split = more_listed m.params.items c.deref-param-items.result.now i param
+    c.deref-param-items.ensures.value c.loop-param-test.true c.param-item.is in
     record {
       headed =
           headed_more base least s nothing_declared all d c.declare_param.new.declared
@@ -75,12 +69,8 @@ loop-param-preserved c =
           c.in_ok-declare_param.ensures.found
           c.in_ok-declare_param.ensures.so_far;
       passed = c.loop-param.invariant.passed;
-      shaped =
-          (all_parts is_shaped_parameter (parameter_tree param)
-          (map parameter_tree (drop (i + 1) m.params.items))
-          (ap (λ (ps : List Param). list_all is_shaped_parameter (map parameter_tree ps))
-          (sym split)
-          ∙ c.loop-param.invariant.shaped)).1;
+      shaped = rest_passes is_shaped_parameter parameter_tree _ _ param split
+          c.loop-param.invariant.shaped;
     }
 
 pub loop-port-init : goal.loop-port-init
@@ -92,9 +82,8 @@ loop-port-init c =
     let all = header_items (module_tree m) in
     let d = c.loop-param.header.declared in
     let ports = map declared (map declaration_tree m.ports.items) in
-    let none = left_none m.params.items c.loop-param.param-index
-    (subst (λ (xs : List Param). length xs ≤ c.loop-param.param-index)
-    c.deref-param-items.ensures.value c.loop-param-test.false) in
+    let none = none_listed m.params.items c.deref-param-items.result.now c.loop-param.param-index
+    c.deref-param-items.ensures.value c.loop-param-test.false in
     let headed : Headed base least s nothing_declared all d ports =
     subst (λ (ps : List Param). Headed base least s nothing_declared all d
     (map parameter_item (map parameter_tree ps) ++ ports)) none c.loop-param.invariant.headed in
@@ -120,10 +109,8 @@ returns-in_err-over-clause-stopped c =
     } in
     let i = c.loop-port.port-index in
     let port = c.port-item.result in
-    let listed = c.deref-port-items.ensures.value in
-    let split = left_more m.ports.items i port (subst (λ (xs : List Decl).
-    i < length xs) listed c.loop-port-test.true)
-    (subst (λ (xs : List Decl). port ≡ get_or xs i port) listed c.port-item.is) in
+    let split = more_listed m.ports.items c.deref-port-items.result.now i port
+    c.deref-port-items.ensures.value c.loop-port-test.true c.port-item.is in
     let p = err_from_is_err_and c.from_residual-in_err-over.result
     c.from_residual-in_err-over.ensures.1 in
     rw (p.1, p.2)
@@ -147,10 +134,8 @@ loop-port-preserved c =
     let i = c.loop-port.port-index in
     let port = c.port-item.result in
     let left = map declared (map declaration_tree (drop (i + 1) m.ports.items)) in
-    let listed = c.deref-port-items.ensures.value in
-    let split = left_more m.ports.items i port (subst (λ (xs : List Decl).
-    i < length xs) listed c.loop-port-test.true)
-    (subst (λ (xs : List Decl). port ≡ get_or xs i port) listed c.port-item.is) in
+    let split = more_listed m.ports.items c.deref-port-items.result.now i port
+    c.deref-port-items.ensures.value c.loop-port-test.true c.port-item.is in
     let kept : new ≡ c.keep.new.self.declared = sym c.keep.ensures.declared in
     record {
       names = subst (λ (e : Declared). Ahead base least s nothing_declared all e.scope left) kept
@@ -168,12 +153,8 @@ loop-port-preserved c =
           (subst (λ (ps : List Decl). Goes base least s d (map declared (map declaration_tree ps))
           c.loop-port.header.broken) split c.loop-port.invariant.goes)
           c.in_ok-over.ensures.found c.in_ok-over.ensures.so_far));
-      shaped =
-          (all_parts is_shaped_declaration (declaration_tree port)
-          (map declaration_tree (drop (i + 1) m.ports.items))
-          (ap (λ (ps : List Decl). list_all is_shaped_declaration (map declaration_tree ps))
-          (sym split)
-          ∙ c.loop-port.invariant.shaped)).1;
+      shaped = rest_passes is_shaped_declaration declaration_tree _ _ port split
+          c.loop-port.invariant.shaped;
     }
 
 pub returns-clause-names : goal.returns-clause-names
@@ -184,9 +165,8 @@ returns-clause-names c =
     let m = c.args.site.now.master.now in
     let all = header_items (module_tree m) in
     let known = c.loop-port.header.declared.scope in
-    let none = left_none m.ports.items c.loop-port.port-index
-    (subst (λ (xs : List Decl). length xs ≤ c.loop-port.port-index) c.deref-port-items.ensures.value
-    c.loop-port-test.false) in
+    let none = none_listed m.ports.items c.deref-port-items.result.now c.loop-port.port-index
+    c.deref-port-items.ensures.value c.loop-port-test.false in
     ahead_ends base least s nothing_declared all known
     (subst (λ (ps : List Decl). Ahead base least s nothing_declared all known
     (map declared (map declaration_tree ps))) none c.loop-port.invariant.names)
@@ -198,9 +178,8 @@ returns-clause-ends c =
     let s = site_of c.args.site.now in
     let m = c.args.site.now.master.now in
     let d = c.loop-port.header.declared in
-    let none = left_none m.ports.items c.loop-port.port-index
-    (subst (λ (xs : List Decl). length xs ≤ c.loop-port.port-index) c.deref-port-items.ensures.value
-    c.loop-port-test.false) in
+    let none = none_listed m.ports.items c.deref-port-items.result.now c.loop-port.port-index
+    c.deref-port-items.ensures.value c.loop-port-test.false in
     ports_end base least s d c.loop-port.header.broken
     (subst (λ (ps : List Decl). Goes base least s d (map declared (map declaration_tree ps))
     c.loop-port.header.broken) none c.loop-port.invariant.goes)

@@ -2,7 +2,7 @@ use Rattle.std.proofs.Common.{◌≡◌, Some, None, sym, ap, ◌∙◌}
 use Rattle.std.specs.Prelude.{Result, Ok, Err, ◌==◌}
 use Rattle.std.proofs.Common.{eq-eqb}
 use Rattle.std.proofs.lemmas.Result.{on_ok_weaker}
-use Rattle.sv_elab_rules.specs.Walks.{WalkStep, ask}
+use Rattle.sv_elab_rules.specs.Walks.{ask}
 use Rattle.sv_elab_rules.specs.Rules.{bad_label}
 use Rattle.sv_elab_rules.specs.LabelSteps.{second_fits}
 use Rattle.sv_width.specs.Scopes.{names_of}

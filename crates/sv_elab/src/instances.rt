@@ -22,7 +22,7 @@ ghost use Rattle.sv_elab.specs.Instances.{nothing_built, top_site};
 ghost use Rattle.sv_elab.specs.Nests.{site_at};
 
 use crate::built::Built;
-use crate::links::add_links;
+use crate::links::{Ports, add_links};
 use crate::modules::module_named;
 use crate::nests::InstanceNest;
 use crate::processes::{add_always, add_assign, add_value};
@@ -61,7 +61,6 @@ impl Interior<'_> {
 // frame, since the walk calls itself for each instance in another.
 #[inline(never)]
 fn master_of<'a>(
-    alloc: Global,
     shared: &Shared<'a>,
     nest: &InstanceNest,
     inside: &Interior,
@@ -80,6 +79,7 @@ fn master_of<'a>(
         (IsBreach (master_walk (tables_of shared.now.tables) nest.now.around
         (taken_in inside.now) built.now.instances (instance_tree instance.now)).end) }
 {
+    let alloc = shared.alloc;
     let Some(master) = module_named(shared.tables.modules, shared.names, &instance.module) else {
         return Err(refusal_naming(alloc, Rule::UnknownModule, instance.place, &instance.module));
     };
@@ -118,15 +118,8 @@ fn linked(
         (link_trees links.now)).end) }
 {
     let Header { declared, broken } = header(alloc, tables, site)?;
-    add_links(
-        alloc,
-        outer,
-        site.master,
-        site.base,
-        &declared.scope,
-        links,
-        processes,
-    )?;
+    let ports = Ports::of(alloc, site.base, site.master, &declared.scope)?;
+    add_links(alloc, outer, ports, links, processes)?;
     match broken {
         Some(refusal) => Err(Fault::Rule(refusal)),
         None => Ok(declared),
@@ -180,7 +173,6 @@ fn opened(
 // frame, as that of `master_of`.
 #[inline(never)]
 fn set_up(
-    alloc: Global,
     shared: &Shared,
     outer: &Scope,
     nest: &InstanceNest,
@@ -200,6 +192,7 @@ fn set_up(
         (names_of outer.now) nest.now.path (module_tree master.now) (built_form built.old)
         (instance_tree instance.now)).end) }
 {
+    let alloc = shared.alloc;
     let tables = &shared.tables;
     let set = overrides(alloc, outer, master, &instance.overrides)?;
     let site = Site {
@@ -217,7 +210,6 @@ fn set_up(
 // The same in a box, so that the walk, which calls itself in this instance, holds little of it.
 #[inline(never)]
 fn set_up_in_box(
-    alloc: Global,
     shared: &Shared,
     outer: &Scope,
     nest: &InstanceNest,
@@ -237,14 +229,13 @@ fn set_up_in_box(
         (names_of outer.now) nest.now.path (module_tree master.now) (built_form built.old)
         (instance_tree instance.now)).end) }
 {
-    let scope = set_up(alloc, shared, outer, nest, master, instance, built)?;
-    Ok(Box::new(alloc, scope)?)
+    let scope = set_up(shared, outer, nest, master, instance, built)?;
+    Ok(Box::new(shared.alloc, scope)?)
 }
 
 // Walks the items of an instance in textual order, with at most so many levels of instances in it.
 #[cycle(instances)]
 fn add_items(
-    alloc: Global,
     shared: &Shared,
     nest: &mut InstanceNest,
     scope: &Scope,
@@ -269,10 +260,10 @@ fn add_items(
 {
     let mut inside = Interior {
         scope,
-        instances: IndexSet::new(alloc),
+        instances: IndexSet::new(shared.alloc),
     };
     for item in items {
-        add_item(alloc, shared, nest, &mut inside, item, built, levels)?;
+        add_item(shared, nest, &mut inside, item, built, levels)?;
     }
     Ok(())
 }
@@ -282,7 +273,6 @@ fn add_items(
 #[tactic(auto, unfolding(sv_elab_rules::specs::InstanceSteps::item_walk))]
 #[cycle(instances)]
 fn add_item(
-    alloc: Global,
     shared: &Shared,
     nest: &mut InstanceNest,
     inside: &mut Interior,
@@ -303,6 +293,7 @@ fn add_item(
     ensures broken { IfErr result (IsBreach (item_end levels shared.now nest.old inside.old
         built.old (item_tree item.now))) }
 {
+    let alloc = shared.alloc;
     match item {
         Item::Decl(decl) => add_value(alloc, decl, inside.scope, built),
         Item::Assign {
@@ -314,7 +305,7 @@ fn add_item(
             add_always(alloc, *place, clock.as_ref(), body, inside.scope, built)
         }
         Item::Instance(instance) => {
-            add_instance(alloc, shared, nest, inside, instance, built, levels)
+            add_instance(shared, nest, inside, instance, built, levels)
         }
         Item::Param(_) | Item::Memory(_) | Item::Release { .. } | Item::Invariant(..) => Ok(()),
     }
@@ -323,7 +314,6 @@ fn add_item(
 // One instance with all that it holds.
 #[cycle(instances)]
 fn add_instance(
-    alloc: Global,
     shared: &Shared,
     nest: &mut InstanceNest,
     inside: &mut Interior,
@@ -344,19 +334,11 @@ fn add_instance(
     ensures broken { IfErr result (IsBreach (instance_end levels shared.now nest.old inside.old
         built.old (instance_tree instance.now))) }
 {
-    let master = master_of(alloc, shared, nest, inside, built, instance)?;
-    add_name(alloc, &mut inside.instances, &instance.name)?;
-    nest.enter(alloc, &instance.name, &instance.module)?;
-    let scope = set_up_in_box(alloc, shared, inside.scope, nest, master, instance, built)?;
-    add_items(
-        alloc,
-        shared,
-        nest,
-        &scope,
-        &master.items,
-        built,
-        levels - 1,
-    )?;
+    let master = master_of(shared, nest, inside, built, instance)?;
+    add_name(shared.alloc, &mut inside.instances, &instance.name)?;
+    nest.enter(shared.alloc, &instance.name, &instance.module)?;
+    let scope = set_up_in_box(shared, inside.scope, nest, master, instance, built)?;
+    add_items(shared, nest, &scope, &master.items, built, levels - 1)?;
     nest.leave();
     Ok(())
 }
@@ -364,7 +346,6 @@ fn add_instance(
 // The top up to its items: adds its signals with their labels, and answers what its names stand
 // for.
 fn set_up_top(
-    alloc: Global,
     shared: &Shared,
     nest: &InstanceNest,
     master: &Module,
@@ -380,6 +361,7 @@ fn set_up_top(
     ensures broken { IfErr result (IsBreach (opened_walk (tables_of shared.now.tables)
         (top_site (module_tree master.now)) nothing_built).end) }
 {
+    let alloc = shared.alloc;
     let set = IndexMap::new(alloc);
     let site = Site {
         path: nest.path(),
@@ -392,7 +374,7 @@ fn set_up_top(
 }
 
 // Adds the signals and processes of the top and of all instances in it.
-fn add_top(alloc: Global, shared: &Shared, master: &Module, built: &mut Built) -> Result<(), Fault>
+fn add_top(shared: &Shared, master: &Module, built: &mut Built) -> Result<(), Fault>
     requires ready { IsReady shared.now }
     requires shaped { IsTrue (is_shaped_module (module_tree master.now)) }
     requires first { built_form built.old ≡ nothing_built }
@@ -401,23 +383,15 @@ fn add_top(alloc: Global, shared: &Shared, master: &Module, built: &mut Built) -
     ensures broken { IfErr result
         (IsBreach (top_walk (tables_of shared.now.tables) (module_tree master.now)).end) }
 {
-    let mut nest = InstanceNest::top(alloc, &master.name)?;
-    let scope = set_up_top(alloc, shared, &nest, master, built)?;
+    let mut nest = InstanceNest::top(shared.alloc, &master.name)?;
+    let scope = set_up_top(shared, &nest, master, built)?;
     let items = &master.items;
-    add_items(
-        alloc,
-        shared,
-        &mut nest,
-        &scope,
-        items,
-        built,
-        MOST_INSTANCES,
-    )?;
+    add_items(shared, &mut nest, &scope, items, built, MOST_INSTANCES)?;
     Ok(())
 }
 
 /// The signals and processes of the top and of all instances in it, in the order of the walk.
-pub fn top_instance(alloc: Global, shared: &Shared, master: &Module) -> Result<Built, Fault>
+pub fn top_instance(shared: &Shared, master: &Module) -> Result<Built, Fault>
     requires ready { IsReady shared.now }
     requires shaped { IsTrue (is_shaped_module (module_tree master.now)) }
     ensures found { IfOk result (λ built.
@@ -427,10 +401,10 @@ pub fn top_instance(alloc: Global, shared: &Shared, master: &Module) -> Result<B
         (IsBreach (top_walk (tables_of shared.now.tables) (module_tree master.now)).end) }
 {
     let mut built = Built {
-        signals: Vec::new(alloc),
-        processes: Vec::new(alloc),
+        signals: Vec::new(shared.alloc),
+        processes: Vec::new(shared.alloc),
         instances: 1,
     };
-    add_top(alloc, shared, master, &mut built)?;
+    add_top(shared, master, &mut built)?;
     Ok(built)
 }

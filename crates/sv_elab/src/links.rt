@@ -76,7 +76,28 @@ fn signal_at(base: usize, place: usize) -> Result<SigId, OutOfMemory>
     }
 }
 
-impl Ports<'_> {
+impl<'a> Ports<'a> {
+    /// The ports of an instance of the module, whose signals stand behind so many others. The scope
+    /// is that of the declarations in its header, as far as they break no rule.
+    pub fn of(
+        alloc: Global,
+        base: usize,
+        master: &'a Module,
+        scope: &'a Scope,
+    ) -> Result<Ports<'a>, OutOfMemory>
+        ensures places { IfOk result (λ ports. HavePlaces ports) }
+        ensures form { IfOk result (λ ports.
+            ports_form ports ≡ ports_with base (module_tree master.now) scope.now) }
+    {
+        let places = first_places(alloc, &master.ports)?;
+        Ok(Ports {
+            base,
+            master,
+            places,
+            scope,
+        })
+    }
+
     // The signal of a port.
     fn signal(&self, name: &Name) -> Result<SigId, OutOfMemory>
         requires { HavePlaces self.now }
@@ -282,34 +303,24 @@ fn add_ordered(
     Ok(())
 }
 
-/// Adds the processes of the links of an instance of the module, whose signals stand behind so many
-/// others. The outer scope is that of the module around it, the inner one that of the declarations
-/// in its header, as far as they break no rule. Rule 313 refuses an unknown port, a port linked
-/// twice, more links than ports, and an output linked to another expression than a signal's name.
+/// Adds the processes of the links of an instance with these ports. The outer scope is that of the
+/// module around it. Rule 313 refuses an unknown port, a port linked twice, more links than ports,
+/// and an output linked to another expression than a signal's name.
 pub fn add_links(
     alloc: Global,
     outer: &Scope,
-    master: &Module,
-    base: usize,
-    inner: &Scope,
+    ports: Ports,
     links: &Links,
     processes: &mut Vec<Process>,
 ) -> Result<(), Fault>
-    requires { IsTrue (are_shaped_links (link_trees links.now)) }
-    ensures found { OnOk result ((links_walk (names_of outer.now)
-        (ports_with base (module_tree master.now) inner.now)
+    requires places { HavePlaces ports }
+    requires shaped { IsTrue (are_shaped_links (link_trees links.now)) }
+    ensures found { OnOk result ((links_walk (names_of outer.now) (ports_form ports)
         (map process_form processes.old.items) (link_trees links.now)).end
         ≡ Ok (map process_form processes.new.items)) }
-    ensures broken { IfErr result (IsBreach (links_walk (names_of outer.now)
-        (ports_with base (module_tree master.now) inner.now)
+    ensures broken { IfErr result (IsBreach (links_walk (names_of outer.now) (ports_form ports)
         (map process_form processes.old.items) (link_trees links.now)).end) }
 {
-    let ports = Ports {
-        base,
-        master,
-        places: first_places(alloc, &master.ports)?,
-        scope: inner,
-    };
     match links {
         Links::Named(links) => add_named(alloc, outer, &ports, links, processes),
         Links::Ordered(exprs) => add_ordered(alloc, outer, &ports, exprs, processes),

@@ -85,6 +85,7 @@ fn built_under(
     let names = module_names(alloc, &text.modules)?;
     let master = top_module(alloc, &text.modules, &names, top)?;
     let shared = Shared {
+        alloc,
         tables: TextTables {
             modules: &text.modules,
             points: points.names(),
@@ -93,7 +94,7 @@ fn built_under(
         },
         names: &names,
     };
-    top_instance(alloc, &shared, master)
+    top_instance(&shared, master)
 }
 
 // As `elaborate`, with the name of the module that is asked for.

@@ -1,4 +1,4 @@
-use Rattle.std.proofs.Common.{map, ap, ◌∙◌}
+use Rattle.std.proofs.Common.{map, sym, ap, ◌∙◌}
 use Rattle.std.proofs.lemmas.Result.{err_from_is_err_and}
 use Rattle.sv_ast.specs.Views.{link_trees}
 use Rattle.sv_flat.specs.Views.{process_form}
@@ -19,7 +19,8 @@ returns-in_err-add_links-clause-broken c =
     let ps = map process_form c.args.processes.now.items in
     let ls = link_trees c.args.links.now in
     let d = c.in_ok-declared.field-0.declared in
-    let ported = ports_are base least site d.scope c.in_ok-declared.ensures.names in
+    let ported = ports_are base least site d.scope c.in_ok-declared.ensures.names
+    ∙ sym c.in_ok-ports.ensures.form in
     let p = err_from_is_err_and c.from_residual-in_err-add_links.result
     c.from_residual-in_err-add_links.ensures.1 in
     rw (p.1, p.2)
@@ -37,7 +38,8 @@ returns-in-Some-clause-broken c =
     let ps = map process_form c.args.processes.now.items in
     let ls = link_trees c.args.links.now in
     let d = c.in_ok-declared.field-0.declared in
-    let ported = ports_are base least site d.scope c.in_ok-declared.ensures.names in
+    let ported = ports_are base least site d.scope c.in_ok-declared.ensures.names
+    ∙ sym c.in_ok-ports.ensures.form in
     let ends = rw c.in-Some.is at c.in_ok-declared.ensures.ends in
     header_broken outer least site base ps ls (map process_form c.add_links.new.processes.items)
     (ap (λ (k : Ports). (links_walk outer k ps ls).end) ported
@@ -52,5 +54,6 @@ returns-in-None-clause-found c =
     let ps = map process_form c.args.processes.now.items in
     let ls = link_trees c.args.links.now in
     let d = c.in_ok-declared.field-0.declared in
-    let ported = ports_are base least site d.scope c.in_ok-declared.ensures.names in
+    let ported = ports_are base least site d.scope c.in_ok-declared.ensures.names
+    ∙ sym c.in_ok-ports.ensures.form in
     ap (λ (k : Ports). (links_walk outer k ps ls).end) ported ∙ c.in_ok-add_links.ensures.found

@@ -39,7 +39,8 @@ use Rattle.sv_elab_stmt.proofs.WalkFacts.{block_push, statements_none, statement
 use Rattle.sv_elab_stmt.proofs.WalkFacts.{statements_broken}
 use Rattle.sv_elab_stmt.proofs.CaseWalks.{trees_length, case_shape, own_items, passed_arms}
 use Rattle.sv_elab_stmt.proofs.CaseWalks.{common_type_is, case_unasked, case_undivided}
-use Rattle.sv_elab_stmt.proofs.CaseWalks.{selector_found, case_unarmed, case_found, if_unasked, if_unwalked, if_found}
+use Rattle.sv_elab_stmt.proofs.CaseWalks.{selector_found, case_unarmed, case_found, if_unasked}
+use Rattle.sv_elab_stmt.proofs.CaseWalks.{if_unwalked, if_found}
 use Rattle.sv_elab_stmt.proofs.CaseWalks.{else_unasked, else_unwalked, else_broken, else_found}
 use Rattle.sv_elab_stmt.proofs.statements.+statements.Goals as goal
 

@@ -4,12 +4,14 @@ use Rattle.std.proofs.Common.{length, map, Option, Some, None, refl, sym, ap, �
 use Rattle.std.specs.Prelude.{Result, Ok, Err, nat_lt}
 use Rattle.std.specs.List.{list_any}
 use Rattle.std.specs.Str.{bytes_eq}
+use Rattle.sv_ast.specs.declared.modules.Item.{Item}
 use Rattle.sv_ast.specs.Scopes.{Binding, Number}
 use Rattle.sv_ast.specs.Tree.{InstanceTree, ItemTree, parameter_item, declared, memory_item}
 use Rattle.sv_ast.specs.Tree.{continuous, released, always_item, invariant_item, instance_item}
 use Rattle.sv_ast.specs.Tree.{ModuleTree}
 use Rattle.sv_ast.specs.Instances.{entry, all_items, module_named}
 use Rattle.sv_ast.specs.Parts.{declarations, most_levels}
+use Rattle.sv_ast.specs.Views.{item_tree}
 use Rattle.sv_flat.specs.Design.{SignalForm, ProcessForm}
 use Rattle.sv_elab_rules.specs.Walks.{WalkStep, Walk, ask, done, found, then_walk, ◌>>=◌}
 use Rattle.sv_elab_rules.specs.Rules.{unknown_module, twice, recursive, too_many}
@@ -23,10 +25,12 @@ use Rattle.sv_elab_rules.specs.InstanceSteps.{items_from, module_walk, site_walk
 use Rattle.sv_elab_rules.specs.Texts.{top_walk}
 use Rattle.sv_elab_rules.proofs.WalkLemmas.{end_after, end_broken, joined_ends}
 use Rattle.sv_elab_rules.proofs.DeclarationLemmas.{declared_in_two}
+use Rattle.sv_width.specs.Scopes as scopes
+use Rattle.sv_width.specs.Scopes.{Known}
 use Rattle.sv_elab_decl.specs.Sites.{SameSite, header_items}
 use Rattle.sv_elab_decl.proofs.SameSites.{same_walk, same_until}
 use Rattle.sv_elab.specs.Instances.{master_walk, set_up_walk, Opened, opened_walk, nothing_built}
-use Rattle.sv_elab.specs.Instances.{top_site}
+use Rattle.sv_elab.specs.Instances.{top_site, opened, declared_names}
 use Rattle.sv_elab.specs.Nests.{InstanceNesting, entered, site_at}
 
 -- ---- the walk of items asks of a site where it stands alone
@@ -331,6 +335,23 @@ module _ (tables : SharedTables) (names : Names) (taken : List (List ℕ)) (buil
     unfolding the_walk own_items
     instance_ends o h =
         whole ∙ end_after (set_up_walk tables names path m built i) own_items o h
+
+    -- the same with the nest, the names and the items as the code has them
+    pub instance_ends_at : (known boxed : Known) (after : Built) (inside : InstanceNesting)
+        (items : List Item)
+        → known ≡ boxed → inside ≡ entered nest i.name i.master → map item_tree items ≡ m.items
+        → (set_up_walk tables names path m built i).end ≡ Ok (opened boxed after)
+        → (instance_walk (site_walk n tables) tables (site_at nest) names taken built i).end
+        ≡ (items_from (site_walk levels tables) tables (site_at inside) (scopes.names_of known)
+        (declared_names known) after (map item_tree items)).end
+    instance_ends_at known boxed after inside items same enters listed h =
+        instance_ends (opened known after) (h ∙ ap (λ (k : Known). Ok (opened k after)) (sym same))
+        ∙ ap (λ (k : InstanceNesting).
+        (items_from (site_walk levels tables) tables (site_at k) (scopes.names_of known)
+        (declared_names known) after m.items).end) (sym enters)
+        ∙ ap (λ (xs : List ItemTree).
+        (items_from (site_walk levels tables) tables (site_at inside) (scopes.names_of known)
+        (declared_names known) after xs).end) (sym listed)
 
 -- ---- the top
 

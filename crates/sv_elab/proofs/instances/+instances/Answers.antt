@@ -1,6 +1,5 @@
 use Rattle.std.proofs.Common.{◌≡◌, ℕ, suc, ◌+◌, ◌-◌, List, ◌++◌, map}
 use Rattle.std.proofs.Common.{drop, refl, sym, ap, ◌∙◌, arith}
-use Rattle.std.specs.Prelude.{Ok}
 use Rattle.std.specs.List.{list_all}
 use Rattle.std.proofs.lemmas.Bool.{and_parts}
 use Rattle.std.proofs.lemmas.List.{append-nil}
@@ -10,10 +9,10 @@ use Rattle.sv_ast.specs.Views.{instance_tree, item_tree, module_tree}
 use Rattle.sv_elab_rules.specs.InstanceSteps.{item_walk, items_from, site_walk}
 use Rattle.sv_width.specs.Scopes.{Known, names_of}
 use Rattle.sv_elab_decl.specs.Sites.{tables_of}
-use Rattle.sv_elab.specs.Instances.{Opened, built_form, declared_names, taken_in, opened}
+use Rattle.sv_elab.specs.Instances.{built_form, declared_names, taken_in}
 use Rattle.sv_elab.specs.Nests.{InstanceNesting, site_at}
 use Rattle.sv_elab.proofs.DeclaredLattices.{breach_on}
-use Rattle.sv_elab.proofs.InstanceEnds.{master_broken, set_up_broken, instance_ends}
+use Rattle.sv_elab.proofs.InstanceEnds.{master_broken, set_up_broken, instance_ends_at}
 use Rattle.sv_elab.proofs.InstanceCode.{items_shaped, items_none}
 use Rattle.sv_elab.proofs.InstanceCode.{items_more, items_broken, name_free, name_taken}
 use Rattle.sv_elab.proofs.NameLemmas.{left_more, left_none}
@@ -69,26 +68,16 @@ add_instance-add_items-requires t c = (
 pub add_instance-returns-in_err-add_items-clause-broken :
     goal.add_instance-returns-in_err-add_items-clause-broken
 add_instance-returns-in_err-add_items-clause-broken t c =
-    let tables = tables_of c.args.shared.now.tables in
-    let names = names_of c.args.inside.now.scope.now in
-    let taken = taken_in c.args.inside.now in
-    let built = built_form c.args.built.now in
-    let i = instance_tree c.args.instance.now in
-    let nest = c.args.nest.now in
     let n = c.args.levels in
-    let m = module_tree c.in_ok-master.master.now in
-    let master = c.in_ok-master.ensures.found in
     let fewer : n ≡ suc (n - 1) = omega (arith, c.requires.room, c.in_ok-master.ensures.few) in
-    let there = sym (ap (λ (k : InstanceNesting). k.path) c.in_ok-enter.ensures) in
-    let o : Opened = opened c.deref.result.now (built_form c.set_up_in_box.new.built) in
-    let to_items = instance_ends tables names taken built i nest n m master (n - 1) fewer _ there o
-    (c.in_ok-scope.ensures.found
-    ∙ ap (λ scope. Ok (opened scope (built_form c.set_up_in_box.new.built))) (sym c.deref.ensures))
-    ∙ ap (λ (k : InstanceNesting).
-    (items_from (site_walk (n - 1) tables) tables (site_at k) o.names o.taken o.built
-    m.items).end) (sym c.in_ok-enter.ensures)
-    ∙ ap (λ xs. (items_from (site_walk (n - 1) tables) tables (site_at c.enter.new.self) o.names
-    o.taken o.built (map item_tree xs)).end) (sym c.deref-2.ensures.value) in
+    let to_items = instance_ends_at (tables_of c.args.shared.now.tables)
+    (names_of c.args.inside.now.scope.now) (taken_in c.args.inside.now)
+    (built_form c.args.built.now) (instance_tree c.args.instance.now) c.args.nest.now n
+    (module_tree c.in_ok-master.master.now) c.in_ok-master.ensures.found (n - 1) fewer _
+    (sym (ap (λ (k : InstanceNesting). k.path) c.in_ok-enter.ensures))
+    c.deref.result.now c.in_ok-scope.scope.value (built_form c.set_up_in_box.new.built)
+    c.enter.new.self c.deref-2.result.now c.deref.ensures c.in_ok-enter.ensures
+    (ap (map item_tree) c.deref-2.ensures.value) c.in_ok-scope.ensures.found in
     let p = err_from_is_err_and c.from_residual-in_err-add_items.result
     c.from_residual-in_err-add_items.ensures.1 in
     rw (p.1, p.2) (breach_on c.in_err-add_items.field-0.0 _ _ (λ s h.
@@ -96,27 +85,17 @@ add_instance-returns-in_err-add_items-clause-broken t c =
 
 pub add_instance-returns-clause-found : goal.add_instance-returns-clause-found
 add_instance-returns-clause-found t c =
-    let tables = tables_of c.args.shared.now.tables in
-    let names = names_of c.args.inside.now.scope.now in
-    let taken = taken_in c.args.inside.now in
-    let built = built_form c.args.built.now in
-    let i = instance_tree c.args.instance.now in
-    let nest = c.args.nest.now in
     let n = c.args.levels in
-    let m = module_tree c.in_ok-master.master.now in
-    let master = c.in_ok-master.ensures.found in
     let fewer : n ≡ suc (n - 1) = omega (arith, c.requires.room, c.in_ok-master.ensures.few) in
-    let there = sym (ap (λ (k : InstanceNesting). k.path) c.in_ok-enter.ensures) in
-    let o : Opened = opened c.deref.result.now (built_form c.set_up_in_box.new.built) in
-    let to_items = instance_ends tables names taken built i nest n m master (n - 1) fewer _ there o
-    (c.in_ok-scope.ensures.found
-    ∙ ap (λ scope. Ok (opened scope (built_form c.set_up_in_box.new.built))) (sym c.deref.ensures))
-    ∙ ap (λ (k : InstanceNesting).
-    (items_from (site_walk (n - 1) tables) tables (site_at k) o.names o.taken o.built
-    m.items).end) (sym c.in_ok-enter.ensures)
-    ∙ ap (λ xs. (items_from (site_walk (n - 1) tables) tables (site_at c.enter.new.self) o.names
-    o.taken o.built (map item_tree xs)).end) (sym c.deref-2.ensures.value) in
-    to_items ∙ c.in_ok-add_items.ensures.found
+    instance_ends_at (tables_of c.args.shared.now.tables)
+    (names_of c.args.inside.now.scope.now) (taken_in c.args.inside.now)
+    (built_form c.args.built.now) (instance_tree c.args.instance.now) c.args.nest.now n
+    (module_tree c.in_ok-master.master.now) c.in_ok-master.ensures.found (n - 1) fewer _
+    (sym (ap (λ (k : InstanceNesting). k.path) c.in_ok-enter.ensures))
+    c.deref.result.now c.in_ok-scope.scope.value (built_form c.set_up_in_box.new.built)
+    c.enter.new.self c.deref-2.result.now c.deref.ensures c.in_ok-enter.ensures
+    (ap (map item_tree) c.deref-2.ensures.value) c.in_ok-scope.ensures.found
+    ∙ c.in_ok-add_items.ensures.found
 
 pub add_instance-returns-clause-nest : goal.add_instance-returns-clause-nest
 add_instance-returns-clause-nest t c =

@@ -13,25 +13,34 @@ use Rattle.sv_elab.specs.Instances.{Opened, opened_walk, nothing_built, top_site
 use Rattle.sv_elab.proofs.DeclaredLattices.{breach_on}
 use Rattle.sv_elab.proofs.InstanceEnds.{header_stops, opened_same}
 use Rattle.sv_elab.proofs.instances.set_up_top.Goals as goal
+use Rattle.sv_elab.proofs.instances.set_up_top.Goals.{After-path}
+
+-- the site that the code has
+abbrev there : After-path → Site
+there c = record {
+  path = c.path.result.now;
+  around = [];
+  master = module_tree c.args.master.now;
+  set = settings_of c.new-set.result.entries;
+}
+
+-- it sets nothing, as that of the walk
+same : (c : After-path) → SameSite (top_site (module_tree c.args.master.now)) (there c)
+same c = record {
+  path = sym (c.path.ensures ∙ c.requires.top);
+  master = refl;
+  set = λ n. ap (λ es. entry (settings_of es) n) (sym c.new-set.ensures.empty);
+}
 
 pub returns-in_err-declared-clause-broken : goal.returns-in_err-declared-clause-broken
 returns-in_err-declared-clause-broken c =
+    let a = (goal.at.returns-in_err-declared-clause-broken c).After-path in
     let tables = tables_of c.args.shared.now.tables in
     let m = module_tree c.args.master.now in
-    let there : Site = record {
-      path = c.path.result.now;
-      around = [];
-      master = m;
-      set = settings_of c.new-set.result.entries;
-    } in
-    let same : SameSite (top_site m) there = record {
-      path = sym (c.path.ensures ∙ c.requires.top);
-      master = refl;
-      set = λ n. ap (λ es. entry (settings_of es) n) (sym c.new-set.ensures.empty);
-    } in
     let p = err_from_is_err_and c.from_residual.result c.from_residual.ensures.1 in
     rw (p.1, p.2) (breach_on c.in_err-declared.field-0.0 _ _
-    (header_stops tables (top_site m) there same nothing_built) c.in_err-declared.ensures.broken)
+    (header_stops tables (top_site m) (there a) (same a) nothing_built)
+    c.in_err-declared.ensures.broken)
 
 pub opened-requires-clause-base : goal.opened-requires-clause-base
 opened-requires-clause-base c =
@@ -40,41 +49,21 @@ opened-requires-clause-base c =
 
 pub returns-clause-found : goal.returns-clause-found
 returns-clause-found c =
+    let a = (goal.at.returns-clause-found c).After-path in
     let tables = tables_of c.args.shared.now.tables in
     let m = module_tree c.args.master.now in
-    let there : Site = record {
-      path = c.path.result.now;
-      around = [];
-      master = m;
-      set = settings_of c.new-set.result.entries;
-    } in
-    let same : SameSite (top_site m) there = record {
-      path = sym (c.path.ensures ∙ c.requires.top);
-      master = refl;
-      set = λ n. ap (λ es. entry (settings_of es) n) (sym c.new-set.ensures.empty);
-    } in
-    let from = ap (λ (w : Walk Opened). w.end) (opened_same tables (top_site m) there same
-    nothing_built)
-    ∙ ap (λ (b : Built). (opened_walk tables there b).end) (sym c.requires.first) in
+    let from = ap (λ (w : Walk Opened). w.end) (opened_same tables (top_site m) (there a)
+    (same a) nothing_built)
+    ∙ ap (λ (b : Built). (opened_walk tables (there a) b).end) (sym c.requires.first) in
     ok_weaker c.opened.result _ _ (λ o h. from ∙ h) c.opened.ensures.found
 
 pub returns-clause-broken : goal.returns-clause-broken
 returns-clause-broken c =
+    let a = (goal.at.returns-clause-broken c).After-path in
     let tables = tables_of c.args.shared.now.tables in
     let m = module_tree c.args.master.now in
-    let there : Site = record {
-      path = c.path.result.now;
-      around = [];
-      master = m;
-      set = settings_of c.new-set.result.entries;
-    } in
-    let same : SameSite (top_site m) there = record {
-      path = sym (c.path.ensures ∙ c.requires.top);
-      master = refl;
-      set = λ n. ap (λ es. entry (settings_of es) n) (sym c.new-set.ensures.empty);
-    } in
-    let from = ap (λ (w : Walk Opened). w.end) (opened_same tables (top_site m) there same
-    nothing_built)
-    ∙ ap (λ (b : Built). (opened_walk tables there b).end) (sym c.requires.first) in
+    let from = ap (λ (w : Walk Opened). w.end) (opened_same tables (top_site m) (there a)
+    (same a) nothing_built)
+    ∙ ap (λ (b : Built). (opened_walk tables (there a) b).end) (sym c.requires.first) in
     err_weaker c.opened.result _ _ (λ f h. breach_on f _ _ (λ s e. from ∙ e) h)
     c.opened.ensures.broken

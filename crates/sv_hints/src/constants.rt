@@ -39,13 +39,21 @@ pub fn place_of(expr: &Expr) -> Place {
 
 // Whether an instance of the module sets a parameter.
 fn is_overridden(text: &Text, module: &Module) -> bool {
-    text.modules
-        .iter()
-        .any(|around| sets_parameter(around, module.name.bytes()))
+    for around in &text.modules {
+        if sets_parameter(around, module.name.bytes()) {
+            return true;
+        }
+    }
+    false
 }
 
 fn sets_parameter(around: &Module, name: &[u8]) -> bool {
-    around.items.iter().any(|item| overrides(item, name))
+    for item in &around.items {
+        if overrides(item, name) {
+            return true;
+        }
+    }
+    false
 }
 
 fn overrides(item: &Item, name: &[u8]) -> bool {
@@ -72,16 +80,28 @@ impl<'t> Constants<'t> {
             known: Vec::new(alloc),
         };
         if !is_overridden(text, module) {
-            for param in &module.params {
-                constants.add(param)?;
-            }
-            for item in &module.items {
-                if let Item::Param(param) = item {
-                    constants.add(param)?;
-                }
-            }
+            constants.add_header(&module.params)?;
+            constants.add_items(&module.items)?;
         }
         Ok(constants)
+    }
+
+    // Adds the parameters of a header.
+    fn add_header(&mut self, params: &'t [Param]) -> Result<(), AllocError> {
+        for param in params {
+            self.add(param)?;
+        }
+        Ok(())
+    }
+
+    // Adds the parameters among items.
+    fn add_items(&mut self, items: &'t [Item]) -> Result<(), AllocError> {
+        for item in items {
+            if let Item::Param(param) = item {
+                self.add(param)?;
+            }
+        }
+        Ok(())
     }
 
     // Adds a parameter, where its value is known and its type is that of the value.

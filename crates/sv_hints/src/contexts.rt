@@ -88,13 +88,14 @@ pub fn last_open(text: &[u8], tokens: &[Token]) -> Option<usize> {
 
 /// The bytes of the token of a number; none where there is no such token.
 pub fn bytes_at<'a>(text: &'a [u8], tokens: &[Token], number: Option<usize>) -> &'a [u8] {
-    match number {
-        Some(number) => match tokens.get(number) {
-            Some(token) => bytes_of(text, token),
-            None => b"",
-        },
+    match token_at(tokens, number) {
+        Some(token) => bytes_of(text, token),
         None => b"",
     }
+}
+
+fn token_at(tokens: &[Token], number: Option<usize>) -> Option<&Token> {
+    tokens.get(number?)
 }
 
 // The token so many before the one of a number.
@@ -144,52 +145,70 @@ pub fn opens_selectors(text: &[u8], tokens: &[Token], number: usize) -> bool {
 /// Whether the parenthesis of a number opens a list, of ports, parameters, links or selectors, and
 /// no single expression.
 pub fn opens_list(text: &[u8], tokens: &[Token], number: usize) -> bool {
-    match bytes_at(text, tokens, number.checked_sub(1)) {
-        b"#" | b")" => true,
-        _ => {
-            matches!(kind_before(tokens, number, 1), Some(TokenKind::Name))
-                && bytes_at(text, tokens, number.checked_sub(2)) != b".".as_slice()
-        }
-    }
+    let last = bytes_at(text, tokens, number.checked_sub(1));
+    is_among(last, &[b"#", b")"])
+        || matches!(kind_before(tokens, number, 1), Some(TokenKind::Name))
+            && bytes_at(text, tokens, number.checked_sub(2)) != b".".as_slice()
+}
+
+// Where a text stands in a declaration of signals: in the header of a module, where further ones may
+// follow, and in one.
+#[derive(Clone, Copy)]
+struct Declaring {
+    is_header: bool,
+    declares: bool,
 }
 
 /// Whether a declaration of signals goes on behind these tokens: a port's, a `wire`'s or a `reg`'s,
 /// up to its value.
 pub fn are_declaring(text: &[u8], tokens: &[Token]) -> bool {
-    let mut is_header = false;
-    let mut declares = false;
+    let mut at = Declaring {
+        is_header: false,
+        declares: false,
+    };
     for token in tokens {
-        match token.kind {
-            TokenKind::Word(WordKind::Module) => {
-                is_header = true;
-                declares = false;
-            }
-            TokenKind::Word(_) => declares = declares_behind(declares, token.kind),
-            _ => match bytes_of(text, token) {
-                b";" => {
-                    is_header = false;
-                    declares = false;
-                }
-                b"=" => declares = false,
-                b"(" => declares = declares || is_header,
-                _ => {}
-            },
-        }
+        at = match token.kind {
+            TokenKind::Word(kind) => behind_word(at, kind),
+            _ => behind_sign(at, bytes_of(text, token)),
+        };
     }
-    declares
+    at.declares
 }
 
-// Whether a declaration goes on behind a word.
-fn declares_behind(before: bool, kind: TokenKind) -> bool {
+// Where it stands behind a word.
+fn behind_word(at: Declaring, kind: WordKind) -> Declaring {
     match kind {
-        TokenKind::Word(WordKind::Signed) => before,
-        _ => is_type_word(kind),
+        WordKind::Module => Declaring {
+            is_header: true,
+            declares: false,
+        },
+        WordKind::Signed => at,
+        _ => Declaring {
+            is_header: at.is_header,
+            declares: is_type_word(TokenKind::Word(kind)),
+        },
+    }
+}
+
+// Where it stands behind another token.
+fn behind_sign(at: Declaring, sign: &[u8]) -> Declaring {
+    let is_end = sign == b";".as_slice();
+    let is_value = sign == b"=".as_slice();
+    let opens = sign == b"(".as_slice();
+    Declaring {
+        is_header: at.is_header && !is_end,
+        declares: !is_end && !is_value && (at.declares || at.is_header && opens),
     }
 }
 
 /// Whether a module begins among these tokens.
 pub fn hold_module(tokens: &[Token]) -> bool {
-    tokens.iter().any(|token| matches!(token.kind, TokenKind::Word(WordKind::Module)))
+    for token in tokens {
+        if let TokenKind::Word(WordKind::Module) = token.kind {
+            return true;
+        }
+    }
+    false
 }
 
 // Behind what an item or a statement may begin.
@@ -234,29 +253,35 @@ pub fn are_before_event(text: &[u8], tokens: &[Token]) -> bool {
 
 /// Whether the name at a place stands in the value of the parameter whose name is at another one.
 pub fn is_in_value(text: &[u8], tokens: &[Token], parameter: Place, place: Place) -> bool {
-    let mut depth = 0i64;
-    let mut inside = false;
+    let mut depth = None;
     for token in tokens {
         if token.place == place {
-            return inside;
+            return depth.is_some();
         }
-        if token.place == parameter {
-            inside = true;
-        } else if inside {
-            match nesting_of(bytes_of(text, token)) {
-                Nesting::Opens => depth = depth.saturating_add(1),
-                Nesting::Shuts => depth = depth.saturating_sub(1),
-                Nesting::Neither => {}
-            }
-            inside = depth >= 0 && !(depth == 0 && ends_value(bytes_of(text, token)));
-        }
+        depth = if token.place == parameter {
+            Some(0u64)
+        } else {
+            depth_of_value(depth, bytes_of(text, token))
+        };
     }
     false
 }
 
+// How many brackets are open in the value of a parameter behind a word; None where the value is at
+// its end, or no value was before.
+fn depth_of_value(depth: Option<u64>, word: &[u8]) -> Option<u64> {
+    let before = depth?;
+    match nesting_of(word) {
+        Nesting::Opens => Some(before.saturating_add(1)),
+        Nesting::Shuts => before.checked_sub(1),
+        Nesting::Neither if before == 0 && ends_value(word) => None,
+        Nesting::Neither => Some(before),
+    }
+}
+
 // Whether a token ends the value of a parameter.
 fn ends_value(bytes: &[u8]) -> bool {
-    matches!(bytes, b"," | b";")
+    is_among(bytes, &[b",", b";"])
 }
 
 /// How a name at a spot is used: as a clock, as a bound of a range in a declaration, as what a
@@ -280,19 +305,29 @@ pub fn use_at(spot: Spot) -> Use {
         return Use::Bound;
     }
     let is_joined = is_in_joined_target(spot);
-    if !is_joined && !are_before_form(spot.text, spot.front) {
-        return Use::Value;
+    if is_joined || are_before_form(spot.text, spot.front) {
+        use_as_target(spot, is_joined)
+    } else {
+        Use::Value
     }
-    match bytes_at(spot.text, spot.behind, Some(0)) {
-        b"[" if is_joined || is_assigned(spot.text, behind_select(spot)) => Use::RegisterPart,
-        _ if is_joined || is_assigned(spot.text, spot.behind) => Use::Register,
-        _ => Use::Value,
+}
+
+// How the name at a spot is used where a statement may begin with it, or where it stands in the
+// braces of a target.
+fn use_as_target(spot: Spot, is_joined: bool) -> Use {
+    let is_part = bytes_at(spot.text, spot.behind, Some(0)) == b"[".as_slice();
+    if is_part && (is_joined || is_assigned(spot.text, behind_select(spot))) {
+        Use::RegisterPart
+    } else if is_joined || is_assigned(spot.text, spot.behind) {
+        Use::Register
+    } else {
+        Use::Value
     }
 }
 
 // Whether an assignment's sign comes next.
 fn is_assigned(text: &[u8], tokens: &[Token]) -> bool {
-    matches!(bytes_at(text, tokens, Some(0)), b"=" | b"<=")
+    is_among(bytes_at(text, tokens, Some(0)), &[b"=", b"<="])
 }
 
 // Whether a spot is in the braces of a target: in those with which a statement begins.

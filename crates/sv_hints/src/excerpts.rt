@@ -9,10 +9,12 @@ const BEFORE: usize = 100;
 
 // Where a line ends that begins here.
 fn line_end(rest: &[u8]) -> usize {
-    match rest.iter().position(|byte| *byte == b'\n') {
-        Some(end) => end,
-        None => rest.len(),
+    for (number, byte) in rest.iter().enumerate() {
+        if *byte == b'\n' {
+            return number;
+        }
     }
+    rest.len()
 }
 
 // What stands behind a line that begins here.

@@ -4,35 +4,46 @@ use sv_ast::{Instance, Item, Module, Text};
 
 /// A signal's name in its own module: what stands behind the last `.`.
 pub fn own_name(name: &[u8]) -> &[u8] {
-    match name.iter().rposition(|byte| *byte == b'.') {
-        Some(dot) => match name.get(dot..) {
-            Some([_, own @ ..]) => own,
-            _ => name,
-        },
-        None => name,
+    let mut own = name;
+    for (number, byte) in name.iter().enumerate() {
+        if *byte == b'.' {
+            own = name.get(number.saturating_add(1)..).unwrap_or(b"");
+        }
     }
+    own
+}
+
+/// The first module of a name.
+pub fn module_named<'t>(text: &'t Text, name: &[u8]) -> Option<&'t Module> {
+    for module in &text.modules {
+        if module.name.bytes() == name {
+            return Some(module);
+        }
+    }
+    None
 }
 
 /// The module of an instance.
 pub fn master_of<'t>(text: &'t Text, instance: &Instance) -> Option<&'t Module> {
-    let name = instance.module.bytes();
-    text.modules
-        .iter()
-        .find(|module| module.name.bytes() == name)
+    module_named(text, instance.module.bytes())
 }
 
 // The top of a text: the module that is asked for, or else the first that no module holds.
 fn top_of<'t>(text: &'t Text, asked: Option<&str>) -> Option<&'t Module> {
     match asked {
-        Some(asked) => text
-            .modules
-            .iter()
-            .find(|module| module.name.bytes() == asked.as_bytes()),
-        None => text
-            .modules
-            .iter()
-            .find(|module| !is_instanced(text, module.name.bytes())),
+        Some(asked) => module_named(text, asked.as_bytes()),
+        None => first_top(text),
     }
+}
+
+// The first module that no module holds.
+fn first_top(text: &Text) -> Option<&Module> {
+    for module in &text.modules {
+        if !is_instanced(text, module.name.bytes()) {
+            return Some(module);
+        }
+    }
+    None
 }
 
 // The instance of a name in a module.
@@ -49,11 +60,12 @@ fn instance_in<'t>(module: &'t Module, name: &[u8]) -> Option<&'t Instance> {
 
 // What stands before and behind the first `.`.
 fn cut(name: &[u8]) -> Option<(&[u8], &[u8])> {
-    let dot = name.iter().position(|byte| *byte == b'.')?;
-    match name.get(dot..) {
-        Some([_, behind @ ..]) => Some((name.get(..dot)?, behind)),
-        _ => None,
+    for (number, byte) in name.iter().enumerate() {
+        if *byte == b'.' {
+            return Some((name.get(..number)?, name.get(number.saturating_add(1)..)?));
+        }
     }
+    None
 }
 
 /// The instance in which the signal of a name stands; none where it stands in the top.

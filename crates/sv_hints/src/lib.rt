@@ -26,6 +26,7 @@ mod origins;
 mod rows;
 mod rules;
 mod selects;
+mod sentences;
 mod syntax;
 mod tables;
 
@@ -36,4 +37,5 @@ pub use links::{PortLink, port_link};
 pub use origins::{Origin, first_unbuilt, place_of};
 pub use rows::{Row, file_name, grouped, shown, shown_bytes, shown_word};
 pub use rules::words_of;
+pub use sentences::{Hole, told};
 pub use std::alloc::AllocError as OutOfMemory;

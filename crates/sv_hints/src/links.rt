@@ -2,12 +2,16 @@
 use crate::cases::Case;
 use crate::constants::place_of;
 use crate::instances::{instance_of, master_of, own_name};
-use crate::names::{Declared, first_declaration};
+use crate::names::{Declared, first_declaration, port_named};
 use crate::origins::{is_up_to, item_at, module_at};
 use crate::rows::{Row, shown};
+use crate::sentences::{Hole, told};
 use std::alloc::{AllocError, Global};
 use sv_ast::{DeclKind, Expr, Instance, Item, Links, Module, Overrides, Text};
-use sv_num::Place;
+use sv_num::{Name, Place};
+
+/// A link of a port by its name, at a place, to an expression or to nothing.
+pub type NamedLink = (Name, Place, Option<Expr>);
 
 // The instance whose links are around a place: the last whose name stands before it.
 fn linked_at(text: &Text, place: Place) -> Option<&Instance> {
@@ -31,95 +35,133 @@ fn overridden_at(text: &Text, place: Place) -> Option<&Instance> {
 }
 
 /// Of a wrong link.
-pub fn link(alloc: Global, case: &Case) -> Result<String, AllocError> {
-    if let Some(text) = case.origin.tree(alloc) {
-        if let Some(instance) = linked_at(&text, case.place) {
-            if let Some(master) = master_of(&text, instance) {
-                return link_of(alloc, case, &text, instance, master);
+pub fn link(alloc: Global, case: &Case, text: Option<&Text>) -> Result<String, AllocError> {
+    if let Some(text) = text {
+        if let Some(instance) = linked_at(text, case.place) {
+            if let Some(master) = master_of(text, instance) {
+                return link_of(alloc, case, text, instance, master);
             }
         }
     }
-    let name = shown(alloc, case.name())?;
-    format!(in alloc;
-        "the link of `{name}` is to no port, or a second one, or a part of a signal is \
-        linked to an output"
+    told(
+        alloc,
+        "the link of `{}` is to no port, or a second one, or a part of a signal is linked to an \
+         output",
+        &[Hole::Name(case.name())],
     )
 }
 
 // Of a wrong link of an instance of a module.
-fn link_of(
+fn link_of<'t>(
     alloc: Global,
     case: &Case,
-    text: &Text,
-    instance: &Instance,
+    text: &'t Text,
+    instance: &'t Instance,
     master: &Module,
 ) -> Result<String, AllocError> {
     if case.names.is_empty() {
         return link_too_many(alloc, master);
     }
-    let Some(port) = master
-        .ports
-        .iter()
-        .find(|port| port.name.bytes() == case.name())
-    else {
-        return no_port(alloc, case.name(), master);
-    };
-    let name = shown(alloc, case.name())?;
-    if let Some(Place { line, column }) = earlier_link(&instance.links, case) {
-        return format!(in alloc; "the port `{name}` is linked twice, first at {line}:{column}");
+    match port_named(master, case.name()) {
+        Some(port) => link_to_port(alloc, case, text, instance, port.kind),
+        None => no_port(alloc, case.name(), master),
     }
-    if port.kind == DeclKind::Input {
-        return format!(in alloc; "the port `{name}` cannot be linked so");
+}
+
+// Of a wrong link of a port of such a kind.
+fn link_to_port<'t>(
+    alloc: Global,
+    case: &Case,
+    text: &'t Text,
+    instance: &'t Instance,
+    kind: DeclKind,
+) -> Result<String, AllocError> {
+    if let Some(first) = earlier_link(&instance.links, case) {
+        return told(
+            alloc,
+            "the port `{}` is linked twice, first at {}",
+            &[Hole::Name(case.name()), Hole::Place(first)],
+        );
     }
-    if let Some(linked) = linked_name(&instance.links, case.place) {
-        if let Some(around) = module_at(text, case.place) {
-            return no_signal(alloc, around, name.as_str(), linked);
-        }
+    if kind == DeclKind::Input {
+        return told(
+            alloc,
+            "the port `{}` cannot be linked so",
+            &[Hole::Name(case.name())],
+        );
     }
-    format!(in alloc;
-        "the output `{name}` is linked to what is no whole signal: link a `wire`, and \
-        take its bits from that"
-    )
+    match (linked_name(&instance.links, case.place), module_at(text, case.place)) {
+        (Some(linked), Some(around)) => no_signal(alloc, around, case.name(), linked),
+        _ => told(
+            alloc,
+            "the output `{}` is linked to what is no whole signal: link a `wire`, and take its \
+             bits from that",
+            &[Hole::Name(case.name())],
+        ),
+    }
 }
 
 // Of a link behind those of all ports.
 fn link_too_many(alloc: Global, master: &Module) -> Result<String, AllocError> {
-    let module = shown(alloc, master.name.bytes())?;
-    let count = master.ports.len();
-    let unit = if count == 1 { "port" } else { "ports" };
-    format!(in alloc; "this is a link too many: the module `{module}` has {count} {unit}")
+    let count = master.ports.len() as u64;
+    told(
+        alloc,
+        "this is a link too many: the module `{}` has {} {}",
+        &[
+            Hole::Name(master.name.bytes()),
+            Hole::Number(count),
+            Hole::Words(if count == 1 { "port" } else { "ports" }),
+        ],
+    )
 }
 
 // Of a link of no port of a module.
 fn no_port(alloc: Global, name: &[u8], master: &Module) -> Result<String, AllocError> {
     let module = shown(alloc, master.name.bytes())?;
-    let name = shown(alloc, name)?;
+    let ports = all_ports(alloc, master)?;
+    told(
+        alloc,
+        "the module `{}` has no port `{}`; its ports are {}",
+        &[
+            Hole::Words(module.as_str()),
+            Hole::Name(name),
+            Hole::Words(ports.as_str()),
+        ],
+    )
+}
+
+// The ports of a module, in a row.
+fn all_ports(alloc: Global, master: &Module) -> Result<String, AllocError> {
     let mut row = Row::new(alloc);
     for port in &master.ports {
         row.add(port.name.bytes(), "")?;
     }
-    let ports = row.finish()?;
-    format!(in alloc; "the module `{module}` has no port `{name}`; its ports are {ports}")
+    row.finish()
 }
 
 // The name at a place that is linked whole.
 fn linked_name(links: &Links, place: Place) -> Option<&[u8]> {
     match links {
-        Links::Named(links) => {
-            for link in links {
-                if let Some(expr) = &link.2 {
-                    if let Some(name) = name_at(expr, place) {
-                        return Some(name);
-                    }
-                }
+        Links::Named(links) => name_in_links(links, place),
+        Links::Ordered(links) => name_in_exprs(links, place),
+    }
+}
+
+fn name_in_links(links: &[NamedLink], place: Place) -> Option<&[u8]> {
+    for link in links {
+        if let Some(expr) = &link.2 {
+            if let Some(name) = name_at(expr, place) {
+                return Some(name);
             }
         }
-        Links::Ordered(links) => {
-            for expr in links {
-                if let Some(name) = name_at(expr, place) {
-                    return Some(name);
-                }
-            }
+    }
+    None
+}
+
+fn name_in_exprs(exprs: &[Expr], place: Place) -> Option<&[u8]> {
+    for expr in exprs {
+        if let Some(name) = name_at(expr, place) {
+            return Some(name);
         }
     }
     None
@@ -134,27 +176,31 @@ fn name_at(expr: &Expr, place: Place) -> Option<&[u8]> {
 }
 
 // Of an output that is linked to a name of no signal.
-fn no_signal(
+fn no_signal<'t>(
     alloc: Global,
-    around: &Module,
-    port: &str,
-    linked: &[u8],
+    around: &'t Module,
+    port: &[u8],
+    linked: &'t [u8],
 ) -> Result<String, AllocError> {
-    let declared = first_declaration(around, linked);
-    let linked = shown(alloc, linked)?;
-    match declared {
-        None => {
-            let around = shown(alloc, around.name.bytes())?;
-            format!(in alloc;
-                "there is no signal `{linked}` in module `{around}`, to link the output `{port}` \
-                to: declare it as wide as that, as in `wire {linked};`"
-            )
-        }
-        Some(Declared::Parameter(_)) => format!(in alloc;
-            "the output `{port}` is linked to the parameter `{linked}`: link a `wire`"
+    let port = shown(alloc, port)?;
+    let port = Hole::Words(port.as_str());
+    let name = Hole::Name(linked);
+    match first_declaration(around, linked) {
+        None => told(
+            alloc,
+            "there is no signal `{}` in module `{}`, to link the output `{}` to: declare it as \
+             wide as that, as in `wire {};`",
+            &[name, Hole::Name(around.name.bytes()), port, name],
         ),
-        Some(_) => format!(in alloc;
-            "the output `{port}` is linked to `{linked}`, which is no signal: link a `wire`"
+        Some(Declared::Parameter(_)) => told(
+            alloc,
+            "the output `{}` is linked to the parameter `{}`: link a `wire`",
+            &[port, name],
+        ),
+        Some(_) => told(
+            alloc,
+            "the output `{}` is linked to `{}`, which is no signal: link a `wire`",
+            &[port, name],
         ),
     }
 }
@@ -164,26 +210,48 @@ fn earlier_link(links: &Links, case: &Case) -> Option<Place> {
     let Links::Named(links) = links else {
         return None;
     };
-    let first = links.iter().find(|link| link.0.bytes() == case.name())?;
-    let is_linked = links.iter().any(|link| link.1 == case.place);
-    if is_linked && first.1 != case.place {
-        Some(first.1)
+    let first = link_named(links, case.name())?.1;
+    if is_link_at(links, case.place) && first != case.place {
+        Some(first)
     } else {
         None
     }
 }
 
+// The first link of a port.
+fn link_named<'t>(links: &'t [NamedLink], port: &[u8]) -> Option<&'t NamedLink> {
+    for link in links {
+        if link.0.bytes() == port {
+            return Some(link);
+        }
+    }
+    None
+}
+
+// Whether a port is linked at a place.
+fn is_link_at(links: &[NamedLink], place: Place) -> bool {
+    for link in links {
+        if link.1 == place {
+            return true;
+        }
+    }
+    false
+}
+
 /// Of a wrong override.
-pub fn parameter(alloc: Global, case: &Case) -> Result<String, AllocError> {
-    if let Some(text) = case.origin.tree(alloc) {
-        if let Some(instance) = overridden_at(&text, case.place) {
-            if let Some(master) = master_of(&text, instance) {
+pub fn parameter(alloc: Global, case: &Case, text: Option<&Text>) -> Result<String, AllocError> {
+    if let Some(text) = text {
+        if let Some(instance) = overridden_at(text, case.place) {
+            if let Some(master) = master_of(text, instance) {
                 return parameter_of(alloc, case, instance, master);
             }
         }
     }
-    let name = shown(alloc, case.name())?;
-    format!(in alloc; "`{name}` is no parameter that may be set, or is set twice")
+    told(
+        alloc,
+        "`{}` is no parameter that may be set, or is set twice",
+        &[Hole::Name(case.name())],
+    )
 }
 
 // Of a wrong override of an instance of a module.
@@ -193,46 +261,79 @@ fn parameter_of(
     instance: &Instance,
     master: &Module,
 ) -> Result<String, AllocError> {
-    let module = shown(alloc, master.name.bytes())?;
-    let settable = settable_of(alloc, master)?;
     if case.names.is_empty() {
-        return format!(in alloc;
-            "this is a value too many: the parameters of the module `{module}` that may be set \
-            are {settable}"
+        return value_too_many(alloc, master);
+    }
+    match earlier_value(&instance.overrides, case) {
+        Some(first) => told(
+            alloc,
+            "the parameter `{}` is set twice, first at {}",
+            &[Hole::Name(case.name()), Hole::Place(first)],
+        ),
+        None => not_settable(alloc, case.name(), master),
+    }
+}
+
+// Of a value behind those of all parameters.
+fn value_too_many(alloc: Global, master: &Module) -> Result<String, AllocError> {
+    let settable = settable_of(alloc, master)?;
+    told(
+        alloc,
+        "this is a value too many: the parameters of the module `{}` that may be set are {}",
+        &[
+            Hole::Name(master.name.bytes()),
+            Hole::Words(settable.as_str()),
+        ],
+    )
+}
+
+// Of a value of what no instance may set.
+fn not_settable(alloc: Global, name: &[u8], master: &Module) -> Result<String, AllocError> {
+    let module = shown(alloc, master.name.bytes())?;
+    let module = Hole::Words(module.as_str());
+    if let Some(Declared::Parameter(place)) = first_declaration(master, name) {
+        let name = Hole::Name(name);
+        return told(
+            alloc,
+            "the parameter `{}` is local, at {}, so no instance sets it: declare it in the header, \
+             `module {} #(parameter {} = ..)`",
+            &[name, Hole::Place(place), module, name],
         );
     }
-    let name = shown(alloc, case.name())?;
-    if let Some(Place { line, column }) = earlier_value(&instance.overrides, case) {
-        return format!(in alloc; "the parameter `{name}` is set twice, first at {line}:{column}");
-    }
-    match first_declaration(master, case.name()) {
-        Some(Declared::Parameter(Place { line, column })) => {
-            format!(in alloc;
-                "the parameter `{name}` is local, at {line}:{column}, so no instance \
-                sets it: declare it in the header, `module {module} #(parameter {name} = ..)`"
-            )
-        }
-        _ => format!(in alloc;
-            "the module `{module}` has no parameter `{name}`; those that may be set are {settable}"
-        ),
-    }
+    let settable = settable_of(alloc, master)?;
+    told(
+        alloc,
+        "the module `{}` has no parameter `{}`; those that may be set are {}",
+        &[module, Hole::Name(name), Hole::Words(settable.as_str())],
+    )
 }
 
 // The parameters of a module that an instance may set, in a row: those of the header or, where it
 // has none, those of the body.
 fn settable_of(alloc: Global, master: &Module) -> Result<String, AllocError> {
+    if master.params.is_empty() {
+        settable_in_body(alloc, master)
+    } else {
+        settable_in_header(alloc, master)
+    }
+}
+
+fn settable_in_header(alloc: Global, master: &Module) -> Result<String, AllocError> {
     let mut row = Row::new(alloc);
     for param in &master.params {
         if !param.local {
             row.add(param.name.bytes(), "")?;
         }
     }
-    if master.params.is_empty() {
-        for item in &master.items {
-            match item {
-                Item::Param(param) if !param.local => row.add(param.name.bytes(), "")?,
-                _ => {}
-            }
+    row.finish()
+}
+
+fn settable_in_body(alloc: Global, master: &Module) -> Result<String, AllocError> {
+    let mut row = Row::new(alloc);
+    for item in &master.items {
+        match item {
+            Item::Param(param) if !param.local => row.add(param.name.bytes(), "")?,
+            _ => {}
         }
     }
     row.finish()
@@ -243,12 +344,22 @@ fn earlier_value(overrides: &Overrides, case: &Case) -> Option<Place> {
     let Overrides::Named(values) = overrides else {
         return None;
     };
-    let first = values.iter().find(|value| value.0.bytes() == case.name())?;
-    if first.1 != case.place {
-        Some(first.1)
+    let first = first_value(values, case.name())?;
+    if first != case.place {
+        Some(first)
     } else {
         None
     }
+}
+
+// The place of the first value of a parameter.
+fn first_value(values: &[(Name, Place, Expr)], name: &[u8]) -> Option<Place> {
+    for value in values {
+        if value.0.bytes() == name {
+            return Some(value.1);
+        }
+    }
+    None
 }
 
 /// How an instance links a port: to an expression, to nothing, or not at all.
@@ -270,20 +381,34 @@ fn link_to(text: &Text, top: Option<&str>, name: &[u8]) -> Option<PortLink> {
     let port = own_name(name);
     let missing = PortLink::Missing(instance.name_place);
     match &instance.links {
-        Links::Named(links) => match links.iter().find(|link| link.0.bytes() == port) {
-            Some(link) => match &link.2 {
-                Some(expr) => Some(PortLink::Expr(place_of(expr))),
-                None => Some(PortLink::Nothing(link.1)),
-            },
-            None => Some(missing),
-        },
+        Links::Named(links) => Some(link_among(links, port, missing)),
         Links::Ordered(links) => {
-            let ports = &master_of(text, instance)?.ports;
-            let at = ports.iter().position(|found| found.name.bytes() == port)?;
+            let at = number_of_port(master_of(text, instance)?, port)?;
             match links.get(at) {
                 Some(expr) => Some(PortLink::Expr(place_of(expr))),
                 None => Some(missing),
             }
         }
+    }
+}
+
+// The number of the port of a name.
+fn number_of_port(master: &Module, name: &[u8]) -> Option<usize> {
+    for (number, port) in master.ports.iter().enumerate() {
+        if port.name.bytes() == name {
+            return Some(number);
+        }
+    }
+    None
+}
+
+// The link of a port among those by name.
+fn link_among(links: &[NamedLink], port: &[u8], missing: PortLink) -> PortLink {
+    match link_named(links, port) {
+        Some(link) => match &link.2 {
+            Some(expr) => PortLink::Expr(place_of(expr)),
+            None => PortLink::Nothing(link.1),
+        },
+        None => missing,
     }
 }

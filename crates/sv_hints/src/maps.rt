@@ -1,6 +1,8 @@
 // What is said of lattices and label maps.
 use crate::cases::{Case, owned};
-use crate::rows::{Row, shown};
+use crate::rows::Row;
+use crate::tables::is_among;
+use crate::sentences::{Hole, told};
 use std::alloc::{AllocError, Global};
 use sv_ast::{Expr, MapText, Span, Text};
 use sv_num::{Name, Place};
@@ -29,109 +31,120 @@ pub fn points_of(alloc: Global, text: &Text) -> Result<String, AllocError> {
 
 // Whether a text has a point of the name.
 fn has_point(text: &Text, name: &[u8]) -> bool {
-    match &text.lattice {
-        Some(lattice) => lattice.points.iter().any(|point| point.0.bytes() == name),
-        None => matches!(name, b"L" | b"H"),
+    if text.lattice.is_some() {
+        first_point(text, name).is_some()
+    } else {
+        is_among(name, &[b"L", b"H"])
     }
 }
 
 /// Of a lattice of no point, or of too many.
-pub fn lattice_size(alloc: Global, case: &Case) -> Result<String, AllocError> {
-    let Some(text) = case.origin.tree(alloc) else {
-        return owned(alloc, "a lattice has 1 to 32 points");
-    };
-    match &text.lattice {
-        Some(lattice) => {
-            let count = lattice.points.len();
-            format!(in alloc; "this lattice has {count} points, and 1 to 32 there may be")
-        }
+pub fn lattice_size(alloc: Global, text: Option<&Text>) -> Result<String, AllocError> {
+    match count_of_points(text) {
+        Some(count) => told(
+            alloc,
+            "this lattice has {} points, and 1 to 32 there may be",
+            &[Hole::Number(count)],
+        ),
         None => owned(alloc, "a lattice has 1 to 32 points"),
     }
 }
 
+// How many points the lattice of a text has, where it has one.
+fn count_of_points(text: Option<&Text>) -> Option<u64> {
+    Some(text?.lattice.as_ref()?.points.len() as u64)
+}
+
 /// Of a point that is declared twice, or not at all.
-pub fn lattice_name(alloc: Global, case: &Case) -> Result<String, AllocError> {
-    let name = shown(alloc, case.name())?;
-    let Some(text) = case.origin.tree(alloc) else {
-        return format!(in alloc; "`{name}` is declared twice, or not at all");
+pub fn lattice_name(alloc: Global, case: &Case, text: Option<&Text>) -> Result<String, AllocError> {
+    let name = Hole::Name(case.name());
+    let Some(text) = text else {
+        return told(alloc, "`{}` is declared twice, or not at all", &[name]);
     };
-    match first_point(&text, case.name()) {
-        Some(Place { line, column }) => {
-            format!(in alloc; "the point `{name}` is declared twice, first at {line}:{column}")
-        }
-        None => format!(in alloc; "there is no point `{name}`: declare it by `point {name};`"),
+    match first_point(text, case.name()) {
+        Some(place) => told(
+            alloc,
+            "the point `{}` is declared twice, first at {}",
+            &[name, Hole::Place(place)],
+        ),
+        None => told(
+            alloc,
+            "there is no point `{}`: declare it by `point {};`",
+            &[name, name],
+        ),
     }
 }
 
 // The place of the first point of the name.
 fn first_point(text: &Text, name: &[u8]) -> Option<Place> {
-    let lattice = text.lattice.as_ref()?;
-    let point = lattice.points.iter().find(|point| point.0.bytes() == name)?;
-    Some(point.1)
-}
-
-/// Of two points that flow to each other.
-pub fn circle(alloc: Global, case: &Case) -> Result<String, AllocError> {
-    let one = shown(alloc, case.name())?;
-    let other = shown(alloc, case.other())?;
-    format!(in alloc;
-        "`{one}` and `{other}` flow to each other, so they are one point: take one of \
-        them away, or a pair between them"
-    )
-}
-
-/// Of two points without a least upper point.
-pub fn no_join(alloc: Global, case: &Case) -> Result<String, AllocError> {
-    let one = shown(alloc, case.name())?;
-    let other = shown(alloc, case.other())?;
-    format!(in alloc;
-        "`{one}` and `{other}` have no least point above both, for a signal that is \
-        made of both: declare one, with a pair from each to it, and from it to each other point \
-        above both"
-    )
-}
-
-/// Of two points without a greatest lower point.
-pub fn no_meet(alloc: Global, case: &Case) -> Result<String, AllocError> {
-    let one = shown(alloc, case.name())?;
-    let other = shown(alloc, case.other())?;
-    format!(in alloc;
-        "`{one}` and `{other}` have no greatest point below both: declare one, with a \
-        pair from it to each, and to it from each other point below both"
-    )
+    for point in &text.lattice.as_ref()?.points {
+        if point.0.bytes() == name {
+            return Some(point.1);
+        }
+    }
+    None
 }
 
 /// Of a label map that is declared twice.
-pub fn map_name(alloc: Global, case: &Case) -> Result<String, AllocError> {
-    let name = shown(alloc, case.name())?;
-    let Some(text) = case.origin.tree(alloc) else {
-        return format!(in alloc; "the label map `{name}` is declared twice");
-    };
-    match text.maps.iter().find(|map| map.name.bytes() == case.name()) {
-        Some(map) => {
-            let Place { line, column } = map.place;
-            format!(in alloc; "the label map `{name}` is declared twice, first at {line}:{column}")
-        }
-        None => format!(in alloc; "the label map `{name}` is declared twice"),
+pub fn map_name(alloc: Global, case: &Case, text: Option<&Text>) -> Result<String, AllocError> {
+    match first_map(text, case.name()) {
+        Some(map) => told(
+            alloc,
+            "the label map `{}` is declared twice, first at {}",
+            &[Hole::Name(case.name()), Hole::Place(map.place)],
+        ),
+        None => told(
+            alloc,
+            "the label map `{}` is declared twice",
+            &[Hole::Name(case.name())],
+        ),
     }
+}
+
+// The first map of a name.
+fn first_map<'t>(text: Option<&'t Text>, name: &[u8]) -> Option<&'t MapText> {
+    map_named(text?, name)
+}
+
+/// The label map of a name.
+pub fn map_named<'t>(text: &'t Text, name: &[u8]) -> Option<&'t MapText> {
+    for map in &text.maps {
+        if map.name.bytes() == name {
+            return Some(map);
+        }
+    }
+    None
 }
 
 // The map at the place of a case.
 fn map_at<'t>(text: &'t Text, case: &Case) -> Option<&'t MapText> {
-    text.maps.iter().find(|map| map.place == case.place)
+    for map in &text.maps {
+        if map.place == case.place {
+            return Some(map);
+        }
+    }
+    None
 }
 
 /// Of a label map with a wrong range, key or point.
-pub fn map_row(alloc: Global, case: &Case) -> Result<String, AllocError> {
-    let name = shown(alloc, case.name())?;
-    if let Some(text) = case.origin.tree(alloc) {
-        if let Some(map) = map_at(&text, case) {
-            if let Some(fault) = map_fault(alloc, &text, map)? {
-                return format!(in alloc; "label map `{name}`: {fault}");
+pub fn map_row(alloc: Global, case: &Case, text: Option<&Text>) -> Result<String, AllocError> {
+    if let Some(text) = text {
+        if let Some(map) = map_at(text, case) {
+            if let Some(fault) = map_fault(text, map) {
+                let fault = fault_words(alloc, text, fault)?;
+                return told(
+                    alloc,
+                    "label map `{}`: {}",
+                    &[Hole::Name(case.name()), Hole::Words(fault.as_str())],
+                );
             }
         }
     }
-    format!(in alloc; "the label map `{name}` has a wrong range, key or point, or a key twice")
+    told(
+        alloc,
+        "the label map `{}` has a wrong range, key or point, or a key twice",
+        &[Hole::Name(case.name())],
+    )
 }
 
 /// Whether a literal is a number below 0: a signed one whose highest bit is 1.
@@ -178,67 +191,108 @@ fn each_count(map: &MapText) -> Option<(u64, u64)> {
     Some((first, second))
 }
 
-// What is wrong with a map.
-fn map_fault(alloc: Global, text: &Text, map: &MapText) -> Result<Option<String>, AllocError> {
-    let Some(counts) = counts_of(map) else {
-        let words = if each_count(map).is_some() {
-            "its two ranges have over 8 bits together, which are the most"
-        } else if map.second.is_some() {
-            "each of its ranges is to be `[m:0]` with m from 0 to 7"
-        } else {
-            "its range is to be `[m:0]` with m from 0 to 7"
-        };
-        return Ok(Some(owned(alloc, words)?));
-    };
-    for (number, row) in map.rows.iter().enumerate() {
-        let earlier = map.rows.get(..number).unwrap_or(&[]);
-        if let Some(fault) = row_fault(alloc, text, row, earlier, map.second.is_some(), counts)? {
-            return Ok(Some(fault));
-        }
-    }
-    match &map.other {
-        Some(point) => point_fault(alloc, text, point),
-        None => Ok(None),
+// What is wrong with a map: its ranges, a key at a place, one that has a row already, or a point.
+#[derive(Clone, Copy)]
+enum Fault<'t> {
+    Range(&'static str),
+    Key(&'static str, Place),
+    Twice(Place, Place),
+    Point(&'t Name),
+}
+
+fn fault_words(alloc: Global, text: &Text, fault: Fault) -> Result<String, AllocError> {
+    match fault {
+        Fault::Range(words) => owned(alloc, words),
+        Fault::Key(sentence, place) => told(alloc, sentence, &[Hole::Place(place)]),
+        Fault::Twice(place, earlier) => told(
+            alloc,
+            "the key at {} has a row already, at {}",
+            &[Hole::Place(place), Hole::Place(earlier)],
+        ),
+        Fault::Point(point) => no_point(alloc, text, point.bytes()),
     }
 }
 
+/// That there is no point of a name.
+pub fn no_point(alloc: Global, text: &Text, name: &[u8]) -> Result<String, AllocError> {
+    let points = points_of(alloc, text)?;
+    told(
+        alloc,
+        "there is no point `{}`; the points are {}",
+        &[Hole::Name(name), Hole::Words(points.as_str())],
+    )
+}
+
+// What is wrong with a map.
+fn map_fault<'t>(text: &Text, map: &'t MapText) -> Option<Fault<'t>> {
+    let Some(counts) = counts_of(map) else {
+        return Some(Fault::Range(range_fault(map)));
+    };
+    if let Some(fault) = rows_fault(text, map, counts) {
+        return Some(fault);
+    }
+    point_fault(text, map.other.as_ref()?)
+}
+
+// What is wrong with the ranges of a map.
+fn range_fault(map: &MapText) -> &'static str {
+    if each_count(map).is_some() {
+        "its two ranges have over 8 bits together, which are the most"
+    } else if map.second.is_some() {
+        "each of its ranges is to be `[m:0]` with m from 0 to 7"
+    } else {
+        "its range is to be `[m:0]` with m from 0 to 7"
+    }
+}
+
+// What is wrong with the rows of a map.
+fn rows_fault<'t>(text: &Text, map: &'t MapText, counts: (u64, u64)) -> Option<Fault<'t>> {
+    for (number, row) in map.rows.iter().enumerate() {
+        let earlier = map.rows.get(..number).unwrap_or(&[]);
+        if let Some(fault) = row_fault(text, row, earlier, map.second.is_some(), counts) {
+            return Some(fault);
+        }
+    }
+    None
+}
+
 // What is wrong with a row, behind earlier ones.
-fn row_fault(
-    alloc: Global,
+fn row_fault<'t>(
     text: &Text,
-    row: &MapRow,
+    row: &'t MapRow,
     earlier: &[MapRow],
     is_double: bool,
     counts: (u64, u64),
-) -> Result<Option<String>, AllocError> {
-    let (key, place, other, point) = row;
-    let Place { line, column } = *place;
-    if other.is_some() != is_double {
-        return Ok(Some(format!(in alloc;
-            "the key at {line}:{column} is to have a number for each \
-            range"
-        )?));
+) -> Option<Fault<'t>> {
+    if let Some(sentence) = key_fault(row, is_double, counts) {
+        return Some(Fault::Key(sentence, row.1));
     }
-    if is_negative(key) || is_second_negative(other) {
-        return Ok(Some(format!(in alloc;
-            "the key at {line}:{column} is below 0, since its `s` makes it signed: take the `s` \
-            away"
-        )?));
+    match earlier_row(earlier, &row.0, &row.2) {
+        Some(place) => Some(Fault::Twice(row.1, place)),
+        None => point_fault(text, &row.3),
     }
-    if key.bits.value() >= counts.0 || second_value(other) >= counts.1 {
-        return Ok(Some(format!(in alloc; "the key at {line}:{column} is outside of the range")?));
+}
+
+// What is wrong with the key of a row.
+fn key_fault(row: &MapRow, is_double: bool, counts: (u64, u64)) -> Option<&'static str> {
+    if row.2.is_some() != is_double {
+        Some("the key at {} is to have a number for each range")
+    } else if is_negative(&row.0) || is_second_negative(&row.2) {
+        Some("the key at {} is below 0, since its `s` makes it signed: take the `s` away")
+    } else if row.0.bits.value() >= counts.0 || second_value(&row.2) >= counts.1 {
+        Some("the key at {} is outside of the range")
+    } else {
+        None
     }
-    if let Some(place) = earlier_row(earlier, key, other) {
-        let Place {
-            line: before,
-            column: at,
-        } = place;
-        return Ok(Some(format!(in alloc;
-            "the key at {line}:{column} has a row already, at \
-            {before}:{at}"
-        )?));
+}
+
+// That there is no such point.
+fn point_fault<'t>(text: &Text, point: &'t Name) -> Option<Fault<'t>> {
+    if has_point(text, point.bytes()) {
+        None
+    } else {
+        Some(Fault::Point(point))
     }
-    point_fault(alloc, text, point)
 }
 
 // Whether a second part of a key is below 0.
@@ -267,46 +321,38 @@ fn earlier_row(rows: &[MapRow], key: &Lit, other: &Option<(Lit, Place)>) -> Opti
     None
 }
 
-// That there is no such point.
-fn point_fault(alloc: Global, text: &Text, point: &Name) -> Result<Option<String>, AllocError> {
-    if has_point(text, point.bytes()) {
-        return Ok(None);
-    }
-    let name = shown(alloc, point.bytes())?;
-    let points = points_of(alloc, text)?;
-    Ok(Some(format!(in alloc; "there is no point `{name}`; the points are {points}")?))
-}
-
 /// Of a key without a row.
-pub fn map_hole(alloc: Global, case: &Case) -> Result<String, AllocError> {
-    let name = shown(alloc, case.name())?;
-    if let Some(text) = case.origin.tree(alloc) {
-        if let Some(map) = map_at(&text, case) {
-            if let Some(key) = hole_of(alloc, map)? {
-                return format!(in alloc;
-                    "label map `{name}` gives the key {key} no point: add a row, or \
-                    `default: POINT;`"
-                );
-            }
-        }
+pub fn map_hole(alloc: Global, case: &Case, text: Option<&Text>) -> Result<String, AllocError> {
+    let name = Hole::Name(case.name());
+    match hole_in(text, case) {
+        Some((key, None)) => told(
+            alloc,
+            "label map `{}` gives the key {} no point: add a row, or `default: POINT;`",
+            &[name, Hole::Number(key)],
+        ),
+        Some((key, Some(other))) => told(
+            alloc,
+            "label map `{}` gives the key {}, {} no point: add a row, or `default: POINT;`",
+            &[name, Hole::Number(key), Hole::Number(other)],
+        ),
+        None => told(
+            alloc,
+            "label map `{}` gives some key no point: add a row, or `default: POINT;`",
+            &[name],
+        ),
     }
-    format!(in alloc; "label map `{name}` gives some key no point: add a row, or `default: POINT;`")
 }
 
-// The first key without a row, as it is shown.
-fn hole_of(alloc: Global, map: &MapText) -> Result<Option<String>, AllocError> {
-    let Some(counts) = counts_of(map) else {
-        return Ok(None);
-    };
-    let Some((key, other)) = first_hole(map, counts) else {
-        return Ok(None);
-    };
-    let shown = if map.second.is_some() {
-        format!(in alloc; "{key}, {other}")?
+// The first key without a row of the map at the place of a case: its numbers, of which there is a
+// second one where the map has two ranges.
+fn hole_in(text: Option<&Text>, case: &Case) -> Option<(u64, Option<u64>)> {
+    let map = map_at(text?, case)?;
+    let (key, other) = first_hole(map, counts_of(map)?)?;
+    if map.second.is_some() {
+        Some((key, Some(other)))
     } else {
-        format!(in alloc; "{key}")?
-    };
-    Ok(Some(shown))
+        Some((key, None))
+    }
 }
 
 // The first key without a row.

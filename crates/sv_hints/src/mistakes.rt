@@ -3,7 +3,7 @@ use crate::contexts::{
     Spot, are_before_form, bytes_at, bytes_of, hold_module, is_parameter_word, is_type_word,
     last_open,
 };
-use crate::tables::{Hint, PairHint, hint_on, hint_on_pair};
+use crate::tables::{Hint, PairHint, hint_on, hint_on_pair, is_among};
 use sv_token::{Token, TokenKind, WordKind};
 
 const SYSTEM_VERILOG: &str = "this is SystemVerilog, and Verilog of 2005 is read";
@@ -18,17 +18,33 @@ const ARM: &str = "an arm has one statement: several stand in `begin` and `end`"
 pub fn foreign(spot: Spot, here: &Token) -> Option<&'static str> {
     let (name, front) = spot.front.split_last()?;
     if matches!(name.kind, TokenKind::Name) && begins_item(spot, front) {
-        if let Some(hint) = hint_on(bytes_of(spot.text, name), &FOREIGN) {
+        if let Some(hint) = foreign_name(spot, here, name, front) {
             return Some(hint);
-        }
-        if is_assignment(spot, here, front) {
-            return Some(
-                "an assignment stands behind `assign`, or in an `always`, where several stand in \
-                 `begin` and `end`",
-            );
         }
     }
     let (word, front) = front.split_last()?;
+    foreign_word(spot, word, front)
+}
+
+// Of a name with which an item begins behind these tokens.
+fn foreign_name(
+    spot: Spot,
+    here: &Token,
+    name: &Token,
+    front: &[Token],
+) -> Option<&'static str> {
+    match hint_on(bytes_of(spot.text, name), &FOREIGN) {
+        Some(hint) => Some(hint),
+        None if is_assignment(spot, here, front) => Some(
+            "an assignment stands behind `assign`, or in an `always`, where several stand in \
+             `begin` and `end`",
+        ),
+        None => None,
+    }
+}
+
+// Of a word where an item or a declaration begins behind these tokens.
+fn foreign_word(spot: Spot, word: &Token, front: &[Token]) -> Option<&'static str> {
     if begins_item(spot, front) {
         hint_on(bytes_of(spot.text, word), &FOREIGN)
     } else {
@@ -67,7 +83,7 @@ fn begins_item(spot: Spot, front: &[Token]) -> bool {
 // Whether a token is the sign of an assignment in a module, in no block, whose target begins behind
 // these tokens.
 fn is_assignment(spot: Spot, here: &Token, front: &[Token]) -> bool {
-    matches!(bytes_of(spot.text, here), b"=" | b"<=")
+    is_among(bytes_of(spot.text, here), &[b"=", b"<="])
         && hold_module(front)
         && are_before_form(spot.text, front)
         && last_open(spot.text, front).is_none()
@@ -150,28 +166,25 @@ pub fn in_block(spot: Spot, here: &Token, last: &[u8], open: &[u8]) -> Option<&'
 
 // Whether a statement behind that of an arm is read up to this token, as an item of a next arm.
 fn is_second(spot: Spot, here: &Token) -> bool {
+    let word = bytes_of(spot.text, here);
     let before = bytes_at(spot.text, spot.front, spot.front.len().checked_sub(2));
-    match bytes_of(spot.text, here) {
-        b"=" => matches!(before, b";" | b"end"),
-        b";" => before == b"<=".as_slice(),
-        _ => false,
+    if word == b"=".as_slice() {
+        is_among(before, &[b";", b"end"])
+    } else {
+        word == b";".as_slice() && before == b"<=".as_slice()
     }
 }
 
 /// Of a range behind a word of SystemVerilog, which is read as a name.
 pub fn ranged(spot: Spot) -> Option<&'static str> {
     let (before, front) = spot.front.split_last()?;
-    if begins_item(spot, front) {
-        hint_on(bytes_of(spot.text, before), &FOREIGN)
-    } else {
-        None
-    }
+    foreign_word(spot, before, front)
 }
 
 /// Whether a token may be the last one of an expression, and before a `;`.
 pub fn may_end(text: &[u8], token: &Token) -> bool {
-    match bytes_of(text, token) {
-        b")" | b"]" | b"}" => true,
-        _ => matches!(token.kind, TokenKind::Name | TokenKind::Number(_)),
+    match token.kind {
+        TokenKind::Name | TokenKind::Number(_) => true,
+        _ => is_among(bytes_of(text, token), &[b")", b"]", b"}"]),
     }
 }

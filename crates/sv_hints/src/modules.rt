@@ -1,15 +1,16 @@
 // What is said of modules and instances.
 use crate::cases::{Case, owned};
-use crate::origins::{item_at, module_at};
-use crate::rows::{Row, shown, shown_word};
+use crate::origins::{item_at, module_in};
+use crate::rows::Row;
+use crate::sentences::{Hole, told};
 use std::alloc::{AllocError, Global};
 use sv_ast::{Item, Module, Text};
 
 /// Of a text without a top.
-pub fn no_top(alloc: Global, case: &Case) -> Result<String, AllocError> {
-    match (case.origin.tree(alloc), case.origin.top) {
-        (Some(text), Some(top)) => no_such_top(alloc, &text, top),
-        (Some(text), None) => no_one_top(alloc, &text),
+pub fn no_top(alloc: Global, case: &Case, text: Option<&Text>) -> Result<String, AllocError> {
+    match (text, case.origin.top) {
+        (Some(text), Some(top)) => no_such_top(alloc, text, top),
+        (Some(text), None) => no_one_top(alloc, text),
         (None, _) => owned(alloc, "there is no top: name it by `--top MODULE`"),
     }
 }
@@ -17,8 +18,11 @@ pub fn no_top(alloc: Global, case: &Case) -> Result<String, AllocError> {
 // Of a top that is asked for and is no module.
 fn no_such_top(alloc: Global, text: &Text, top: &str) -> Result<String, AllocError> {
     let modules = all_modules(alloc, text)?;
-    let top = shown_word(alloc, top)?;
-    format!(in alloc; "there is no module `{top}`, which `--top` names; the modules are {modules}")
+    told(
+        alloc,
+        "there is no module `{}`, which `--top` names; the modules are {}",
+        &[Hole::Asked(top), Hole::Words(modules.as_str())],
+    )
 }
 
 // The modules of a text, in a row.
@@ -40,8 +44,10 @@ fn no_one_top(alloc: Global, text: &Text) -> Result<String, AllocError> {
         );
     }
     let tops = all_tops(alloc, text)?;
-    format!(in alloc;
-        "{count} modules stand in no other one: {tops}; name the top by `--top MODULE`"
+    told(
+        alloc,
+        "{} modules stand in no other one: {}; name the top by `--top MODULE`",
+        &[Hole::Number(count), Hole::Words(tops.as_str())],
     )
 }
 
@@ -69,13 +75,21 @@ fn all_tops(alloc: Global, text: &Text) -> Result<String, AllocError> {
 
 /// Whether some module has an instance of this one.
 pub fn is_instanced(text: &Text, name: &[u8]) -> bool {
-    text.modules
-        .iter()
-        .any(|module| holds_instance(module, name))
+    for module in &text.modules {
+        if holds_instance(module, name) {
+            return true;
+        }
+    }
+    false
 }
 
 fn holds_instance(module: &Module, name: &[u8]) -> bool {
-    module.items.iter().any(|item| is_instance(item, name))
+    for item in &module.items {
+        if is_instance(item, name) {
+            return true;
+        }
+    }
+    false
 }
 
 fn is_instance(item: &Item, name: &[u8]) -> bool {
@@ -85,44 +99,23 @@ fn is_instance(item: &Item, name: &[u8]) -> bool {
     }
 }
 
-/// Of an instance of no module.
-pub fn unknown_module(alloc: Global, case: &Case) -> Result<String, AllocError> {
-    let name = shown(alloc, case.name())?;
-    format!(in alloc;
-        "there is no module `{name}`: a design is one file, so join its files by `cat`"
-    )
-}
-
-/// Of a module inside itself.
-pub fn recursive(alloc: Global, case: &Case) -> Result<String, AllocError> {
-    let name = shown(alloc, case.name())?;
-    format!(in alloc;
-        "with this instance the module `{name}` would stand inside itself, without end"
-    )
-}
-
 /// Of a signal or an instance too many.
-pub fn too_many(alloc: Global, case: &Case) -> Result<String, AllocError> {
-    let is_of_instance = match case.origin.tree(alloc) {
-        Some(text) => is_instance_at(&text, case),
-        None => false,
-    };
-    if is_of_instance {
-        return owned(
-            alloc,
-            "this is the 1,025th instance of the whole design, and 1,024 there may be",
-        );
-    }
-    owned(
-        alloc,
+pub fn too_many(alloc: Global, case: &Case, text: Option<&Text>) -> Result<String, AllocError> {
+    let words = if is_instance_at(text, case) {
+        "this is the 1,025th instance of the whole design, and 1,024 there may be"
+    } else {
         "this is the 4,097th signal of the whole design, its instances included, and 4,096 there \
-         may be",
-    )
+         may be"
+    };
+    owned(alloc, words)
 }
 
 // Whether the place is that of an instance.
-fn is_instance_at(text: &Text, case: &Case) -> bool {
-    match module_at(text, case.place).and_then(|module| item_at(module, case.place)) {
+fn is_instance_at(text: Option<&Text>, case: &Case) -> bool {
+    let Some(module) = module_in(text, case.place) else {
+        return false;
+    };
+    match item_at(module, case.place) {
         Some(Item::Instance(instance)) => instance.place == case.place,
         _ => false,
     }

@@ -1,13 +1,15 @@
 // What is said of names: unknown ones, those declared twice, and labels.
-use crate::cases::{Case, owned};
+use crate::cases::Case;
 use crate::constants::Constants;
 use crate::contexts::{Use, is_in_value, spot_at, use_at};
-use crate::maps::{counts_of, points_of};
-use crate::origins::{Origin, is_up_to, module_at};
+use crate::instances::module_named;
+use crate::maps::{counts_of, map_named, no_point};
+use crate::origins::{is_up_to, module_at, module_in};
 use crate::rows::{Row, shown};
+use crate::sentences::{Hole, told};
 use std::alloc::{AllocError, Global};
-use sv_ast::{Decl, Item, LabelText, MapText, Module, Text};
-use sv_num::Place;
+use sv_ast::{Decl, Item, LabelText, MapText, Module, Param, Text};
+use sv_num::{Name, Place};
 
 /// What a name in a module was declared as, first.
 #[derive(Clone, Copy)]
@@ -30,17 +32,38 @@ impl<'a> Declared<'a> {
 
 /// What a name in a module is declared as first.
 pub fn first_declaration<'a>(module: &'a Module, name: &[u8]) -> Option<Declared<'a>> {
-    if let Some(param) = module
-        .params
-        .iter()
-        .find(|param| param.name.bytes() == name)
-    {
-        return Some(Declared::Parameter(param.place));
+    if let Some(place) = parameter_named(&module.params, name) {
+        return Some(Declared::Parameter(place));
     }
-    if let Some(port) = module.ports.iter().find(|port| port.name.bytes() == name) {
-        return Some(Declared::Signal(port));
+    match port_named(module, name) {
+        Some(port) => Some(Declared::Signal(port)),
+        None => declared_in(&module.items, name),
     }
-    for item in &module.items {
+}
+
+// The place of the parameter of a name in a header.
+fn parameter_named(params: &[Param], name: &[u8]) -> Option<Place> {
+    for param in params {
+        if param.name.bytes() == name {
+            return Some(param.place);
+        }
+    }
+    None
+}
+
+/// The port of a name.
+pub fn port_named<'a>(module: &'a Module, name: &[u8]) -> Option<&'a Decl> {
+    for port in &module.ports {
+        if port.name.bytes() == name {
+            return Some(port);
+        }
+    }
+    None
+}
+
+// What the items of a module declare a name as first.
+fn declared_in<'a>(items: &'a [Item], name: &[u8]) -> Option<Declared<'a>> {
+    for item in items {
         if let Some(found) = declared_by(item, name) {
             return Some(found);
         }
@@ -62,48 +85,61 @@ fn declared_by<'a>(item: &'a Item, name: &[u8]) -> Option<Declared<'a>> {
 }
 
 /// Of a name that is declared twice.
-pub fn twice(alloc: Global, case: &Case) -> Result<String, AllocError> {
-    let name = shown(alloc, case.name())?;
-    let Some(text) = case.origin.tree(alloc) else {
-        return format!(in alloc; "`{name}` is declared twice");
-    };
-    if text.modules.iter().any(|module| module.place == case.place) {
-        return twice_a_module(alloc, &text, case);
-    }
-    match module_at(&text, case.place).and_then(|module| first_declaration(module, case.name())) {
-        Some(first) => {
-            let Place { line, column } = first.place();
-            format!(in alloc; "`{name}` is declared twice in one module, first at {line}:{column}")
+pub fn twice(alloc: Global, case: &Case, text: Option<&Text>) -> Result<String, AllocError> {
+    let name = Hole::Name(case.name());
+    if let Some(text) = text {
+        if is_module_at(text, case.place) {
+            return twice_a_module(alloc, case.name(), text);
         }
-        None => format!(in alloc; "`{name}` is declared twice"),
+        if let Some(place) = first_place(text, case) {
+            return told(
+                alloc,
+                "`{}` is declared twice in one module, first at {}",
+                &[name, Hole::Place(place)],
+            );
+        }
     }
+    told(alloc, "`{}` is declared twice", &[name])
+}
+
+// Whether a module begins at a place.
+fn is_module_at(text: &Text, place: Place) -> bool {
+    for module in &text.modules {
+        if module.place == place {
+            return true;
+        }
+    }
+    false
+}
+
+// Where the name of a case is declared first in the module around its place.
+fn first_place(text: &Text, case: &Case) -> Option<Place> {
+    let module = module_at(text, case.place)?;
+    Some(first_declaration(module, case.name())?.place())
 }
 
 // Of two modules of one name.
-fn twice_a_module(alloc: Global, text: &Text, case: &Case) -> Result<String, AllocError> {
-    let name = shown(alloc, case.name())?;
-    match text
-        .modules
-        .iter()
-        .find(|module| module.name.bytes() == case.name())
-    {
-        Some(first) => {
-            let Place { line, column } = first.place;
-            format!(in alloc; "there are two modules `{name}`, the first at {line}:{column}")
-        }
-        None => format!(in alloc; "there are two modules `{name}`"),
+fn twice_a_module(alloc: Global, name: &[u8], text: &Text) -> Result<String, AllocError> {
+    match module_named(text, name) {
+        Some(first) => told(
+            alloc,
+            "there are two modules `{}`, the first at {}",
+            &[Hole::Name(name), Hole::Place(first.place)],
+        ),
+        None => told(alloc, "there are two modules `{}`", &[Hole::Name(name)]),
     }
 }
 
 /// Of a name that stands for nothing here.
-pub fn unknown_name(alloc: Global, case: &Case) -> Result<String, AllocError> {
-    if let Some(text) = case.origin.tree(alloc) {
-        if let Some(module) = module_at(&text, case.place) {
-            return unknown_in(alloc, case, module);
-        }
+pub fn unknown_name(alloc: Global, case: &Case, text: Option<&Text>) -> Result<String, AllocError> {
+    match module_in(text, case.place) {
+        Some(module) => unknown_in(alloc, case, module),
+        None => told(
+            alloc,
+            "no signal or parameter `{}` is in reach here",
+            &[Hole::Name(case.name())],
+        ),
     }
-    let name = shown(alloc, case.name())?;
-    format!(in alloc; "no signal or parameter `{name}` is in reach here")
 }
 
 // Of a name that stands for nothing here, in a module.
@@ -112,27 +148,29 @@ fn unknown_in(alloc: Global, case: &Case, module: &Module) -> Result<String, All
         Some(Declared::Parameter(place)) if is_up_to(place, case.place) => {
             earlier_parameter(alloc, case, place)
         }
-        Some(Declared::Parameter(place)) => later_parameter(alloc, case, place),
-        Some(Declared::Other(_)) => {
-            let name = shown(alloc, case.name())?;
-            format!(in alloc; "`{name}` is an instance, and a signal is wanted here")
-        }
-        _ => undeclared(alloc, case, module),
+        Some(Declared::Parameter(place)) => told(
+            alloc,
+            "the parameter `{}` is declared later, at {}: declare it before it is used",
+            &[Hole::Name(case.name()), Hole::Place(place)],
+        ),
+        Some(Declared::Other(_)) => told(
+            alloc,
+            "`{}` is an instance, and a signal is wanted here",
+            &[Hole::Name(case.name())],
+        ),
+        _ => undeclared(alloc, case, module.name.bytes()),
     }
 }
 
 // Of a parameter that is declared before, where it cannot stand.
 fn earlier_parameter(alloc: Global, case: &Case, place: Place) -> Result<String, AllocError> {
-    let is_own = is_own_value(alloc, case, place)?;
-    let name = shown(alloc, case.name())?;
-    if is_own {
-        format!(in alloc;
-            "the parameter `{name}` is used in its own value: write a number there, or a parameter \
-            that is declared before"
-        )
+    let sentence = if is_own_value(alloc, case, place)? {
+        "the parameter `{}` is used in its own value: write a number there, or a parameter that is \
+         declared before"
     } else {
-        format!(in alloc; "`{name}` is a parameter, and a signal is wanted here")
-    }
+        "`{}` is a parameter, and a signal is wanted here"
+    };
+    told(alloc, sentence, &[Hole::Name(case.name())])
 }
 
 // Whether a name stands in the value of the parameter at a place.
@@ -141,53 +179,59 @@ fn is_own_value(alloc: Global, case: &Case, parameter: Place) -> Result<bool, Al
     Ok(is_in_value(case.origin.text, &tokens, parameter, case.place))
 }
 
-// Of a parameter that is declared at a later place.
-fn later_parameter(alloc: Global, case: &Case, place: Place) -> Result<String, AllocError> {
-    let Place { line, column } = place;
-    let name = shown(alloc, case.name())?;
-    format!(in alloc;
-        "the parameter `{name}` is declared later, at {line}:{column}: declare it before it is used"
-    )
-}
-
 // Of a name that a module does not declare.
-fn undeclared(alloc: Global, case: &Case, module: &Module) -> Result<String, AllocError> {
+fn undeclared(alloc: Global, case: &Case, around: &[u8]) -> Result<String, AllocError> {
     let name = shown(alloc, case.name())?;
-    let around = shown(alloc, module.name.bytes())?;
-    let declaration = declaration_at(alloc, &case.origin, case.place, name.as_str())?;
-    format!(in alloc;
-        "there is no signal or parameter `{name}` in module `{around}`: declare it, as in \
-        {declaration}"
+    let declaration = declaration_at(alloc, case)?;
+    told(
+        alloc,
+        "there is no signal or parameter `{}` in module `{}`: declare it, as in {}",
+        &[
+            Hole::Words(name.as_str()),
+            Hole::Name(around),
+            Hole::Words(declaration.as_str()),
+        ],
     )
 }
 
-// A declaration of a name that makes it fit where it is used.
-fn declaration_at(
-    alloc: Global,
-    origin: &Origin,
-    place: Place,
-    name: &str,
-) -> Result<String, AllocError> {
-    let tokens = origin.tokens(alloc)?;
-    match use_at(spot_at(origin.text, &tokens, place)) {
-        Use::Clock => format!(in alloc; "`input {name}`"),
-        Use::Bound => format!(in alloc; "`parameter {name} = 8;`"),
-        Use::Register => format!(in alloc; "`reg {name};`"),
-        Use::RegisterPart => format!(in alloc; "`reg [7:0] {name};`"),
-        Use::Value => {
-            format!(in alloc; "`wire {name};`, or `parameter {name} = 8;` for a constant")
-        }
+// A declaration of the name of a case that makes it fit where it is used.
+fn declaration_at(alloc: Global, case: &Case) -> Result<String, AllocError> {
+    let tokens = case.origin.tokens(alloc)?;
+    let spot = spot_at(case.origin.text, &tokens, case.place);
+    let name = Hole::Name(case.name());
+    told(alloc, declaration_for(use_at(spot)), &[name, name])
+}
+
+// How a name is declared for a use.
+fn declaration_for(purpose: Use) -> &'static str {
+    match purpose {
+        Use::Clock => "`input {}`",
+        Use::Bound => "`parameter {} = 8;`",
+        Use::Register => "`reg {};`",
+        Use::RegisterPart => "`reg [7:0] {};`",
+        Use::Value => "`wire {};`, or `parameter {} = 8;` for a constant",
     }
 }
 
 // The label at a place of a module.
 fn label_at(module: &Module, place: Place) -> Option<&LabelText> {
-    for port in &module.ports {
+    match label_of_port(&module.ports, place) {
+        Some(label) => Some(label),
+        None => label_of_item(&module.items, place),
+    }
+}
+
+fn label_of_port(ports: &[Decl], place: Place) -> Option<&LabelText> {
+    for port in ports {
         if let Some(label) = label_of(port, place) {
             return Some(label);
         }
     }
-    for item in &module.items {
+    None
+}
+
+fn label_of_item(items: &[Item], place: Place) -> Option<&LabelText> {
+    for item in items {
         if let Item::Decl(decl) = item {
             if let Some(label) = label_of(decl, place) {
                 return Some(label);
@@ -207,127 +251,148 @@ fn label_of(decl: &Decl, place: Place) -> Option<&LabelText> {
 }
 
 /// Of a label with an unknown name, or of selectors that do not fit.
-pub fn label(alloc: Global, case: &Case) -> Result<String, AllocError> {
-    let name = shown(alloc, case.name())?;
-    let Some(text) = case.origin.tree(alloc) else {
-        return format!(in alloc; "`{name}` does not fit in this label");
-    };
-    let Some(module) = module_at(&text, case.place) else {
-        return format!(in alloc; "`{name}` does not fit in this label");
-    };
-    match label_at(module, case.place) {
-        Some(LabelText::Point(_, _)) => unknown_point(alloc, &text, case),
-        Some(LabelText::Table(map, first, second, _)) => {
-            let second = second.as_ref().map(|second| second.bytes());
-            table_label(
-                alloc,
-                &text,
-                module,
-                case,
-                (map.bytes(), first.bytes(), second),
-            )
+pub fn label(alloc: Global, case: &Case, text: Option<&Text>) -> Result<String, AllocError> {
+    if let Some(text) = text {
+        if let Some(module) = module_at(text, case.place) {
+            match label_at(module, case.place) {
+                Some(LabelText::Point(_, _)) => return unknown_point(alloc, text, case.name()),
+                Some(LabelText::Table(map, first, second, _)) => {
+                    let label = Table {
+                        map: map.bytes(),
+                        first: first.bytes(),
+                        second: bytes_in(second),
+                    };
+                    return table_label(alloc, text, module, case.name(), label);
+                }
+                None => {}
+            }
         }
-        None => format!(in alloc; "`{name}` does not fit in this label"),
     }
+    told(
+        alloc,
+        "`{}` does not fit in this label",
+        &[Hole::Name(case.name())],
+    )
 }
 
-// The label map of a name.
-fn map_named<'t>(text: &'t Text, name: &[u8]) -> Option<&'t MapText> {
-    text.maps.iter().find(|map| map.name.bytes() == name)
+// A label by a map: the names of the map, of its selector, and of a second one.
+#[derive(Clone, Copy)]
+struct Table<'a> {
+    map: &'a [u8],
+    first: &'a [u8],
+    second: Option<&'a [u8]>,
+}
+
+fn bytes_in(name: &Option<Name>) -> Option<&[u8]> {
+    match name {
+        Some(name) => Some(name.bytes()),
+        None => None,
+    }
 }
 
 // Of a label by a name that is no point.
-fn unknown_point(alloc: Global, text: &Text, case: &Case) -> Result<String, AllocError> {
-    let name = shown(alloc, case.name())?;
-    if let Some(map) = map_named(text, case.name()) {
-        let selectors = if map.second.is_some() {
-            "SIGNAL, SIGNAL"
-        } else {
-            "SIGNAL"
-        };
-        return format!(in alloc; "`{name}` is a label map: write `{name}({selectors})`");
+fn unknown_point(alloc: Global, text: &Text, name: &[u8]) -> Result<String, AllocError> {
+    match map_named(text, name) {
+        Some(map) => told(
+            alloc,
+            if map.second.is_some() {
+                "`{}` is a label map: write `{}(SIGNAL, SIGNAL)`"
+            } else {
+                "`{}` is a label map: write `{}(SIGNAL)`"
+            },
+            &[Hole::Name(name), Hole::Name(name)],
+        ),
+        None => no_point(alloc, text, name),
     }
-    let points = points_of(alloc, text)?;
-    format!(in alloc; "there is no point `{name}`; the points are {points}")
 }
 
-// Of a label by a map, of which the name, the selector and a second one are given.
-fn table_label(
+// Of a label by a map, of which the name that does not fit is given.
+fn table_label<'t>(
     alloc: Global,
     text: &Text,
-    module: &Module,
-    case: &Case,
-    label: (&[u8], &[u8], Option<&[u8]>),
+    module: &'t Module,
+    name: &[u8],
+    label: Table<'t>,
 ) -> Result<String, AllocError> {
-    let (map, first, second) = label;
-    let Some(found) = map_named(text, map) else {
-        return unknown_map(alloc, text, map);
+    let Some(map) = map_named(text, label.map) else {
+        return unknown_map(alloc, text, label.map);
     };
-    if !is_signal(module, first) {
-        return no_selector(alloc, module, first, map);
+    if let Some(wrong) = wrong_selector(module, label) {
+        return no_selector(alloc, module, wrong, label.map);
     }
-    if let Some(second) = second {
-        if !is_signal(module, second) {
-            return no_selector(alloc, module, second, map);
-        }
+    if map.second.is_some() != label.second.is_some() {
+        return wrong_count(alloc, label.map, map.second.is_some());
     }
-    if found.second.is_some() != second.is_some() {
-        return wrong_count(alloc, map, found.second.is_some());
+    let width = Constants::new(alloc, text, module)?.width(name);
+    wrong_width(alloc, map, label, name, width)
+}
+
+// The first selector of a label that is no signal.
+fn wrong_selector<'a>(module: &Module, label: Table<'a>) -> Option<&'a [u8]> {
+    if !is_signal(module, label.first) {
+        return Some(label.first);
     }
-    let width = Constants::new(alloc, text, module)?.width(case.name());
-    wrong_width(alloc, found, label, case.name(), width)
+    match label.second {
+        Some(second) if !is_signal(module, second) => Some(second),
+        _ => None,
+    }
 }
 
 // Of a selector of so many bits, which are not those of the map's range.
 fn wrong_width(
     alloc: Global,
     found: &MapText,
-    label: (&[u8], &[u8], Option<&[u8]>),
+    label: Table,
     name: &[u8],
     width: Option<u64>,
 ) -> Result<String, AllocError> {
-    let (map, first, second) = label;
-    let count = count_at(found, name, first, second);
-    let counts = counts_of(found);
-    let name = shown(alloc, name)?;
-    let map = shown(alloc, map)?;
+    let map = Hole::Name(label.map);
+    let selector = shown(alloc, name)?;
+    let selector = Hole::Words(selector.as_str());
     let width = match width {
-        Some(width) => format!(in alloc; "{width}")?,
-        None => owned(alloc, "another number")?,
+        Some(width) => Hole::Number(width),
+        None => Hole::Words("another number"),
     };
-    match (count, counts) {
-        (Some(count), _) => {
-            let bits = count.trailing_zeros();
-            let unit = if bits == 1 { "bit" } else { "bits" };
-            format!(in alloc;
-                "the range of the label map `{map}` has {bits} {unit}, and `{name}`, which picks \
-                its row, has {width}"
-            )
-        }
-        (None, Some(counts)) => {
-            let first = counts.0.trailing_zeros();
-            let second = counts.1.trailing_zeros();
-            format!(in alloc;
-                "the ranges of the label map `{map}` have {first} and {second} bits, and `{name}`, \
-                which picks its row by both, has {width}"
-            )
-        }
-        (None, None) => format!(in alloc;
-            "`{name}` has not as many bits as the range of the label map `{map}`, whose row it \
-            picks"
+    match (count_at(found, name, label), counts_of(found)) {
+        (Some(count), _) => told(
+            alloc,
+            "the range of the label map `{}` has {} {}, and `{}`, which picks its row, has {}",
+            &[map, bits_for(count), unit_for(count), selector, width],
+        ),
+        (None, Some((first, second))) => told(
+            alloc,
+            "the ranges of the label map `{}` have {} and {} bits, and `{}`, which picks its row by \
+             both, has {}",
+            &[map, bits_for(first), bits_for(second), selector, width],
+        ),
+        (None, None) => told(
+            alloc,
+            "`{}` has not as many bits as the range of the label map `{}`, whose row it picks",
+            &[selector, map],
         ),
     }
 }
 
+// How many bits tell so many numbers apart, a power of 2.
+fn bits_for(count: u64) -> Hole<'static> {
+    Hole::Number(count.trailing_zeros() as u64)
+}
+
+// The unit of these bits.
+fn unit_for(count: u64) -> Hole<'static> {
+    Hole::Words(if count == 2 { "bit" } else { "bits" })
+}
+
 // How many numbers the range of a map has of which a selector picks one; None where it stands for
 // two of different ranges.
-fn count_at(map: &MapText, name: &[u8], first: &[u8], second: Option<&[u8]>) -> Option<u64> {
+fn count_at(map: &MapText, name: &[u8], label: Table) -> Option<u64> {
     let counts = counts_of(map)?;
-    let is_second = match second {
+    let is_first = label.first == name;
+    let is_second = match label.second {
         Some(second) => second == name,
         None => false,
     };
-    match (first == name, is_second) {
+    match (is_first, is_second) {
         (true, true) if counts.0 != counts.1 => None,
         (true, _) => Some(counts.0),
         (false, true) => Some(counts.1),
@@ -342,50 +407,62 @@ fn is_signal(module: &Module, name: &[u8]) -> bool {
 
 // Of a map that there is not.
 fn unknown_map(alloc: Global, text: &Text, map: &[u8]) -> Result<String, AllocError> {
-    let name = shown(alloc, map)?;
+    let maps = all_maps(alloc, text)?;
+    told(
+        alloc,
+        "there is no label map `{}`; the label maps are: {}",
+        &[Hole::Name(map), Hole::Words(maps.as_str())],
+    )
+}
+
+// The label maps of a text, in a row.
+fn all_maps(alloc: Global, text: &Text) -> Result<String, AllocError> {
     let mut row = Row::new(alloc);
     for map in &text.maps {
         row.add(map.name.bytes(), "")?;
     }
-    let maps = row.finish()?;
-    format!(in alloc; "there is no label map `{name}`; the label maps are: {maps}")
+    row.finish()
 }
 
 // Of a selector too many or too few.
 fn wrong_count(alloc: Global, map: &[u8], is_double: bool) -> Result<String, AllocError> {
-    let name = shown(alloc, map)?;
-    let wanted = if is_double {
-        "two signals"
-    } else {
-        "one signal"
-    };
-    format!(in alloc; "the label map `{name}` picks its row by {wanted}")
+    told(
+        alloc,
+        if is_double {
+            "the label map `{}` picks its row by two signals"
+        } else {
+            "the label map `{}` picks its row by one signal"
+        },
+        &[Hole::Name(map)],
+    )
 }
 
 // Of a selector that is no signal.
-fn no_selector(
+fn no_selector<'a>(
     alloc: Global,
-    module: &Module,
-    name: &[u8],
-    map: &[u8],
+    module: &'a Module,
+    name: &'a [u8],
+    map: &'a [u8],
 ) -> Result<String, AllocError> {
     let declared = first_declaration(module, name);
-    let name = shown(alloc, name)?;
-    let map = shown(alloc, map)?;
+    let name = Hole::Name(name);
+    let map = Hole::Name(map);
     match declared {
-        Some(Declared::Parameter(_)) => format!(in alloc;
-            "a signal picks the row of the label map `{map}`, and `{name}` is a parameter: make \
-            it an input, linked to a constant"
+        Some(Declared::Parameter(_)) => told(
+            alloc,
+            "a signal picks the row of the label map `{}`, and `{}` is a parameter: make it an \
+             input, linked to a constant",
+            &[map, name],
         ),
-        Some(_) => format!(in alloc;
-            "a signal picks the row of the label map `{map}`, and `{name}` is none"
+        Some(_) => told(
+            alloc,
+            "a signal picks the row of the label map `{}`, and `{}` is none",
+            &[map, name],
         ),
-        None => {
-            let around = shown(alloc, module.name.bytes())?;
-            format!(in alloc;
-                "there is no signal `{name}` in module `{around}`, to pick the row of the label \
-                map `{map}`"
-            )
-        }
+        None => told(
+            alloc,
+            "there is no signal `{}` in module `{}`, to pick the row of the label map `{}`",
+            &[name, Hole::Name(module.name.bytes()), map],
+        ),
     }
 }

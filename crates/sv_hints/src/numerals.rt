@@ -1,7 +1,7 @@
 // What is said of numbers that cannot be.
 use crate::cases::{Case, owned};
 use crate::excerpts::line_of;
-use crate::rows::{grouped, shown};
+use crate::sentences::{Hole, told};
 use std::alloc::{AllocError, Global};
 
 const BAD_NUMBER: &str =
@@ -10,13 +10,12 @@ const BAD_NUMBER: &str =
 
 // How many bytes at the front are digits of a decimal, or `_` between them.
 fn decimal_length(bytes: &[u8]) -> usize {
-    match bytes
-        .iter()
-        .position(|byte| !byte.is_ascii_digit() && *byte != b'_')
-    {
-        Some(end) => end,
-        None => bytes.len(),
+    for (number, byte) in bytes.iter().enumerate() {
+        if !byte.is_ascii_digit() && *byte != b'_' {
+            return number;
+        }
     }
+    bytes.len()
 }
 
 // The value of decimal digits, at most 2^64 - 1.
@@ -32,19 +31,49 @@ fn decimal(bytes: &[u8]) -> u64 {
     value
 }
 
-// A base, by its letter: how many digits it has, and its name.
-fn base_of(letter: u8) -> Option<(u32, &'static str)> {
-    match letter {
-        b'b' | b'B' => Some((2, "binary")),
-        b'o' | b'O' => Some((8, "octal")),
-        b'd' | b'D' => Some((10, "decimal")),
-        b'h' | b'H' => Some((16, "hexadecimal")),
-        _ => None,
+// A base: its letter, how many digits it has, and its name.
+#[derive(Clone, Copy)]
+struct Base {
+    letter: u8,
+    count: u32,
+    name: &'static str,
+}
+
+const BASES: [Base; 4] = [
+    Base {
+        letter: b'b',
+        count: 2,
+        name: "binary",
+    },
+    Base {
+        letter: b'o',
+        count: 8,
+        name: "octal",
+    },
+    Base {
+        letter: b'd',
+        count: 10,
+        name: "decimal",
+    },
+    Base {
+        letter: b'h',
+        count: 16,
+        name: "hexadecimal",
+    },
+];
+
+// The base of a letter.
+fn base_of(letter: u8) -> Option<Base> {
+    for base in &BASES {
+        if base.letter == letter.to_ascii_lowercase() {
+            return Some(*base);
+        }
     }
+    None
 }
 
 // What stands behind the sign of a base, which is given too; nothing where there is none.
-fn behind_base(bytes: &[u8]) -> Option<((u32, &'static str), &[u8])> {
+fn behind_base(bytes: &[u8]) -> Option<(Base, &[u8])> {
     match bytes {
         [b'\'', b's' | b'S', letter, rest @ ..] => Some((base_of(*letter)?, rest)),
         [b'\'', letter, rest @ ..] => Some((base_of(*letter)?, rest)),
@@ -54,13 +83,12 @@ fn behind_base(bytes: &[u8]) -> Option<((u32, &'static str), &[u8])> {
 
 // How many bytes at the front are letters, digits or `_`.
 fn word_length(bytes: &[u8]) -> usize {
-    match bytes.iter().position(|byte| !byte.is_ascii_alphanumeric()
-        && *byte != b'_'
-        && *byte != b'$')
-    {
-        Some(end) => end,
-        None => bytes.len(),
+    for (number, byte) in bytes.iter().enumerate() {
+        if !byte.is_ascii_alphanumeric() && *byte != b'_' && *byte != b'$' {
+            return number;
+        }
     }
+    bytes.len()
 }
 
 // The first letter or digit that is no digit of a base.
@@ -96,58 +124,82 @@ fn plain(alloc: Global, digits: &[u8], rest: &[u8]) -> Result<String, AllocError
     if digits.is_empty() {
         return owned(alloc, BAD_NUMBER);
     }
-    let number = shown(alloc, digits)?;
-    let letters = shown(alloc, rest.get(..word_length(rest)).unwrap_or(b""))?;
     let value = decimal(digits);
     if value < 0x1_0000_0000 {
-        return format!(in alloc;
-            "`{letters}` stands right behind the number {number}: a name begins with no digit, \
-            and a number has a base, as in 8'hff, or is decimal"
+        return told(
+            alloc,
+            "`{}` stands right behind the number {}: a name begins with no digit, and a number has \
+             a base, as in 8'hff, or is decimal",
+            &[Hole::Name(word_of(rest)), Hole::Name(digits)],
         );
     }
     if value == u64::MAX {
-        return format!(in alloc; "the number {number} has over 64 bits, which are the most");
+        return told(
+            alloc,
+            "the number {} has over 64 bits, which are the most",
+            &[Hole::Name(digits)],
+        );
     }
-    format!(in alloc;
-        "{number} has no size, so it has to be below 2^32: write its size before it, as in \
-        64'd{number}"
+    told(
+        alloc,
+        "{} has no size, so it has to be below 2^32: write its size before it, as in 64'd{}",
+        &[Hole::Name(digits), Hole::Name(digits)],
     )
 }
 
+// The letters, digits and `_` at the front.
+fn word_of(bytes: &[u8]) -> &[u8] {
+    bytes.get(..word_length(bytes)).unwrap_or(b"")
+}
+
 // Of the digits of a size, a base, and what stands behind it.
-fn based(
-    alloc: Global,
-    front: &[u8],
-    base: (u32, &'static str),
-    rest: &[u8],
-) -> Result<String, AllocError> {
+fn based(alloc: Global, front: &[u8], base: Base, rest: &[u8]) -> Result<String, AllocError> {
     let size = decimal(front);
     if !front.is_empty() && (size == 0 || size > 64) {
-        let size = grouped(alloc, size)?;
-        return format!(in alloc; "this number has a size of {size} bits, and 1 to 64 there may be");
-    }
-    let digits = rest.get(..word_length(rest)).unwrap_or(b"");
-    let (digits_in, name) = base;
-    match digits {
-        [] => return format!(in alloc; "this number has no {name} digit behind its base"),
-        [b'_', ..] => {
-            return owned(
-                alloc,
-                "a digit stands right behind a base, and `_` only later",
-            );
-        }
-        _ => {}
-    }
-    if let Some(wrong) = wrong_digit(digits_in, digits) {
-        let wrong = char::from(wrong);
-        return format!(in alloc; "`{wrong}` is no {name} digit");
-    }
-    let digits = shown(alloc, digits)?;
-    if front.is_empty() {
-        return format!(in alloc;
-            "the {name} number {digits} has no size, so it has to be below 2^32: write its size \
-            before the `'`, as in 64'hff"
+        return told(
+            alloc,
+            "this number has a size of {} bits, and 1 to 64 there may be",
+            &[Hole::Count(size)],
         );
     }
-    format!(in alloc; "the {name} number {digits} is 2^128 or more, and 64 bits there may be")
+    let digits = word_of(rest);
+    match digits.first() {
+        None => told(
+            alloc,
+            "this number has no {} digit behind its base",
+            &[Hole::Words(base.name)],
+        ),
+        Some(b'_') => owned(
+            alloc,
+            "a digit stands right behind a base, and `_` only later",
+        ),
+        Some(_) => by_digits(alloc, front.is_empty(), base, digits),
+    }
+}
+
+// Of the digits behind a base, and whether a size is missing before it.
+fn by_digits(
+    alloc: Global,
+    is_unsized: bool,
+    base: Base,
+    digits: &[u8],
+) -> Result<String, AllocError> {
+    if let Some(wrong) = wrong_digit(base.count, digits) {
+        return told(
+            alloc,
+            "`{}` is no {} digit",
+            &[Hole::Letter(char::from(wrong)), Hole::Words(base.name)],
+        );
+    }
+    let sentence = if is_unsized {
+        "the {} number {} has no size, so it has to be below 2^32: write its size before the `'`, \
+         as in 64'hff"
+    } else {
+        "the {} number {} is 2^128 or more, and 64 bits there may be"
+    };
+    told(
+        alloc,
+        sentence,
+        &[Hole::Words(base.name), Hole::Name(digits)],
+    )
 }

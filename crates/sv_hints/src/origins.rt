@@ -75,6 +75,11 @@ pub fn module_at(text: &Text, place: Place) -> Option<&Module> {
     found
 }
 
+/// The module around a place, where there is a tree.
+pub fn module_in(text: Option<&Text>, place: Place) -> Option<&Module> {
+    module_at(text?, place)
+}
+
 /// The place of an item.
 pub fn place_of(item: &Item) -> Place {
     match item {

@@ -1,11 +1,14 @@
 // What is said of bits and parts that lie outside of their signals, of ranges, and of lengths.
 use crate::cases::{Case, owned};
 use crate::constants::{Constants, place_of};
-use crate::contexts::{bytes_at, is_bound, last_open, spot_at};
+use crate::contexts::{Spot, bytes_at, is_bound, last_open, spot_at};
+use crate::links::NamedLink;
 use crate::origins::{item_at, module_at};
-use crate::rows::{grouped, shown};
+use crate::sentences::{Hole, told};
 use std::alloc::{AllocError, Global};
-use sv_ast::{Arm, Expr, Instance, Item, Links, Module, Select, Span, Stmt, Target};
+use sv_ast::{
+    Arm, Decl, Expr, Instance, Item, Links, Module, Param, Select, Span, Stmt, Target, Text,
+};
 use sv_num::Place;
 
 // What is sought at a place: a bit, by the place of its index, or a part; what has too many bits;
@@ -89,18 +92,21 @@ fn in_assignment<'t>(
     value: &'t Expr,
     sought: Sought,
 ) -> Option<Found<'t>> {
-    match sought {
-        Sought::Select(place) => {
-            for target in targets {
-                if let Some(found) = in_target(target, place) {
-                    return Some(found);
-                }
-            }
+    let of_targets = match sought {
+        Sought::Select(place) => in_targets(targets, place),
+        Sought::Length(place) if at == place => Some(Found::Targets(targets)),
+        _ => None,
+    };
+    first_of(of_targets, in_expr(value, sought))
+}
+
+fn in_targets(targets: &[Target], place: Place) -> Option<Found<'_>> {
+    for target in targets {
+        if let Some(found) = in_target(target, place) {
+            return Some(found);
         }
-        Sought::Length(place) if at == place => return Some(Found::Targets(targets)),
-        _ => {}
     }
-    in_expr(value, sought)
+    None
 }
 
 fn in_target(target: &Target, place: Place) -> Option<Found<'_>> {
@@ -182,17 +188,19 @@ fn in_item(item: &Item, sought: Sought) -> Option<Found<'_>> {
 fn in_links(instance: &Instance, sought: Sought) -> Option<Found<'_>> {
     match &instance.links {
         Links::Ordered(links) => in_exprs(links, sought),
-        Links::Named(links) => {
-            for link in links {
-                if let Some(expr) = &link.2 {
-                    if let Some(found) = in_expr(expr, sought) {
-                        return Some(found);
-                    }
-                }
+        Links::Named(links) => in_named_links(links, sought),
+    }
+}
+
+fn in_named_links(links: &[NamedLink], sought: Sought) -> Option<Found<'_>> {
+    for link in links {
+        if let Some(expr) = &link.2 {
+            if let Some(found) = in_expr(expr, sought) {
+                return Some(found);
             }
-            None
         }
     }
+    None
 }
 
 // What is found in the item around a place.
@@ -204,31 +212,48 @@ const OUTSIDE: &str =
     "this bit or part lies outside of its signal, or its high bound is below its low one";
 
 /// Of a bit or part outside of its signal, or with its bounds in the wrong order.
-pub fn bad_select(alloc: Global, case: &Case) -> Result<String, AllocError> {
-    let Some(text) = case.origin.tree(alloc) else {
-        return owned(alloc, OUTSIDE);
-    };
-    let Some(module) = module_at(&text, case.place) else {
-        return owned(alloc, OUTSIDE);
-    };
-    let constants = Constants::new(alloc, &text, module)?;
-    match found_at(module, case.place, Sought::Select(case.place)) {
-        Some(Found::Bit(name, index)) => outside(alloc, &constants, name, index),
-        Some(Found::Part(name, high, low)) => wrong_part(alloc, &constants, name, high, low),
+pub fn bad_select(alloc: Global, case: &Case, text: Option<&Text>) -> Result<String, AllocError> {
+    if let Some(text) = text {
+        if let Some(module) = module_at(text, case.place) {
+            let constants = Constants::new(alloc, text, module)?;
+            let found = found_at(module, case.place, Sought::Select(case.place));
+            return select_words(alloc, &constants, found);
+        }
+    }
+    owned(alloc, OUTSIDE)
+}
+
+// Of what is found to be such a bit or part.
+fn select_words(
+    alloc: Global,
+    constants: &Constants,
+    found: Option<Found>,
+) -> Result<String, AllocError> {
+    match found {
+        Some(Found::Bit(name, index)) => outside(alloc, constants, name, index),
+        Some(Found::Part(name, high, low)) => {
+            let bounds = (constants.value(high), constants.value(low));
+            wrong_part(alloc, constants, name, bounds)
+        }
         _ => owned(alloc, OUTSIDE),
     }
 }
 
 // That a signal has so many bits.
 fn bits_of(alloc: Global, constants: &Constants, name: &[u8]) -> Result<String, AllocError> {
-    let signal = shown(alloc, name)?;
+    let signal = Hole::Name(name);
     match constants.width(name) {
-        Some(1) => format!(in alloc; "`{signal}` has 1 bit, whose number is 0"),
-        Some(width) => {
-            let last = width.saturating_sub(1);
-            format!(in alloc; "`{signal}` has {width} bits, whose numbers are 0 to {last}")
-        }
-        None => format!(in alloc; "`{signal}` has fewer bits"),
+        Some(1) => told(alloc, "`{}` has 1 bit, whose number is 0", &[signal]),
+        Some(width) => told(
+            alloc,
+            "`{}` has {} bits, whose numbers are 0 to {}",
+            &[
+                signal,
+                Hole::Number(width),
+                Hole::Number(width.saturating_sub(1)),
+            ],
+        ),
+        None => told(alloc, "`{}` has fewer bits", &[signal]),
     }
 }
 
@@ -240,55 +265,68 @@ fn outside(
     index: &Expr,
 ) -> Result<String, AllocError> {
     let bits = bits_of(alloc, constants, name)?;
+    let bits = Hole::Words(bits.as_str());
     match constants.value(index) {
-        Some(number) => format!(in alloc; "there is no bit {number}: {bits}"),
-        None => format!(in alloc; "there is no such bit: {bits}"),
+        Some(number) => told(alloc, "there is no bit {}: {}", &[Hole::Number(number), bits]),
+        None => told(alloc, "there is no such bit: {}", &[bits]),
     }
 }
 
-// Of a part that a signal has not, or whose bounds are in the wrong order.
+// Of a part, by its bounds, that a signal has not, or whose bounds are in the wrong order.
 fn wrong_part(
     alloc: Global,
     constants: &Constants,
     name: &[u8],
-    high: &Expr,
-    low: &Expr,
+    bounds: (Option<u64>, Option<u64>),
 ) -> Result<String, AllocError> {
-    let (Some(high), Some(low)) = (constants.value(high), constants.value(low)) else {
+    let (Some(above), Some(below)) = bounds else {
         return owned(alloc, OUTSIDE);
     };
-    if high < low {
-        return format!(in alloc;
-            "the high bound of the part `[{high}:{low}]` is below its low one: write \
-            `[{low}:{high}]`"
+    let high = Hole::Number(above);
+    let low = Hole::Number(below);
+    if above < below {
+        return told(
+            alloc,
+            "the high bound of the part `[{}:{}]` is below its low one: write `[{}:{}]`",
+            &[high, low, low, high],
         );
     }
     let bits = bits_of(alloc, constants, name)?;
-    format!(in alloc; "there is no part `[{high}:{low}]`: {bits}")
+    told(
+        alloc,
+        "there is no part `[{}:{}]`: {}",
+        &[high, low, Hole::Words(bits.as_str())],
+    )
 }
 
 /// Of a signal where a constant is wanted.
 pub fn not_constant(alloc: Global, case: &Case) -> Result<String, AllocError> {
     let tokens = case.origin.tokens(alloc)?;
     let spot = spot_at(case.origin.text, &tokens, case.place);
-    let words = match bytes_at(spot.text, spot.front, last_open(spot.text, spot.front)) {
-        b"case" => "an item of a `case` is a constant, and this is a signal: ask it by `if`",
-        b"[" if !is_bound(spot) => {
-            "a part's bounds, and the index of what is assigned, are constants, and this is a \
-             signal: shift by it, or ask it by `case`"
-        }
-        _ => "a constant is wanted here, and this is a signal: use a parameter",
-    };
-    owned(alloc, words)
+    owned(alloc, constant_words(spot))
+}
+
+// Where a constant is wanted.
+fn constant_words(spot: Spot) -> &'static str {
+    let open = bytes_at(spot.text, spot.front, last_open(spot.text, spot.front));
+    if open == b"case".as_slice() {
+        "an item of a `case` is a constant, and this is a signal: ask it by `if`"
+    } else if open == b"[".as_slice() && !is_bound(spot) {
+        "a part's bounds, and the index of what is assigned, are constants, and this is a signal: \
+         shift by it, or ask it by `case`"
+    } else {
+        "a constant is wanted here, and this is a signal: use a parameter"
+    }
 }
 
 /// Of what has over 64 bits.
-pub fn too_wide(alloc: Global, case: &Case) -> Result<String, AllocError> {
-    match length_at(alloc, case)? {
-        Some(length) if length > 64 => {
-            let length = grouped(alloc, length)?;
-            format!(in alloc; "this has {length} bits, and 64 there may be: split it in two")
-        }
+pub fn too_wide(alloc: Global, case: &Case, text: Option<&Text>) -> Result<String, AllocError> {
+    match length_at(alloc, case, text)? {
+        Some(length) if length > 64 => told(
+            alloc,
+            "this has {} bits, and 64 there may be: split it in two",
+            &[Hole::Count(length)],
+        ),
         _ => owned(
             alloc,
             "this has over 64 bits, which are the most: split it in two",
@@ -297,62 +335,98 @@ pub fn too_wide(alloc: Global, case: &Case) -> Result<String, AllocError> {
 }
 
 // How many bits has what stands at the place of a case.
-fn length_at(alloc: Global, case: &Case) -> Result<Option<u64>, AllocError> {
-    let Some(text) = case.origin.tree(alloc) else {
-        return Ok(None);
-    };
-    let Some(module) = module_at(&text, case.place) else {
-        return Ok(None);
-    };
-    let constants = Constants::new(alloc, &text, module)?;
-    match found_at(module, case.place, Sought::Length(case.place)) {
-        Some(Found::Expr(expr)) => Ok(constants.length(expr)),
-        Some(Found::Targets(targets)) => Ok(constants.targets_length(targets)),
-        _ => Ok(None),
+fn length_at(alloc: Global, case: &Case, text: Option<&Text>) -> Result<Option<u64>, AllocError> {
+    if let Some(text) = text {
+        if let Some(module) = module_at(text, case.place) {
+            let constants = Constants::new(alloc, text, module)?;
+            let found = found_at(module, case.place, Sought::Length(case.place));
+            return Ok(length_of(&constants, found));
+        }
+    }
+    Ok(None)
+}
+
+// How many bits has what is found to have too many.
+fn length_of(constants: &Constants, found: Option<Found>) -> Option<u64> {
+    match found? {
+        Found::Expr(expr) => constants.length(expr),
+        Found::Targets(targets) => constants.targets_length(targets),
+        _ => None,
     }
 }
 
 /// Of a replication that is written too often, or not at all.
-pub fn bad_count(alloc: Global, case: &Case) -> Result<String, AllocError> {
-    if let Some(text) = case.origin.tree(alloc) {
-        if let Some(module) = module_at(&text, case.place) {
-            let constants = Constants::new(alloc, &text, module)?;
+pub fn bad_count(alloc: Global, case: &Case, text: Option<&Text>) -> Result<String, AllocError> {
+    match count_at(alloc, case, text)? {
+        Some(count) => told(
+            alloc,
+            "this replication is written {} times, and 1 to 64 times it may be",
+            &[Hole::Number(count)],
+        ),
+        None => owned(alloc, "a replication is written 1 to 64 times"),
+    }
+}
+
+// How often the replication at the place of a case is written.
+fn count_at(alloc: Global, case: &Case, text: Option<&Text>) -> Result<Option<u64>, AllocError> {
+    if let Some(text) = text {
+        if let Some(module) = module_at(text, case.place) {
+            let constants = Constants::new(alloc, text, module)?;
             let found = found_at(module, case.place, Sought::Count(case.place));
-            if let Some(Found::Expr(count)) = found {
-                if let Some(count) = constants.value(count) {
-                    return format!(in alloc;
-                        "this replication is written {count} times, and 1 to 64 times it may be"
-                    );
-                }
-            }
+            return Ok(count_in(&constants, found));
         }
     }
-    owned(alloc, "a replication is written 1 to 64 times")
+    Ok(None)
+}
+
+// The value of what is found to be a count.
+fn count_in(constants: &Constants, found: Option<Found>) -> Option<u64> {
+    match found? {
+        Found::Expr(count) => constants.value(count),
+        _ => None,
+    }
 }
 
 // The range of a module whose high bound is at a place.
 fn range_at(module: &Module, place: Place) -> Option<&Span> {
-    for param in &module.params {
+    if let Some(span) = range_of_param(&module.params, place) {
+        return Some(span);
+    }
+    if let Some(span) = range_of_port(&module.ports, place) {
+        return Some(span);
+    }
+    for item in &module.items {
+        if let Some(span) = range_of_item(item, place) {
+            return Some(span);
+        }
+    }
+    None
+}
+
+fn range_of_param(params: &[Param], place: Place) -> Option<&Span> {
+    for param in params {
         if let Some(span) = range_if(&param.span, place) {
             return Some(span);
         }
     }
-    for port in &module.ports {
+    None
+}
+
+fn range_of_port(ports: &[Decl], place: Place) -> Option<&Span> {
+    for port in ports {
         if let Some(span) = range_if(&port.span, place) {
             return Some(span);
         }
     }
-    for item in &module.items {
-        let span = match item {
-            Item::Param(param) => range_if(&param.span, place),
-            Item::Decl(decl) => range_if(&decl.span, place),
-            _ => None,
-        };
-        if span.is_some() {
-            return span;
-        }
-    }
     None
+}
+
+fn range_of_item(item: &Item, place: Place) -> Option<&Span> {
+    match item {
+        Item::Param(param) => range_if(&param.span, place),
+        Item::Decl(decl) => range_if(&decl.span, place),
+        _ => None,
+    }
 }
 
 fn range_if(span: &Option<Span>, place: Place) -> Option<&Span> {
@@ -363,34 +437,54 @@ fn range_if(span: &Option<Span>, place: Place) -> Option<&Span> {
 }
 
 /// Of a range that is none of a signal.
-pub fn bad_range(alloc: Global, case: &Case) -> Result<String, AllocError> {
-    if let Some(text) = case.origin.tree(alloc) {
-        if let Some(module) = module_at(&text, case.place) {
-            if let Some(span) = range_at(module, case.place) {
-                let constants = Constants::new(alloc, &text, module)?;
-                let bounds = (constants.value(&span.high), constants.value(&span.low));
-                if let (Some(high), Some(low)) = bounds {
-                    return wrong_range(alloc, high, low);
-                }
-            }
+pub fn bad_range(alloc: Global, case: &Case, text: Option<&Text>) -> Result<String, AllocError> {
+    match bounds_at(alloc, case, text)? {
+        Some((high, low)) => wrong_range(alloc, high, low),
+        None => owned(alloc, "a range is `[m:0]` with m from 0 to 63"),
+    }
+}
+
+// The bounds of the range at the place of a case, where they are known.
+fn bounds_at(
+    alloc: Global,
+    case: &Case,
+    text: Option<&Text>,
+) -> Result<Option<(u64, u64)>, AllocError> {
+    if let Some(text) = text {
+        if let Some(module) = module_at(text, case.place) {
+            let constants = Constants::new(alloc, text, module)?;
+            return Ok(bounds_of(&constants, range_at(module, case.place)));
         }
     }
-    owned(alloc, "a range is `[m:0]` with m from 0 to 63")
+    Ok(None)
+}
+
+fn bounds_of(constants: &Constants, span: Option<&Span>) -> Option<(u64, u64)> {
+    let span = span?;
+    Some((constants.value(&span.high)?, constants.value(&span.low)?))
 }
 
 // Of a range between two numbers.
 fn wrong_range(alloc: Global, high: u64, low: u64) -> Result<String, AllocError> {
     if low == 0 {
-        let bits = grouped(alloc, high.saturating_add(1))?;
-        return format!(in alloc;
-            "the range `[{high}:0]` has {bits} bits, and 64 there may be: split the signal in two"
+        return told(
+            alloc,
+            "the range `[{}:0]` has {} bits, and 64 there may be: split the signal in two",
+            &[Hole::Number(high), Hole::Count(high.saturating_add(1))],
         );
     }
+    let low = Hole::Number(low);
     if high == 0 {
-        return format!(in alloc;
-            "the range `[0:{low}]` has its low bound first: write `[{low}:0]`, with the highest \
-            bit first"
+        return told(
+            alloc,
+            "the range `[0:{}]` has its low bound first: write `[{}:0]`, with the highest bit \
+             first",
+            &[low, low],
         );
     }
-    format!(in alloc; "the range `[{high}:{low}]` is to end at 0: `[m:0]`, with m from 0 to 63")
+    told(
+        alloc,
+        "the range `[{}:{}]` is to end at 0: `[m:0]`, with m from 0 to 63",
+        &[Hole::Number(high), low],
+    )
 }

@@ -28,5 +28,10 @@ pub fn hint_on_pair(before: &[u8], word: &[u8], table: &[PairHint]) -> Option<&'
 
 /// Whether a word is in a list.
 pub fn is_among(word: &[u8], list: &[&[u8]]) -> bool {
-    list.iter().any(|listed| *listed == word)
+    for listed in list {
+        if *listed == word {
+            return true;
+        }
+    }
+    false
 }

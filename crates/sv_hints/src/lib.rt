@@ -35,7 +35,7 @@ pub use cases::{Case, owned};
 pub use excerpts::push_excerpt;
 pub use links::{PortLink, port_link};
 pub use origins::{Origin, first_unbuilt, place_of};
-pub use rows::{Row, file_name, grouped, shown, shown_bytes, shown_word};
+pub use rows::{Row, file_name, shown, shown_word};
 pub use rules::words_of;
 pub use sentences::{Hole, told};
 pub use std::alloc::AllocError as OutOfMemory;

@@ -3,27 +3,27 @@ use crate::designs::admitted_design;
 use std::alloc::{AllocError, Global};
 use sv_design::Design;
 use sv_flat::{SigId, Signal};
-use sv_hints::{Origin, file_name, grouped, shown, shown_word};
+use sv_hints::{Hole, Origin, owned, shown, told};
 use sv_lattice::Label;
 use sv_words::Command;
 
 // The level that looks at both runs.
-fn level_of(alloc: Global, command: &Command) -> Result<String, AllocError> {
+fn level_of(command: &Command) -> &str {
     match command {
-        Command::Compare { level, .. } => shown_word(alloc, level.as_str()),
-        _ => Ok(String::new(alloc)),
+        Command::Compare { level, .. } => level.as_str(),
+        _ => "",
     }
 }
 
 // The two stimuli.
 fn stimuli_of(alloc: Global, command: &Command) -> Result<String, AllocError> {
     match command {
-        Command::Compare { a, b, .. } => {
-            let a = file_name(alloc, a.as_str())?;
-            let b = file_name(alloc, b.as_str())?;
-            format!(in alloc; "{a} and {b}")
-        }
-        _ => format!(in alloc; "the stimuli"),
+        Command::Compare { a, b, .. } => told(
+            alloc,
+            "{} and {}",
+            &[Hole::File(a.as_str()), Hole::File(b.as_str())],
+        ),
+        _ => owned(alloc, "the stimuli"),
     }
 }
 
@@ -43,11 +43,22 @@ pub fn unlike_given(
     cycle: u64,
     signal: SigId,
 ) -> Result<String, AllocError> {
-    let Some(design) = admitted_design(alloc, origin) else {
-        return Ok(String::new(alloc));
-    };
+    match admitted_design(alloc, origin) {
+        Some(design) => unlike_in(alloc, &design, command, cycle, signal),
+        None => Ok(String::new(alloc)),
+    }
+}
+
+// Of a signal of a design that is given differently.
+fn unlike_in(
+    alloc: Global,
+    design: &Design,
+    command: &Command,
+    cycle: u64,
+    signal: SigId,
+) -> Result<String, AllocError> {
     match design.signals().get(signal.0 as usize) {
-        Some(found) if is_register(&design, signal) => unlike_start(alloc, command, found),
+        Some(found) if is_register(design, signal) => unlike_start(alloc, command, found),
         Some(found) => unlike_input(alloc, command, cycle, found),
         None => Ok(String::new(alloc)),
     }
@@ -55,14 +66,21 @@ pub fn unlike_given(
 
 // Of a register that starts differently.
 fn unlike_start(alloc: Global, command: &Command, found: &Signal) -> Result<String, AllocError> {
-    let label = with_label(found);
-    let level = level_of(alloc, command)?;
     let stimuli = stimuli_of(alloc, command)?;
     let name = shown(alloc, found.name.bytes())?;
-    format!(in alloc;
-        "secv: `{level}` sees the register `{name}` start differently in {stimuli}, which tells \
-        nothing of the design: a register starts at 0 or by a line `start {name} VALUE`; give it \
-        the same value in both{label}\n"
+    let name = Hole::Words(name.as_str());
+    told(
+        alloc,
+        "secv: `{}` sees the register `{}` start differently in {}, which tells nothing of the \
+         design: a register starts at 0 or by a line `start {} VALUE`; give it the same value in \
+         both{}\n",
+        &[
+            Hole::Asked(level_of(command)),
+            name,
+            Hole::Words(stimuli.as_str()),
+            name,
+            Hole::Words(with_label(found)),
+        ],
     )
 }
 
@@ -73,23 +91,30 @@ fn unlike_input(
     cycle: u64,
     found: &Signal,
 ) -> Result<String, AllocError> {
-    let label = with_label(found);
-    let level = level_of(alloc, command)?;
     let stimuli = stimuli_of(alloc, command)?;
     let name = shown(alloc, found.name.bytes())?;
-    let cycle = grouped(alloc, cycle)?;
-    format!(in alloc;
-        "secv: in cycle {cycle} `{level}` sees the input `{name}` differently in {stimuli}, which \
-        tells nothing of the design: give it the same value in both{label}\n"
+    told(
+        alloc,
+        "secv: in cycle {} `{}` sees the input `{}` differently in {}, which tells nothing of the \
+         design: give it the same value in both{}\n",
+        &[
+            Hole::Count(cycle),
+            Hole::Asked(level_of(command)),
+            Hole::Words(name.as_str()),
+            Hole::Words(stimuli.as_str()),
+            Hole::Words(with_label(found)),
+        ],
     )
 }
 
 // Whether a signal is a register of the design.
 fn is_register(design: &Design, signal: SigId) -> bool {
-    design
-        .registers()
-        .iter()
-        .any(|register| *register == signal)
+    for register in design.registers() {
+        if *register == signal {
+            return true;
+        }
+    }
+    false
 }
 
 /// Of two runs that are given what looks alike, and look different.
@@ -101,38 +126,47 @@ pub fn leak(
     signal: SigId,
 ) -> Result<String, AllocError> {
     match admitted_design(alloc, origin) {
-        Some(design) => match design.signals().get(signal.0 as usize) {
-            Some(found) => leak_at(alloc, command, cycle, found),
-            None => Ok(String::new(alloc)),
-        },
+        Some(design) => leak_in(alloc, &design, command, cycle, signal),
         None => Ok(String::new(alloc)),
     }
 }
 
-// Of a signal that looks different in a cycle.
-fn leak_at(
+// Of a signal of a design that looks different in a cycle.
+fn leak_in(
     alloc: Global,
+    design: &Design,
     command: &Command,
     cycle: u64,
-    found: &Signal,
+    signal: SigId,
 ) -> Result<String, AllocError> {
-    let level = level_of(alloc, command)?;
+    let Some(found) = design.signals().get(signal.0 as usize) else {
+        return Ok(String::new(alloc));
+    };
     let name = shown(alloc, found.name.bytes())?;
-    let cycle = grouped(alloc, cycle)?;
-    format!(in alloc;
-        "secv: in cycle {cycle} `{level}` sees `{name}` differently in the two runs, though all \
-        that it was given looks alike up to there: the design leaks\n"
+    told(
+        alloc,
+        "secv: in cycle {} `{}` sees `{}` differently in the two runs, though all that it was \
+         given looks alike up to there: the design leaks\n",
+        &[
+            Hole::Count(cycle),
+            Hole::Asked(level_of(command)),
+            Hole::Words(name.as_str()),
+        ],
     )
 }
 
 /// Of two runs that look alike until the shorter one ends, which has so many cycles.
 pub fn lengths(alloc: Global, command: &Command, cycles: u64) -> Result<String, AllocError> {
-    let level = level_of(alloc, command)?;
     let stimuli = stimuli_of(alloc, command)?;
-    let number = grouped(alloc, cycles)?;
-    let unit = if cycles == 1 { "cycle" } else { "cycles" };
-    format!(in alloc;
-        "secv: `{level}` sees no difference in the {number} {unit} that {stimuli} both have, and \
-        one of them has more: give both as many\n"
+    told(
+        alloc,
+        "secv: `{}` sees no difference in the {} {} that {} both have, and one of them has more: \
+         give both as many\n",
+        &[
+            Hole::Asked(level_of(command)),
+            Hole::Count(cycles),
+            Hole::Words(if cycles == 1 { "cycle" } else { "cycles" }),
+            Hole::Words(stimuli.as_str()),
+        ],
     )
 }

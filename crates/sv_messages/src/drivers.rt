@@ -2,48 +2,70 @@
 use crate::designs::flat_design;
 use crate::uses::{driven_at, signal_named};
 use std::alloc::{AllocError, Global};
-use sv_flat::{Flat, ProcKind, Process, SigKind, Signal};
-use sv_hints::{Case, instance_words, shown};
-use sv_num::Place;
+use sv_flat::{Flat, ProcKind, Process, SigKind};
+use sv_hints::{Case, Hole, instance_words, told};
 
 /// Of a signal with a second driver.
 pub fn drivers(alloc: Global, case: &Case) -> Result<String, AllocError> {
-    let name = shown(alloc, case.name())?;
-    if let Some(flat) = flat_design(alloc, &case.origin) {
-        if let Some(number) = signal_named(&flat, case.name()) {
+    let flat = flat_design(alloc, &case.origin);
+    drivers_in(alloc, case, flat.as_ref())
+}
+
+// The same in a flat design, where there is one.
+fn drivers_in(alloc: Global, case: &Case, flat: Option<&Flat>) -> Result<String, AllocError> {
+    if let Some(flat) = flat {
+        if let Some(number) = signal_named(flat, case.name()) {
             if let Some(signal) = flat.signals.get(number) {
-                return driver_fault(alloc, case, &flat, number, signal, name.as_str());
+                return driver_fault(alloc, case, flat, number, signal.kind);
             }
         }
     }
-    format!(in alloc; "`{name}` has a driver already, or is an input of the top")
+    told(
+        alloc,
+        "`{}` has a driver already, or is an input of the top",
+        &[Hole::Name(case.name())],
+    )
 }
 
-// What drives a signal before.
+// What drives a signal of a kind before.
 fn driver_fault(
     alloc: Global,
     case: &Case,
     flat: &Flat,
     number: usize,
-    signal: &Signal,
-    name: &str,
+    kind: SigKind,
 ) -> Result<String, AllocError> {
-    match signal.kind {
-        SigKind::TopInput => {
-            format!(in alloc; "`{name}` is an input of the top, and is driven from outside")
-        }
-        SigKind::Input => input_fault(alloc, case, first_driver(flat, number), name),
-        _ => match first_driver(flat, number) {
-            Some(process) if process.place != case.place => {
-                let Place { line, column } = process.place;
-                let mend = mend_of_two(flat, number);
-                format!(in alloc; "`{name}` has a driver already, at {line}:{column}: {mend}")
-            }
-            _ => {
-                let mend = mend_of_two(flat, number);
-                format!(in alloc; "`{name}` has a driver already: {mend}")
-            }
-        },
+    let driver = first_driver(flat, number);
+    match kind {
+        SigKind::TopInput => told(
+            alloc,
+            "`{}` is an input of the top, and is driven from outside",
+            &[Hole::Name(case.name())],
+        ),
+        SigKind::Input => input_fault(alloc, case, driver),
+        _ => second_fault(alloc, case, driver, mend_of_two(flat, number)),
+    }
+}
+
+// Of a signal that the first of its drivers drives before, and how the two become one.
+fn second_fault(
+    alloc: Global,
+    case: &Case,
+    driver: Option<&Process>,
+    mend: &'static str,
+) -> Result<String, AllocError> {
+    let name = Hole::Name(case.name());
+    match driver {
+        Some(driver) if driver.place != case.place => told(
+            alloc,
+            "`{}` has a driver already, at {}: {}",
+            &[name, Hole::Place(driver.place), Hole::Words(mend)],
+        ),
+        _ => told(
+            alloc,
+            "`{}` has a driver already: {}",
+            &[name, Hole::Words(mend)],
+        ),
     }
 }
 
@@ -62,20 +84,21 @@ fn input_fault(
     alloc: Global,
     case: &Case,
     driver: Option<&Process>,
-    name: &str,
 ) -> Result<String, AllocError> {
     let at = instance_words(alloc, case)?;
+    let name = Hole::Name(case.name());
+    let at = Hole::Words(at.as_str());
     match driver {
-        Some(driver) if driver.kind == ProcKind::PortIn => {
-            let Place { line, column } = driver.place;
-            format!(in alloc;
-                "`{name}` is an input{at}, and what is linked to it at {line}:{column} drives it: \
-                take this assignment away"
-            )
-        }
-        _ => format!(in alloc;
-            "`{name}` is an input{at}, which links nothing to it: link it there, and assign it \
-            nowhere"
+        Some(driver) if driver.kind == ProcKind::PortIn => told(
+            alloc,
+            "`{}` is an input{}, and what is linked to it at {} drives it: take this assignment \
+             away",
+            &[name, at, Hole::Place(driver.place)],
+        ),
+        _ => told(
+            alloc,
+            "`{}` is an input{}, which links nothing to it: link it there, and assign it nowhere",
+            &[name, at],
         ),
     }
 }

@@ -11,7 +11,7 @@ use crate::uses::named_at;
 use std::alloc::{AllocError, Global};
 use sv_design::Design;
 use sv_flat::SigId;
-use sv_hints::{Case, Origin, shown};
+use sv_hints::{Case, Hole, Origin, told};
 use sv_lattice::Point;
 use sv_num::Place;
 use sv_obl::{Bodies, Frame, Goal, Query, Valuation};
@@ -128,14 +128,13 @@ fn place_in(alloc: Global, design: &Design, number: u32) -> Option<Place> {
 
 /// Of an obligation on which the budget was spent.
 pub fn spent(alloc: Global, origin: &Origin, number: u32) -> Result<Said, AllocError> {
-    let words = format!(in alloc;
-        "the budget does not suffice for obligation {number}; `--budget \
-        NUMBER` gives more"
+    let place = place_of_obligation(alloc, origin, number);
+    let words = told(
+        alloc,
+        "the budget does not suffice for obligation {}; `--budget NUMBER` gives more",
+        &[Hole::Number(number as u64)],
     )?;
-    Ok(Said {
-        place: place_of_obligation(alloc, origin, number),
-        words,
-    })
+    Ok(Said { place, words })
 }
 
 // The first read whose label does not flow, its label, and that of the target.
@@ -219,17 +218,17 @@ fn label_above(design: &Design, read: SigId, values: &[u64], to: Point) -> Optio
     }
 }
 
-fn signal_name(alloc: Global, design: &Design, signal: SigId) -> Result<String, AllocError> {
+fn signal_name(design: &Design, signal: SigId) -> Hole<'_> {
     match design.signals().get(signal.0 as usize) {
-        Some(signal) => shown(alloc, signal.name.bytes()),
-        None => Ok(String::new(alloc)),
+        Some(signal) => Hole::Name(signal.name.bytes()),
+        None => Hole::Words(""),
     }
 }
 
-fn point_name(alloc: Global, design: &Design, point: Point) -> Result<String, AllocError> {
+fn point_name(design: &Design, point: Point) -> Hole<'_> {
     match design.points().get(point.0 as usize) {
-        Some(name) => shown(alloc, name.bytes()),
-        None => Ok(String::new(alloc)),
+        Some(name) => Hole::Name(name.bytes()),
+        None => Hole::Words(""),
     }
 }
 
@@ -248,7 +247,11 @@ pub fn flow(
 
 // That an obligation fails.
 fn failed_words(alloc: Global, number: u32) -> Result<String, AllocError> {
-    format!(in alloc; "obligation {number} fails at the printed values")
+    told(
+        alloc,
+        "obligation {} fails at the printed values",
+        &[Hole::Number(number as u64)],
+    )
 }
 
 // Of the obligation of a number of a design.
@@ -267,16 +270,18 @@ fn flow_of(
     query: &Query,
     v: &Valuation,
 ) -> Result<Said, AllocError> {
-    match (asked_of(query), leak_of(alloc, design, query, v)?) {
-        (Some(target), Some(leak)) => Ok(Said {
-            place: place_of_leak(design, query, target, leak.read),
-            words: leak_words(alloc, design, number, query, target, leak)?,
-        }),
-        _ => Ok(Said {
-            place: place_of(design, query),
-            words: failed_words(alloc, number)?,
-        }),
-    }
+    let found = leak_of(alloc, design, query, v)?;
+    let (place, words) = match (asked_of(query), found) {
+        (Some(target), Some(leak)) => (
+            place_of_leak(design, query, target, leak.read),
+            leak_words(alloc, design, number, query, target, leak),
+        ),
+        _ => (place_of(design, query), failed_words(alloc, number)),
+    };
+    Ok(Said {
+        place,
+        words: words?,
+    })
 }
 
 // Where a target learns from a read: where it is held and learns from another signal, at the last
@@ -304,9 +309,11 @@ fn condition_on(query: &Query, read: SigId) -> Option<Place> {
 // The condition before an assignment that reads the signal, in words; nothing where none does.
 fn condition_words(alloc: Global, query: &Query, read: SigId) -> Result<String, AllocError> {
     match condition_on(query, read) {
-        Some(Place { line, column }) if query.right.is_some() => {
-            format!(in alloc; ", which the condition at {line}:{column} reads")
-        }
+        Some(place) if query.right.is_some() => told(
+            alloc,
+            ", which the condition at {} reads",
+            &[Hole::Place(place)],
+        ),
         _ => Ok(String::new(alloc)),
     }
 }
@@ -319,32 +326,23 @@ fn frame_words(query: &Query) -> &'static str {
     }
 }
 
-// The names of a target and of what it learns from, and of their labels, as they are shown.
-#[derive(Drop)]
-struct LeakNames {
-    target: String,
-    read: String,
-    from: String,
-    to: String,
+// The names of a target and of what it learns from, and of their labels.
+#[derive(Clone, Copy)]
+struct LeakNames<'d> {
+    target: Hole<'d>,
+    read: Hole<'d>,
+    from: Hole<'d>,
+    to: Hole<'d>,
 }
 
-impl LeakNames {
-    fn of(
-        alloc: Global,
-        design: &Design,
-        target: SigId,
-        leak: Leak,
-    ) -> Result<LeakNames, AllocError> {
-        let target = signal_name(alloc, design, target)?;
-        let read = signal_name(alloc, design, leak.read)?;
-        let from = point_name(alloc, design, leak.from)?;
-        let to = point_name(alloc, design, leak.to)?;
-        Ok(LeakNames {
-            target,
-            read,
-            from,
-            to,
-        })
+impl<'d> LeakNames<'d> {
+    fn of(design: &'d Design, target: SigId, leak: Leak) -> LeakNames<'d> {
+        LeakNames {
+            target: signal_name(design, target),
+            read: signal_name(design, leak.read),
+            from: point_name(design, leak.from),
+            to: point_name(design, leak.to),
+        }
     }
 }
 
@@ -357,46 +355,55 @@ fn leak_words(
     target: SigId,
     leak: Leak,
 ) -> Result<String, AllocError> {
-    let names = LeakNames::of(alloc, design, target, leak)?;
+    let names = LeakNames::of(design, target, leak);
     match &query.goal {
-        Goal::Selector { .. } => picked_words(alloc, number, &names),
+        Goal::Selector { .. } => picked_words(alloc, number, names),
         Goal::Flow {
             frame: Frame::Next,
             ..
-        } if query.right.is_none() && leak.read.0 == target.0 => {
-            kept_words(alloc, number, &names)
-        }
-        _ => learnt_words(alloc, number, query, leak.read, &names),
+        } if query.right.is_none() && leak.read.0 == target.0 => kept_words(alloc, number, names),
+        _ => learnt_words(alloc, number, query, leak.read, names),
     }
 }
 
 // That a label tells what picks it.
-fn picked_words(alloc: Global, number: u32, names: &LeakNames) -> Result<String, AllocError> {
+fn picked_words(alloc: Global, number: u32, names: LeakNames) -> Result<String, AllocError> {
     let LeakNames {
-        target: name,
+        target,
         read,
         from,
         to,
     } = names;
-    format!(in alloc;
-        "obligation {number}: the label of `{name}` tells `{read}`, which picks it: at the printed \
-        values `{read}` is at `{from}`, and `{name}` at `{to}`; pick a label by a signal that all \
-        may see who see `{name}`"
+    told(
+        alloc,
+        "obligation {}: the label of `{}` tells `{}`, which picks it: at the printed values `{}` \
+         is at `{}`, and `{}` at `{}`; pick a label by a signal that all may see who see `{}`",
+        &[
+            Hole::Number(number as u64),
+            target,
+            read,
+            read,
+            from,
+            target,
+            to,
+            target,
+        ],
     )
 }
 
 // That a register keeps its value while its label falls.
-fn kept_words(alloc: Global, number: u32, names: &LeakNames) -> Result<String, AllocError> {
-    let LeakNames {
-        target: name,
-        from,
-        to,
-        ..
-    } = names;
-    format!(in alloc;
-        "obligation {number}: the register `{name}` keeps its value on this path, and its label \
-        falls: at the printed values it is at `{from}`, and at `{to}` in the next cycle; clear it \
-        where its label falls"
+fn kept_words(alloc: Global, number: u32, names: LeakNames) -> Result<String, AllocError> {
+    told(
+        alloc,
+        "obligation {}: the register `{}` keeps its value on this path, and its label falls: at \
+         the printed values it is at `{}`, and at `{}` in the next cycle; clear it where its label \
+         falls",
+        &[
+            Hole::Number(number as u64),
+            names.target,
+            names.from,
+            names.to,
+        ],
     )
 }
 
@@ -406,18 +413,29 @@ fn learnt_words(
     number: u32,
     query: &Query,
     signal: SigId,
-    names: &LeakNames,
+    names: LeakNames,
 ) -> Result<String, AllocError> {
     let LeakNames {
-        target: name,
+        target,
         read,
         from,
         to,
     } = names;
-    let of = frame_words(query);
     let by = condition_words(alloc, query, signal)?;
-    format!(in alloc;
-        "obligation {number}: `{name}` learns from `{read}`{by}: at the printed values `{read}` is \
-        at `{from}`, and `{name}` at `{to}`{of}"
+    told(
+        alloc,
+        "obligation {}: `{}` learns from `{}`{}: at the printed values `{}` is at `{}`, and `{}` at \
+         `{}`{}",
+        &[
+            Hole::Number(number as u64),
+            target,
+            read,
+            Hole::Words(by.as_str()),
+            read,
+            from,
+            target,
+            to,
+            Hole::Words(frame_words(query)),
+        ],
     )
 }

@@ -3,11 +3,9 @@ use crate::counts::{Paths, obligations_of, paths_to};
 use crate::designs::admitted_design;
 use crate::said::Said;
 use std::alloc::{AllocError, Global};
-use sv_ast::Item;
+use sv_ast::{Item, Text};
 use sv_design::Design;
-use sv_hints::{
-    Case, Origin, Row, file_name, first_unbuilt, grouped, owned, place_of, shown, shown_word,
-};
+use sv_hints::{Case, Hole, Origin, Row, first_unbuilt, owned, place_of, shown_word, told};
 use sv_num::Place;
 use sv_paths::check_limits;
 use sv_words::Command;
@@ -15,46 +13,60 @@ use sv_words::Command;
 /// Of an item that is not built.
 pub fn unbuilt(alloc: Global, case: &Case) -> Result<Said, AllocError> {
     let text = case.origin.tree(alloc);
-    let item = match &text {
-        Some(text) => first_unbuilt(text),
-        None => None,
-    };
-    let words = match item {
-        Some(Item::Memory(_)) => {
-            "memories are not built yet: name the registers, and pick one by `case`"
-        }
-        Some(Item::Release { .. }) => {
-            "`$release` is not built yet: label what is made of a secret as secret; what is public \
-             beside it is still checked"
-        }
-        Some(Item::Invariant(_, _)) => {
-            "`invariant` is not built yet: add its condition to the path that needs it"
-        }
-        _ => "memories, invariants and released values are not built yet",
-    };
+    let (place, words) = unbuilt_in(text.as_ref());
     Ok(Said {
-        place: item.map(place_of),
+        place,
         words: owned(alloc, words)?,
     })
 }
 
+// The place of the first item that is not built, and what is said of it.
+fn unbuilt_in(text: Option<&Text>) -> (Option<Place>, &'static str) {
+    match first_of(text) {
+        Some(item) => (Some(place_of(item)), unbuilt_words(item)),
+        None => (None, UNBUILT),
+    }
+}
+
+fn first_of(text: Option<&Text>) -> Option<&Item> {
+    first_unbuilt(text?)
+}
+
+const UNBUILT: &str = "memories, invariants and released values are not built yet";
+
+fn unbuilt_words(item: &Item) -> &'static str {
+    match item {
+        Item::Memory(_) => "memories are not built yet: name the registers, and pick one by `case`",
+        Item::Release { .. } => {
+            "`$release` is not built yet: label what is made of a secret as secret; what is public \
+             beside it is still checked"
+        }
+        Item::Invariant(_, _) => {
+            "`invariant` is not built yet: add its condition to the path that needs it"
+        }
+        _ => UNBUILT,
+    }
+}
+
 /// Of a file that is too large.
 pub fn file_size(alloc: Global, case: &Case) -> Result<Said, AllocError> {
-    let file = file_name(alloc, case.origin.file)?;
-    let words = format!(in alloc;
-        "{file}: the file has over 1,048,576 bytes, which is the most: leave \
-        out modules that the top has no instance of"
+    let words = told(
+        alloc,
+        "{}: the file has over 1,048,576 bytes, which is the most: leave out modules that the top \
+         has no instance of",
+        &[Hole::File(case.origin.file)],
     )?;
     Ok(Said::nowhere(words))
 }
 
-// The place where the signal of the first name is declared.
+// The place where the signal of a name is declared.
 fn declared_at(design: &Design, name: &[u8]) -> Option<Place> {
-    let signal = design
-        .signals()
-        .iter()
-        .find(|signal| signal.name.bytes() == name)?;
-    Some(signal.place)
+    for signal in design.signals() {
+        if signal.name.bytes() == name {
+            return Some(signal.place);
+        }
+    }
+    None
 }
 
 // Where the signal that is named is declared, and the paths to it.
@@ -70,43 +82,48 @@ fn signal_of(alloc: Global, case: &Case) -> Result<(Option<Place>, Option<Paths>
 
 /// Of a signal with too many paths.
 pub fn paths(alloc: Global, case: &Case) -> Result<Said, AllocError> {
-    let name = shown(alloc, case.name())?;
-    let mend = "split its block, or name a value between by a `wire`";
     let (place, paths) = signal_of(alloc, case)?;
     let words = match paths {
-        Some(paths) => {
-            let count = grouped(alloc, paths.count)?;
-            format!(in alloc;
-                "{count} paths lead through the statements to `{name}`, and 4,096 there may be: \
-                {mend}"
-            )?
-        }
-        None => format!(in alloc;
-            "over 4,096 paths lead through the statements to `{name}`, which is the most: {mend}"
-        )?,
+        Some(paths) => told(
+            alloc,
+            "{} paths lead through the statements to `{}`, and 4,096 there may be: split its \
+             block, or name a value between by a `wire`",
+            &[Hole::Count(paths.count), Hole::Name(case.name())],
+        ),
+        None => told(
+            alloc,
+            "over 4,096 paths lead through the statements to `{}`, which is the most: split its \
+             block, or name a value between by a `wire`",
+            &[Hole::Name(case.name())],
+        ),
     };
-    Ok(Said { place, words })
+    Ok(Said {
+        place,
+        words: words?,
+    })
 }
 
 /// Of a path into which too much is put.
 pub fn nodes(alloc: Global, case: &Case) -> Result<Said, AllocError> {
-    let name = shown(alloc, case.name())?;
-    let mend = "name a value between by a `wire`";
     let (place, paths) = signal_of(alloc, case)?;
     let words = match paths {
-        Some(paths) => {
-            let count = grouped(alloc, paths.nodes)?;
-            format!(in alloc;
-                "{count} nodes of earlier values are put into one path of `{name}`, and 65,536 \
-                there may be: {mend}"
-            )?
-        }
-        None => format!(in alloc;
-            "over 65,536 nodes of earlier values are put into one path of `{name}`, which is the \
-            most: {mend}"
-        )?,
+        Some(paths) => told(
+            alloc,
+            "{} nodes of earlier values are put into one path of `{}`, and 65,536 there may be: \
+             name a value between by a `wire`",
+            &[Hole::Count(paths.nodes), Hole::Name(case.name())],
+        ),
+        None => told(
+            alloc,
+            "over 65,536 nodes of earlier values are put into one path of `{}`, which is the most: \
+             name a value between by a `wire`",
+            &[Hole::Name(case.name())],
+        ),
     };
-    Ok(Said { place, words })
+    Ok(Said {
+        place,
+        words: words?,
+    })
 }
 
 // How many obligations the design has, where that is known.
@@ -117,26 +134,24 @@ fn known_count(alloc: Global, origin: &Origin) -> Result<Option<u64>, AllocError
     }
 }
 
-// How many obligations the design has, in words.
-fn count_words(alloc: Global, origin: &Origin) -> Result<String, AllocError> {
-    match known_count(alloc, origin)? {
-        Some(count) => {
-            let count = grouped(alloc, count)?;
-            format!(in alloc; "{count} obligations, and 65,536 there may be")
-        }
-        None => owned(alloc, "over 65,536 obligations, which are the most"),
-    }
-}
-
 /// Of too many obligations.
 pub fn obligations(alloc: Global, case: &Case) -> Result<Said, AllocError> {
-    let count = count_words(alloc, &case.origin)?;
-    let file = file_name(alloc, case.origin.file)?;
-    let words = format!(in alloc;
-        "{file}: the design has {count}: split blocks that have many paths; a module that `--top \
-        MODULE` checks alone tells nothing of the whole"
-    )?;
-    Ok(Said::nowhere(words))
+    let file = Hole::File(case.origin.file);
+    let words = match known_count(alloc, &case.origin)? {
+        Some(count) => told(
+            alloc,
+            "{}: the design has {} obligations, and 65,536 there may be: split blocks that have \
+             many paths; a module that `--top MODULE` checks alone tells nothing of the whole",
+            &[file, Hole::Count(count)],
+        ),
+        None => told(
+            alloc,
+            "{}: the design has over 65,536 obligations, which are the most: split blocks that \
+             have many paths; a module that `--top MODULE` checks alone tells nothing of the whole",
+            &[file],
+        ),
+    };
+    Ok(Said::nowhere(words?))
 }
 
 /// Of a stimulus that is too large.
@@ -150,12 +165,14 @@ pub fn stimulus_size(alloc: Global) -> Result<Said, AllocError> {
 /// Of a number of lanes that is not taken.
 pub fn lanes(alloc: Global, command: &Command) -> Result<Said, AllocError> {
     let words = match command {
-        Command::Gen { lanes, .. } => {
-            format!(in alloc; "a sample has 1 to 200 lanes, and not {lanes}")?
-        }
-        _ => owned(alloc, "a sample has 1 to 200 lanes")?,
+        Command::Gen { lanes, .. } => told(
+            alloc,
+            "a sample has 1 to 200 lanes, and not {}",
+            &[Hole::Number(*lanes as u64)],
+        ),
+        _ => owned(alloc, "a sample has 1 to 200 lanes"),
     };
-    Ok(Said::nowhere(words))
+    Ok(Said::nowhere(words?))
 }
 
 // The number of an obligation that a command names.
@@ -174,21 +191,27 @@ fn count_of(alloc: Global, origin: &Origin) -> Option<u32> {
 
 /// Of a number that no obligation has.
 pub fn no_obligation(alloc: Global, command: &Command, case: &Case) -> Result<Said, AllocError> {
-    let number = asked_number(command);
-    let count = count_of(alloc, &case.origin);
-    let file = file_name(alloc, case.origin.file)?;
-    let words = match count {
-        Some(0) => format!(in alloc; "{file}: the design has no obligation")?,
-        Some(1) => format!(in alloc;
-            "{file}: the design has one obligation, 1, and none has the number {number}"
-        )?,
-        Some(count) => format!(in alloc;
-            "{file}: the design has the obligations 1 to {count}, and \
-            none has the number {number}"
-        )?,
-        None => format!(in alloc; "{file}: no obligation has the number {number}")?,
+    let file = Hole::File(case.origin.file);
+    let number = Hole::Number(asked_number(command) as u64);
+    let words = match count_of(alloc, &case.origin) {
+        Some(0) => told(alloc, "{}: the design has no obligation", &[file]),
+        Some(1) => told(
+            alloc,
+            "{}: the design has one obligation, 1, and none has the number {}",
+            &[file, number],
+        ),
+        Some(count) => told(
+            alloc,
+            "{}: the design has the obligations 1 to {}, and none has the number {}",
+            &[file, Hole::Number(count as u64), number],
+        ),
+        None => told(
+            alloc,
+            "{}: no obligation has the number {}",
+            &[file, number],
+        ),
     };
-    Ok(Said::nowhere(words))
+    Ok(Said::nowhere(words?))
 }
 
 // The level that a command names.
@@ -215,36 +238,42 @@ fn points_of(alloc: Global, design: &Design) -> Result<String, AllocError> {
 // Which points there are, in words; nothing where the design is not at hand.
 fn point_words(alloc: Global, origin: &Origin) -> Result<String, AllocError> {
     match admitted_design(alloc, origin) {
-        Some(design) => {
-            let points = points_of(alloc, &design)?;
-            format!(in alloc; "; the points are {points}")
-        }
+        Some(design) => named_points(alloc, &design),
         None => Ok(String::new(alloc)),
     }
+}
+
+fn named_points(alloc: Global, design: &Design) -> Result<String, AllocError> {
+    let points = points_of(alloc, design)?;
+    told(alloc, "; the points are {}", &[Hole::Words(points.as_str())])
 }
 
 /// Of a level that is no point.
 pub fn level(alloc: Global, command: &Command, case: &Case) -> Result<Said, AllocError> {
     let points = point_words(alloc, &case.origin)?;
-    let file = file_name(alloc, case.origin.file)?;
     let asked = shown_word(alloc, asked_level(command))?;
-    let words = format!(in alloc;
-        "{file}: there is no point `{asked}`, which `--level` names{points}"
+    let words = told(
+        alloc,
+        "{}: there is no point `{}`, which `--level` names{}",
+        &[
+            Hole::File(case.origin.file),
+            Hole::Words(asked.as_str()),
+            Hole::Words(points.as_str()),
+        ],
     )?;
     Ok(Said::nowhere(words))
 }
 
 /// Of an obligation whose clauses have too many variables.
 pub fn encoding(alloc: Global, case: &Case) -> Result<Said, AllocError> {
-    let number = shown(alloc, case.name())?;
-    let words = format!(in alloc;
-        "the clauses of this obligation, {number}, have over 4,194,304 \
-        variables, which are the most: name wide products and shifts on its path by registers"
+    let place = crate::flows::place_of_number(alloc, case, case.name());
+    let words = told(
+        alloc,
+        "the clauses of this obligation, {}, have over 4,194,304 variables, which are the most: \
+         name wide products and shifts on its path by registers",
+        &[Hole::Name(case.name())],
     )?;
-    Ok(Said {
-        place: crate::flows::place_of_number(alloc, case, case.name()),
-        words,
-    })
+    Ok(Said { place, words })
 }
 
 /// Of a certificate that is too large.
@@ -253,12 +282,17 @@ pub fn proof_size(alloc: Global, command: &Command, case: &Case) -> Result<Said,
         Command::Verify { proof, .. } => proof.as_str(),
         _ => case.origin.file,
     };
-    let name = file_name(alloc, name)?;
-    let words = format!(in alloc;
-        "{name}: the certificate has over 268,435,456 bytes, which are the \
-        most"
+    let words = too_large(
+        alloc,
+        "{}: the certificate has over 268,435,456 bytes, which are the most",
+        name,
     )?;
     Ok(Said::nowhere(words))
+}
+
+// What is said of a file by its name.
+fn too_large(alloc: Global, sentence: &str, file: &str) -> Result<String, AllocError> {
+    told(alloc, sentence, &[Hole::File(file)])
 }
 
 /// Of a stimulus file that is too large.
@@ -268,10 +302,11 @@ pub fn stimulus_file(alloc: Global, command: &Command, case: &Case) -> Result<Sa
         Command::Compare { b, .. } => b.as_str(),
         _ => case.origin.file,
     };
-    let name = file_name(alloc, name)?;
-    let words = format!(in alloc;
-        "{name}: the stimulus has over 67,108,864 bytes, which are the most \
-        of a comparison: compare fewer cycles"
+    let words = too_large(
+        alloc,
+        "{}: the stimulus has over 67,108,864 bytes, which are the most of a comparison: compare \
+         fewer cycles",
+        name,
     )?;
     Ok(Said::nowhere(words))
 }

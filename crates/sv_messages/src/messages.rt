@@ -7,7 +7,7 @@ use crate::limits;
 use crate::said::Said;
 use crate::stimuli::{Given, proof, stimulus};
 use std::alloc::{AllocError, Global};
-use sv_hints::{Case, Origin, file_name, push_excerpt, words_of};
+use sv_hints::{Case, Hole, Origin, push_excerpt, told, words_of};
 use sv_num::{Name, Place, Rule};
 use sv_report::Broken;
 use sv_words::Command;
@@ -79,16 +79,18 @@ fn ruled(
 
 // What is said, as lines.
 fn lines(alloc: Global, origin: &Origin, said: Said) -> Result<String, AllocError> {
-    let Said { place, words } = said;
-    match place {
+    let words = Hole::Words(said.words.as_str());
+    match said.place {
         Some(place) => {
-            let file = file_name(alloc, origin.file)?;
-            let Place { line, column } = place;
-            let mut lines = format!(in alloc; "{file}:{line}:{column}: {words}\n")?;
+            let mut lines = told(
+                alloc,
+                "{}:{}: {}\n",
+                &[Hole::File(origin.file), Hole::Place(place), words],
+            )?;
             push_excerpt(alloc, &mut lines, origin.text, place)?;
             Ok(lines)
         }
-        None => format!(in alloc; "secv: {words}\n"),
+        None => told(alloc, "secv: {}\n", &[words]),
     }
 }
 

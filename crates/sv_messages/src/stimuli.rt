@@ -3,7 +3,7 @@ use crate::designs::admitted_design;
 use std::alloc::{AllocError, Global};
 use sv_design::Design;
 use sv_flat::{SigId, Signal};
-use sv_hints::{Origin, Row, file_name, owned, shown, shown_bytes};
+use sv_hints::{Hole, Origin, Row, owned, shown, told};
 use sv_report::StimSource;
 use sv_trace::StimKind;
 use sv_words::Command;
@@ -39,35 +39,33 @@ impl<'a> Given<'a> {
 fn line_in(text: &[u8], before: u64) -> Option<&[u8]> {
     let mut rest = text;
     for _ in 0..before {
-        let end = rest.iter().position(|byte| *byte == b'\n')?;
-        rest = match rest.get(end..) {
-            Some([_, behind @ ..]) => behind,
-            _ => return None,
-        };
+        rest = cut_at(rest, b'\n').1?;
     }
     if rest.is_empty() {
-        return None;
-    }
-    match rest.iter().position(|byte| *byte == b'\n') {
-        Some(end) => rest.get(..end),
-        None => Some(rest),
+        None
+    } else {
+        Some(cut_at(rest, b'\n').0)
     }
 }
 
-// The name of a stimulus, and the words behind it that tell the line.
-fn line_words(
-    alloc: Global,
-    command: &Command,
-    source: StimSource,
-    line: u64,
-) -> Result<String, AllocError> {
-    let name = match (source, command) {
-        (StimSource::FileA, Command::Compare { a, .. }) => a.as_str(),
-        (StimSource::FileB, Command::Compare { b, .. }) => b.as_str(),
-        _ => return format!(in alloc; "line {line} of the input"),
-    };
-    let name = file_name(alloc, name)?;
-    format!(in alloc; "{name}:{line}:1")
+// What stands up to the next of such bytes, and behind it, where there is one.
+fn cut_at(text: &[u8], end: u8) -> (&[u8], Option<&[u8]>) {
+    for (number, byte) in text.iter().enumerate() {
+        if *byte == end {
+            let front = text.get(..number).unwrap_or(b"");
+            return (front, text.get(number.saturating_add(1)..));
+        }
+    }
+    (text, None)
+}
+
+// The name of the file of a stimulus, where it is not the input.
+fn file_of(command: &Command, source: StimSource) -> Option<&str> {
+    match (source, command) {
+        (StimSource::FileA, Command::Compare { a, .. }) => Some(a.as_str()),
+        (StimSource::FileB, Command::Compare { b, .. }) => Some(b.as_str()),
+        _ => None,
+    }
 }
 
 /// Of a wrong line of a stimulus, by its source, its number and what is wrong, with what tells the
@@ -81,10 +79,19 @@ pub fn stimulus(
 ) -> Result<String, AllocError> {
     let (source, line, kind) = wrong;
     let wanted = wanted_of(alloc, origin, kind, given.stimulus(source, line))?;
-    let before = line_words(alloc, command, source, line)?;
+    let wanted = Hole::Words(wanted.as_str());
+    let line = Hole::Number(line);
+    match file_of(command, source) {
+        Some(file) => told(alloc, "{}:{}:1: {}\n", &[Hole::File(file), line, wanted]),
+        None => told(alloc, line_sentence(source), &[line, wanted]),
+    }
+}
+
+// How a line of a stimulus is told of that has no file of its own.
+fn line_sentence(source: StimSource) -> &'static str {
     match source {
-        StimSource::Input => format!(in alloc; "secv: {before}: {wanted}\n"),
-        _ => format!(in alloc; "{before}: {wanted}\n"),
+        StimSource::Input => "secv: line {} of the input: {}\n",
+        _ => "line {} of the input: {}\n",
     }
 }
 
@@ -140,31 +147,24 @@ fn wanted(
             "behind the header each line has a hexadecimal value for each input, with one blank \
              between; and a line `start REGISTER VALUE` one that fits",
         ),
-        _ => {
-            let header = header_of(alloc, design)?;
-            format!(in alloc;
-                "here is to stand the line `{header}`, or before it a line `start \
-                REGISTER VALUE`"
-            )
-        }
+        _ => with_header(
+            alloc,
+            design,
+            "here is to stand the line `{}`, or before it a line `start REGISTER VALUE`",
+        ),
     }
 }
 
-// The words up to the next blank and behind it, where there is one.
-fn cut_blank(text: &[u8]) -> (&[u8], Option<&[u8]>) {
-    let Some(end) = text.iter().position(|byte| *byte == b' ') else {
-        return (text, None);
-    };
-    match text.get(end..) {
-        Some([_, behind @ ..]) => (text.get(..end).unwrap_or(b""), Some(behind)),
-        _ => (text, None),
-    }
+// A sentence with the header of a stimulus in its hole.
+fn with_header(alloc: Global, design: &Design, sentence: &str) -> Result<String, AllocError> {
+    let header = header_of(alloc, design)?;
+    told(alloc, sentence, &[Hole::Words(header.as_str())])
 }
 
 // The name and the value of a line that starts a register.
 fn start_of(line: &[u8]) -> (&[u8], &[u8]) {
-    let (_, rest) = cut_blank(line);
-    let (name, value) = cut_blank(rest.unwrap_or(b""));
+    let (_, rest) = cut_at(line, b' ');
+    let (name, value) = cut_at(rest.unwrap_or(b""), b' ');
     (name, value.unwrap_or(b""))
 }
 
@@ -181,20 +181,27 @@ fn register_named<'d>(design: &'d Design, name: &[u8]) -> Option<&'d Signal> {
 
 // Of a line that starts what is no register, or is started already.
 fn wrong_name(alloc: Global, design: &Design, name: &[u8]) -> Result<String, AllocError> {
-    let word = shown_bytes(alloc, name)?;
     if register_named(design, name).is_some() {
-        return format!(in alloc;
-            "the register `{word}` is started by an earlier line already: take one of the two away"
+        return told(
+            alloc,
+            "the register `{}` is started by an earlier line already: take one of the two away",
+            &[Hole::Given(name)],
         );
     }
     let registers = signals_in(alloc, design, design.registers())?;
+    let registers = Hole::Words(registers.as_str());
     if name.is_empty() {
-        return format!(in alloc;
-            "behind `start` stand one blank and the name of a register; the registers are \
-            {registers}"
+        return told(
+            alloc,
+            "behind `start` stand one blank and the name of a register; the registers are {}",
+            &[registers],
         );
     }
-    format!(in alloc; "there is no register `{word}`; the registers are {registers}")
+    told(
+        alloc,
+        "there is no register `{}`; the registers are {}",
+        &[Hole::Given(name), registers],
+    )
 }
 
 // Whether digits are a hexadecimal value of so many bits.
@@ -212,112 +219,138 @@ fn is_value(digits: &[u8], width: u8) -> bool {
     width >= 64 || matches!(value.checked_shr(u32::from(width)), Some(0))
 }
 
-// So many bits, in words.
-fn bits(alloc: Global, width: u8) -> Result<String, AllocError> {
-    let unit = if width == 1 { "bit" } else { "bits" };
-    format!(in alloc; "{width} {unit}")
+// The unit of so many bits.
+fn unit_of(width: u8) -> Hole<'static> {
+    Hole::Words(if width == 1 { "bit" } else { "bits" })
 }
 
 // Of a line that starts a register by what is no value of it, or behind the header.
 fn wrong_start(alloc: Global, design: &Design, line: &[u8]) -> Result<String, AllocError> {
     let (name, value) = start_of(line);
     match register_named(design, name) {
-        Some(register) if !is_value(value, register.width) => {
-            let name = shown(alloc, name)?;
-            let value = shown_bytes(alloc, value)?;
-            let bits = bits(alloc, register.width)?;
-            format!(in alloc;
-                "`{value}` is no value of the register `{name}`: wanted are 1 to 16 hexadecimal \
-                digits that fit in {bits}"
-            )
-        }
-        _ => {
-            let header = header_of(alloc, design)?;
-            format!(in alloc;
-                "a line `start REGISTER VALUE` stands before the line `{header}`: behind it there \
-                are values of inputs alone"
-            )
+        Some(register) if !is_value(value, register.width) => told(
+            alloc,
+            "`{}` is no value of the register `{}`: wanted are 1 to 16 hexadecimal digits that fit \
+             in {} {}",
+            &[
+                Hole::Given(value),
+                Hole::Name(name),
+                Hole::Number(register.width as u64),
+                unit_of(register.width),
+            ],
+        ),
+        _ => with_header(
+            alloc,
+            design,
+            "a line `start REGISTER VALUE` stands before the line `{}`: behind it there are values \
+             of inputs alone",
+        ),
+    }
+}
+
+// What is wrong with a line of a cycle: an input has no value, or a word that is none, or behind
+// all values something stands.
+#[derive(Clone, Copy)]
+enum CycleFault<'d, 'l> {
+    Missing(&'d Signal),
+    Value(&'d Signal, &'l [u8]),
+    Behind(Option<&'l [u8]>),
+}
+
+// The first thing that is wrong with a line of a cycle.
+fn cycle_fault<'d, 'l>(design: &'d Design, line: &'l [u8]) -> CycleFault<'d, 'l> {
+    let mut rest = Some(line);
+    for input in design.inputs() {
+        if let Some(signal) = signal_of(design, *input) {
+            let Some(text) = rest else {
+                return CycleFault::Missing(signal);
+            };
+            let (word, behind) = cut_at(text, b' ');
+            if !is_value(word, signal.width) {
+                return CycleFault::Value(signal, word);
+            }
+            rest = behind;
         }
     }
+    CycleFault::Behind(rest)
 }
 
 // Of a line of a cycle: the first input that has no value of its own, or values too many.
 fn wrong_cycle(alloc: Global, design: &Design, line: &[u8]) -> Result<String, AllocError> {
     if line.is_empty() {
-        return empty_line(alloc, design);
+        return with_header(
+            alloc,
+            design,
+            "this line is empty: each has a value for each name of `{}`",
+        );
     }
-    let mut rest = Some(line);
-    for input in design.inputs() {
-        let Some(signal) = signal_of(design, *input) else {
-            continue;
-        };
-        let Some(text) = rest else {
-            return missing_value(alloc, design, signal);
-        };
-        let (word, behind) = cut_blank(text);
-        if !is_value(word, signal.width) {
-            return wrong_value(alloc, signal, word);
+    match cycle_fault(design, line) {
+        CycleFault::Missing(signal) => missing_value(alloc, design, signal),
+        CycleFault::Value(signal, word) => wrong_value(alloc, signal, word),
+        CycleFault::Behind(Some([])) => {
+            owned(alloc, "a blank too many stands at the end of this line")
         }
-        rest = behind;
+        CycleFault::Behind(_) => with_header(
+            alloc,
+            design,
+            "this line has more values than there are inputs: each has a value for each name of \
+             `{}`",
+        ),
     }
-    match rest {
-        Some([]) => owned(alloc, "a blank too many stands at the end of this line"),
-        _ => many_values(alloc, design),
-    }
-}
-
-// Of an empty line of a cycle.
-fn empty_line(alloc: Global, design: &Design) -> Result<String, AllocError> {
-    let header = header_of(alloc, design)?;
-    format!(in alloc; "this line is empty: each has a value for each name of `{header}`")
 }
 
 // Of a line of a cycle that ends before the value of an input.
 fn missing_value(alloc: Global, design: &Design, signal: &Signal) -> Result<String, AllocError> {
     let header = header_of(alloc, design)?;
-    let name = shown(alloc, signal.name.bytes())?;
-    let bits = bits(alloc, signal.width)?;
-    format!(in alloc;
-        "a value of the input `{name}`, of {bits}, is missing: each line has a value for each name \
-        of `{header}`"
-    )
-}
-
-// Of a line of a cycle with values too many.
-fn many_values(alloc: Global, design: &Design) -> Result<String, AllocError> {
-    let header = header_of(alloc, design)?;
-    format!(in alloc;
-        "this line has more values than there are inputs: each has a value for each name of \
-        `{header}`"
+    told(
+        alloc,
+        "a value of the input `{}`, of {} {}, is missing: each line has a value for each name of \
+         `{}`",
+        &[
+            Hole::Name(signal.name.bytes()),
+            Hole::Number(signal.width as u64),
+            unit_of(signal.width),
+            Hole::Words(header.as_str()),
+        ],
     )
 }
 
 // Of a word that is no value of an input.
 fn wrong_value(alloc: Global, signal: &Signal, word: &[u8]) -> Result<String, AllocError> {
     let name = shown(alloc, signal.name.bytes())?;
-    let bits = bits(alloc, signal.width)?;
+    let name = Hole::Words(name.as_str());
+    let width = Hole::Number(signal.width as u64);
+    let unit = unit_of(signal.width);
     if word.is_empty() {
-        return format!(in alloc;
-            "a blank too many stands where a value of the input `{name}`, of {bits}, is wanted"
+        return told(
+            alloc,
+            "a blank too many stands where a value of the input `{}`, of {} {}, is wanted",
+            &[name, width, unit],
         );
     }
-    let word = shown_bytes(alloc, word)?;
-    format!(in alloc;
-        "`{word}` is no value of the input `{name}`: wanted are 1 to 16 hexadecimal digits that \
-        fit in {bits}"
+    told(
+        alloc,
+        "`{}` is no value of the input `{}`: wanted are 1 to 16 hexadecimal digits that fit in {} \
+         {}",
+        &[Hole::Given(word), name, width, unit],
     )
 }
 
+// The header of a stimulus: the names of all inputs.
 fn header_of(alloc: Global, design: &Design) -> Result<String, AllocError> {
     let mut header = owned(alloc, "inputs")?;
     for input in design.inputs() {
         if let Some(signal) = signal_of(design, *input) {
-            header.push(' ')?;
-            let name = shown(alloc, signal.name.bytes())?;
-            header.push_str(name.as_str())?;
+            push_name(alloc, &mut header, signal)?;
         }
     }
     Ok(header)
+}
+
+// Adds a blank and the name of a signal.
+fn push_name(alloc: Global, header: &mut String, signal: &Signal) -> Result<(), AllocError> {
+    let name = told(alloc, " {}", &[Hole::Name(signal.name.bytes())])?;
+    header.push_str(name.as_str())
 }
 
 fn signal_of(design: &Design, signal: SigId) -> Option<&Signal> {
@@ -329,12 +362,20 @@ fn signals_in(alloc: Global, design: &Design, listed: &[SigId]) -> Result<String
     let mut row = Row::new(alloc);
     for signal in listed {
         if let Some(signal) = signal_of(design, *signal) {
-            let bits = bits(alloc, signal.width)?;
-            let behind = format!(in alloc; " ({bits})")?;
-            row.add(signal.name.bytes(), behind.as_str())?;
+            add_signal(alloc, &mut row, signal)?;
         }
     }
     row.finish()
+}
+
+// Adds a signal with its width.
+fn add_signal(alloc: Global, row: &mut Row, signal: &Signal) -> Result<(), AllocError> {
+    let behind = told(
+        alloc,
+        " ({} {})",
+        &[Hole::Number(signal.width as u64), unit_of(signal.width)],
+    )?;
+    row.add(signal.name.bytes(), behind.as_str())
 }
 
 /// Of a wrong line of a certificate.
@@ -348,9 +389,23 @@ pub fn proof(
         Command::Verify { proof, .. } => proof.as_str(),
         _ => "certificate",
     };
-    let name = file_name(alloc, name)?;
-    let words = match line {
-        _ if ends_with_return(given.proof(line)) => CRLF,
+    told(
+        alloc,
+        "{}:{}:1: {}\n",
+        &[
+            Hole::File(name),
+            Hole::Number(line),
+            Hole::Words(proof_words(given.proof(line), line)),
+        ],
+    )
+}
+
+// What is said of the line of a number of a certificate.
+fn proof_words(found: Option<&[u8]>, line: u64) -> &'static str {
+    if ends_with_return(found) {
+        return CRLF;
+    }
+    match line {
         1 => "a certificate begins with the line `secv-proof 1`",
         2 => {
             "the line `obligations N` is to name as many as the design has: if `check` accepts the \
@@ -360,6 +415,5 @@ pub fn proof(
             "this line has not the form of a certificate, or does not follow from the lines \
              before: if `check` accepts the design, make the certificate anew"
         }
-    };
-    format!(in alloc; "{name}:{line}:1: {words}\n")
+    }
 }

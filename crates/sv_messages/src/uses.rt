@@ -136,7 +136,10 @@ pub fn link_in(process: &Process) -> Option<Link> {
 
 /// The number of the signal of a name.
 pub fn signal_named(flat: &Flat, name: &[u8]) -> Option<usize> {
-    flat.signals
-        .iter()
-        .position(|signal| signal.name.bytes() == name)
+    for (number, signal) in flat.signals.iter().enumerate() {
+        if signal.name.bytes() == name {
+            return Some(number);
+        }
+    }
+    None
 }

@@ -69,10 +69,9 @@ fn by_module(
 ) -> Result<String, AllocError> {
     match rule {
         Rule::UnknownName => unknown_name(alloc, case, text),
-        Rule::TooWide => selects::too_wide(alloc, case, text),
-        Rule::BadSelect => selects::bad_select(alloc, case, text),
-        Rule::BadCount => selects::bad_count(alloc, case, text),
-        Rule::BadRange => selects::bad_range(alloc, case, text),
+        Rule::TooWide | Rule::BadSelect | Rule::BadCount | Rule::BadRange => {
+            selects::by_constants(alloc, rule, case, text)
+        }
         Rule::Label => label(alloc, case, text),
         Rule::WrongAssign => wrong_assign(alloc, case, text),
         Rule::Undriven => undriven(alloc, case, text),

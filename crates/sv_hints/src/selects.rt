@@ -9,7 +9,7 @@ use std::alloc::{AllocError, Global};
 use sv_ast::{
     Arm, Decl, Expr, Instance, Item, Links, Module, Param, Select, Span, Stmt, Target, Text,
 };
-use sv_num::Place;
+use sv_num::{Place, Rule};
 
 // What is sought at a place: a bit, by the place of its index, or a part; what has too many bits;
 // or a replication by the place of its count.
@@ -69,18 +69,36 @@ fn in_exprs(exprs: &[Expr], sought: Sought) -> Option<Found<'_>> {
 
 // The expression itself, where it is what is sought.
 fn as_sought(expr: &Expr, sought: Sought) -> Option<Found<'_>> {
-    match (expr, sought) {
-        (Expr::Bit(name, _, index), Sought::Select(place)) if place_of(index) == place => {
+    match sought {
+        Sought::Select(place) => as_select(expr, place),
+        Sought::Length(place) => as_long(expr, place),
+        Sought::Count(place) => as_count(expr, place),
+    }
+}
+
+fn as_select(expr: &Expr, place: Place) -> Option<Found<'_>> {
+    match expr {
+        Expr::Bit(name, _, index) if place_of(index) == place => {
             Some(Found::Bit(name.bytes(), index))
         }
-        (Expr::Part(name, at, high, low), Sought::Select(place)) if *at == place => {
+        Expr::Part(name, at, high, low) if *at == place => {
             Some(Found::Part(name.bytes(), high, low))
         }
-        (Expr::Join(at, _), Sought::Length(place)) if *at == place => Some(Found::Expr(expr)),
-        (Expr::Repeat(at, _, _), Sought::Length(place)) if *at == place => Some(Found::Expr(expr)),
-        (Expr::Repeat(_, count, _), Sought::Count(place)) if place_of(count) == place => {
-            Some(Found::Expr(count))
-        }
+        _ => None,
+    }
+}
+
+fn as_long(expr: &Expr, place: Place) -> Option<Found<'_>> {
+    match expr {
+        Expr::Join(at, _) if *at == place => Some(Found::Expr(expr)),
+        Expr::Repeat(at, _, _) if *at == place => Some(Found::Expr(expr)),
+        _ => None,
+    }
+}
+
+fn as_count(expr: &Expr, place: Place) -> Option<Found<'_>> {
+    match expr {
+        Expr::Repeat(_, count, _) if place_of(count) == place => Some(Found::Expr(count)),
         _ => None,
     }
 }
@@ -211,20 +229,59 @@ fn found_at(module: &Module, place: Place, sought: Sought) -> Option<Found<'_>> 
 const OUTSIDE: &str =
     "this bit or part lies outside of its signal, or its high bound is below its low one";
 
-/// Of a bit or part outside of its signal, or with its bounds in the wrong order.
-pub fn bad_select(alloc: Global, case: &Case, text: Option<&Text>) -> Result<String, AllocError> {
+/// Of a rule on bits, parts, ranges and lengths, as far as the constants of the module tell.
+pub fn by_constants(
+    alloc: Global,
+    rule: Rule,
+    case: &Case,
+    text: Option<&Text>,
+) -> Result<String, AllocError> {
     if let Some(text) = text {
         if let Some(module) = module_at(text, case.place) {
             let constants = Constants::new(alloc, text, module)?;
-            let found = found_at(module, case.place, Sought::Select(case.place));
-            return select_words(alloc, &constants, found);
+            return in_module(alloc, rule, case.place, module, &constants);
         }
     }
-    owned(alloc, OUTSIDE)
+    owned(alloc, usual_words(rule))
 }
 
-// Of what is found to be such a bit or part.
-fn select_words(
+// What is said of such a rule where no more is known.
+fn usual_words(rule: Rule) -> &'static str {
+    match rule {
+        Rule::TooWide => TOO_WIDE,
+        Rule::BadCount => BAD_COUNT,
+        Rule::BadRange => BAD_RANGE,
+        _ => OUTSIDE,
+    }
+}
+
+// What is said of such a rule at a place of a module.
+fn in_module(
+    alloc: Global,
+    rule: Rule,
+    place: Place,
+    module: &Module,
+    constants: &Constants,
+) -> Result<String, AllocError> {
+    match rule {
+        Rule::TooWide => {
+            let found = found_at(module, place, Sought::Length(place));
+            too_wide(alloc, length_of(constants, found))
+        }
+        Rule::BadCount => {
+            let found = found_at(module, place, Sought::Count(place));
+            bad_count(alloc, count_in(constants, found))
+        }
+        Rule::BadRange => bad_range(alloc, bounds_of(constants, range_at(module, place))),
+        _ => {
+            let found = found_at(module, place, Sought::Select(place));
+            bad_select(alloc, constants, found)
+        }
+    }
+}
+
+// Of a bit or part outside of its signal, or with its bounds in the wrong order.
+fn bad_select(
     alloc: Global,
     constants: &Constants,
     found: Option<Found>,
@@ -319,31 +376,18 @@ fn constant_words(spot: Spot) -> &'static str {
     }
 }
 
-/// Of what has over 64 bits.
-pub fn too_wide(alloc: Global, case: &Case, text: Option<&Text>) -> Result<String, AllocError> {
-    match length_at(alloc, case, text)? {
+const TOO_WIDE: &str = "this has over 64 bits, which are the most: split it in two";
+
+// Of what has over 64 bits.
+fn too_wide(alloc: Global, length: Option<u64>) -> Result<String, AllocError> {
+    match length {
         Some(length) if length > 64 => told(
             alloc,
             "this has {} bits, and 64 there may be: split it in two",
             &[Hole::Count(length)],
         ),
-        _ => owned(
-            alloc,
-            "this has over 64 bits, which are the most: split it in two",
-        ),
+        _ => owned(alloc, TOO_WIDE),
     }
-}
-
-// How many bits has what stands at the place of a case.
-fn length_at(alloc: Global, case: &Case, text: Option<&Text>) -> Result<Option<u64>, AllocError> {
-    if let Some(text) = text {
-        if let Some(module) = module_at(text, case.place) {
-            let constants = Constants::new(alloc, text, module)?;
-            let found = found_at(module, case.place, Sought::Length(case.place));
-            return Ok(length_of(&constants, found));
-        }
-    }
-    Ok(None)
 }
 
 // How many bits has what is found to have too many.
@@ -355,28 +399,18 @@ fn length_of(constants: &Constants, found: Option<Found>) -> Option<u64> {
     }
 }
 
-/// Of a replication that is written too often, or not at all.
-pub fn bad_count(alloc: Global, case: &Case, text: Option<&Text>) -> Result<String, AllocError> {
-    match count_at(alloc, case, text)? {
+const BAD_COUNT: &str = "a replication is written 1 to 64 times";
+
+// Of a replication that is written too often, or not at all.
+fn bad_count(alloc: Global, count: Option<u64>) -> Result<String, AllocError> {
+    match count {
         Some(count) => told(
             alloc,
             "this replication is written {} times, and 1 to 64 times it may be",
             &[Hole::Number(count)],
         ),
-        None => owned(alloc, "a replication is written 1 to 64 times"),
+        None => owned(alloc, BAD_COUNT),
     }
-}
-
-// How often the replication at the place of a case is written.
-fn count_at(alloc: Global, case: &Case, text: Option<&Text>) -> Result<Option<u64>, AllocError> {
-    if let Some(text) = text {
-        if let Some(module) = module_at(text, case.place) {
-            let constants = Constants::new(alloc, text, module)?;
-            let found = found_at(module, case.place, Sought::Count(case.place));
-            return Ok(count_in(&constants, found));
-        }
-    }
-    Ok(None)
 }
 
 // The value of what is found to be a count.
@@ -436,27 +470,14 @@ fn range_if(span: &Option<Span>, place: Place) -> Option<&Span> {
     }
 }
 
-/// Of a range that is none of a signal.
-pub fn bad_range(alloc: Global, case: &Case, text: Option<&Text>) -> Result<String, AllocError> {
-    match bounds_at(alloc, case, text)? {
-        Some((high, low)) => wrong_range(alloc, high, low),
-        None => owned(alloc, "a range is `[m:0]` with m from 0 to 63"),
-    }
-}
+const BAD_RANGE: &str = "a range is `[m:0]` with m from 0 to 63";
 
-// The bounds of the range at the place of a case, where they are known.
-fn bounds_at(
-    alloc: Global,
-    case: &Case,
-    text: Option<&Text>,
-) -> Result<Option<(u64, u64)>, AllocError> {
-    if let Some(text) = text {
-        if let Some(module) = module_at(text, case.place) {
-            let constants = Constants::new(alloc, text, module)?;
-            return Ok(bounds_of(&constants, range_at(module, case.place)));
-        }
+// Of a range that is none of a signal.
+fn bad_range(alloc: Global, bounds: Option<(u64, u64)>) -> Result<String, AllocError> {
+    match bounds {
+        Some((high, low)) => wrong_range(alloc, high, low),
+        None => owned(alloc, BAD_RANGE),
     }
-    Ok(None)
 }
 
 fn bounds_of(constants: &Constants, span: Option<&Span>) -> Option<(u64, u64)> {

@@ -36,8 +36,8 @@ ANSWERS = {"Outcome", "Checked", "Verified", "Decided", "Solved", "Compared", "E
 NONE, LINES, SELF = "when it answers None", "what it leaves in lines", "what it leaves in self"
 TOLD = {
     "sv_hints": [("instance_words",), ("Case::name",), ("owned",), ("push_excerpt", LINES), ("port_link", NONE), ("Origin::tree", NONE),
-                 ("first_unbuilt", NONE), ("place_of",), ("shown",), ("grouped",), ("file_name",), ("shown_bytes",), ("shown_word",), ("Row::new",),
-                 ("Row::of_points",), ("Row::add", SELF), ("Row::finish",), ("words_of",)],
+                 ("first_unbuilt", NONE), ("place_of",), ("shown",), ("file_name",), ("shown_word",), ("Row::new",),
+                 ("Row::of_points",), ("Row::add", SELF), ("Row::finish",), ("words_of",), ("told",)],
     "sv_messages": [("message",), ("spent_message",)],
 }
 # What is lent to a call of graphs or rules, which its caller drops where memory runs out.

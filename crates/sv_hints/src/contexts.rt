@@ -151,8 +151,8 @@ pub fn opens_list(text: &[u8], tokens: &[Token], number: usize) -> bool {
             && bytes_at(text, tokens, number.checked_sub(2)) != b".".as_slice()
 }
 
-// Where a text stands in a declaration of signals: in the header of a module, where further ones may
-// follow, and in one.
+// Where a text stands in a declaration of signals: in the header of a module, where further ones
+// may follow, and in one.
 #[derive(Clone, Copy)]
 struct Declaring {
     is_header: bool,

@@ -90,7 +90,10 @@ fn link_to_port<'t>(
             &[Hole::Name(case.name())],
         );
     }
-    match (linked_name(&instance.links, case.place), module_at(text, case.place)) {
+    match (
+        linked_name(&instance.links, case.place),
+        module_at(text, case.place),
+    ) {
         (Some(linked), Some(around)) => no_signal(alloc, around, case.name(), linked),
         _ => told(
             alloc,
@@ -290,21 +293,50 @@ fn value_too_many(alloc: Global, master: &Module) -> Result<String, AllocError> 
 // Of a value of what no instance may set.
 fn not_settable(alloc: Global, name: &[u8], master: &Module) -> Result<String, AllocError> {
     let module = shown(alloc, master.name.bytes())?;
-    let module = Hole::Words(module.as_str());
-    if let Some(Declared::Parameter(place)) = first_declaration(master, name) {
-        let name = Hole::Name(name);
-        return told(
-            alloc,
-            "the parameter `{}` is local, at {}, so no instance sets it: declare it in the header, \
-             `module {} #(parameter {} = ..)`",
-            &[name, Hole::Place(place), module, name],
-        );
+    match first_declaration(master, name) {
+        Some(Declared::Parameter(place)) => local_parameter(alloc, name, place, module.as_str()),
+        _ => no_parameter(alloc, name, master, module.as_str()),
     }
+}
+
+// Of a parameter that its module alone sets, at a place.
+fn local_parameter(
+    alloc: Global,
+    name: &[u8],
+    place: Place,
+    module: &str,
+) -> Result<String, AllocError> {
+    let name = shown(alloc, name)?;
+    told(
+        alloc,
+        "the parameter `{}` is local, at {}, so no instance sets it: declare it in the header, \
+         `module {} #(parameter {} = ..)`",
+        &[
+            Hole::Words(name.as_str()),
+            Hole::Place(place),
+            Hole::Words(module),
+            Hole::Words(name.as_str()),
+        ],
+    )
+}
+
+// Of a name that is no parameter of a module.
+fn no_parameter(
+    alloc: Global,
+    name: &[u8],
+    master: &Module,
+    module: &str,
+) -> Result<String, AllocError> {
+    let name = shown(alloc, name)?;
     let settable = settable_of(alloc, master)?;
     told(
         alloc,
         "the module `{}` has no parameter `{}`; those that may be set are {}",
-        &[module, Hole::Name(name), Hole::Words(settable.as_str())],
+        &[
+            Hole::Words(module),
+            Hole::Words(name.as_str()),
+            Hole::Words(settable.as_str()),
+        ],
     )
 }
 

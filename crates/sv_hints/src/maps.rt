@@ -1,8 +1,8 @@
 // What is said of lattices and label maps.
 use crate::cases::{Case, owned};
 use crate::rows::Row;
-use crate::tables::is_among;
 use crate::sentences::{Hole, told};
+use crate::tables::is_among;
 use std::alloc::{AllocError, Global};
 use sv_ast::{Expr, MapText, Span, Text};
 use sv_num::{Name, Place};

@@ -27,12 +27,7 @@ pub fn foreign(spot: Spot, here: &Token) -> Option<&'static str> {
 }
 
 // Of a name with which an item begins behind these tokens.
-fn foreign_name(
-    spot: Spot,
-    here: &Token,
-    name: &Token,
-    front: &[Token],
-) -> Option<&'static str> {
+fn foreign_name(spot: Spot, here: &Token, name: &Token, front: &[Token]) -> Option<&'static str> {
     match hint_on(bytes_of(spot.text, name), &FOREIGN) {
         Some(hint) => Some(hint),
         None if is_assignment(spot, here, front) => Some(

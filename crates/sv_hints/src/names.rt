@@ -346,30 +346,44 @@ fn wrong_width(
     name: &[u8],
     width: Option<u64>,
 ) -> Result<String, AllocError> {
-    let map = Hole::Name(label.map);
     let selector = shown(alloc, name)?;
-    let selector = Hole::Words(selector.as_str());
-    let width = match width {
-        Some(width) => Hole::Number(width),
-        None => Hole::Words("another number"),
-    };
     match (count_at(found, name, label), counts_of(found)) {
         (Some(count), _) => told(
             alloc,
             "the range of the label map `{}` has {} {}, and `{}`, which picks its row, has {}",
-            &[map, bits_for(count), unit_for(count), selector, width],
+            &[
+                Hole::Name(label.map),
+                bits_for(count),
+                unit_for(count),
+                Hole::Words(selector.as_str()),
+                width_words(width),
+            ],
         ),
         (None, Some((first, second))) => told(
             alloc,
-            "the ranges of the label map `{}` have {} and {} bits, and `{}`, which picks its row by \
-             both, has {}",
-            &[map, bits_for(first), bits_for(second), selector, width],
+            "the ranges of the label map `{}` have {} and {} bits, and `{}`, which picks its row \
+             by both, has {}",
+            &[
+                Hole::Name(label.map),
+                bits_for(first),
+                bits_for(second),
+                Hole::Words(selector.as_str()),
+                width_words(width),
+            ],
         ),
         (None, None) => told(
             alloc,
             "`{}` has not as many bits as the range of the label map `{}`, whose row it picks",
-            &[selector, map],
+            &[Hole::Words(selector.as_str()), Hole::Name(label.map)],
         ),
+    }
+}
+
+// How many bits a selector has, if that is known.
+fn width_words(width: Option<u64>) -> Hole<'static> {
+    match width {
+        Some(width) => Hole::Number(width),
+        None => Hole::Words("another number"),
     }
 }
 

@@ -6,8 +6,8 @@ use crate::links::{link, parameter};
 use crate::modules::{no_top, too_many};
 use crate::names::{label, twice, unknown_name};
 use crate::numerals::bad_number;
-use crate::syntax::{bad_byte, left_out, too_long, unexpected};
 use crate::sentences::{Hole, told};
+use crate::syntax::{bad_byte, left_out, too_long, unexpected};
 use crate::{maps, selects};
 use std::alloc::{AllocError, Global};
 use sv_ast::Text;
@@ -116,8 +116,7 @@ const NO_MEET: &str = "`{}` and `{}` have no greatest point below both: declare 
 const UNKNOWN_MODULE: &str =
     "there is no module `{}`: a design is one file, so join its files by `cat`";
 
-const RECURSIVE: &str =
-    "with this instance the module `{}` would stand inside itself, without end";
+const RECURSIVE: &str = "with this instance the module `{}` would stand inside itself, without end";
 
 const LATCH: &str = "this block does not assign all bits of `{}` on every path, so it would be a \
      latch: give it a value at the block's begin, or in each `else` and `default`";

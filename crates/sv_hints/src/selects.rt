@@ -324,7 +324,11 @@ fn outside(
     let bits = bits_of(alloc, constants, name)?;
     let bits = Hole::Words(bits.as_str());
     match constants.value(index) {
-        Some(number) => told(alloc, "there is no bit {}: {}", &[Hole::Number(number), bits]),
+        Some(number) => told(
+            alloc,
+            "there is no bit {}: {}",
+            &[Hole::Number(number), bits],
+        ),
         None => told(alloc, "there is no such bit: {}", &[bits]),
     }
 }

@@ -6,8 +6,8 @@ use crate::contexts::{
 };
 use crate::forms::grammar_form;
 use crate::mistakes::{by_words, foreign, in_block, in_nothing, may_end, ranged};
-use crate::tables::is_among;
 use crate::sentences::{Hole, told};
+use crate::tables::is_among;
 use std::alloc::{AllocError, Global};
 use sv_num::Place;
 use sv_token::{Token, TokenKind, WordKind};

@@ -246,14 +246,16 @@ fn two_clocks(
     top: usize,
     other: usize,
 ) -> Result<String, AllocError> {
-    let name = Hole::Name(name_of(flat, number));
     let other = signal_shown(alloc, flat, other)?;
     if top == number {
         return told(
             alloc,
             "`{}` is a second clock: a design has one, and {} is a clock, too; let an enable \
              decide in the block",
-            &[name, Hole::Words(other.as_str())],
+            &[
+                Hole::Name(name_of(flat, number)),
+                Hole::Words(other.as_str()),
+            ],
         );
     }
     let top = signal_shown(alloc, flat, top)?;
@@ -261,7 +263,11 @@ fn two_clocks(
         alloc,
         "the clock `{}` is {}, and {} is a clock, too: a design has one; let an enable decide in \
          the block",
-        &[name, Hole::Words(top.as_str()), Hole::Words(other.as_str())],
+        &[
+            Hole::Name(name_of(flat, number)),
+            Hole::Words(top.as_str()),
+            Hole::Words(other.as_str()),
+        ],
     )
 }
 
@@ -311,7 +317,11 @@ fn used_words(alloc: Global, flat: &Flat, number: usize) -> Result<String, Alloc
         Some(Used::Read(place)) => told(alloc, "is read at {}", &[Hole::Place(place)]),
         Some(Used::Picks(at)) => {
             let labelled = signal_shown(alloc, flat, at)?;
-            told(alloc, "picks the label of {}", &[Hole::Words(labelled.as_str())])
+            told(
+                alloc,
+                "picks the label of {}",
+                &[Hole::Words(labelled.as_str())],
+            )
         }
         None => owned(alloc, "is read, driven or selects a label"),
     }

@@ -28,10 +28,10 @@ fn stimuli_of(alloc: Global, command: &Command) -> Result<String, AllocError> {
 }
 
 // What besides a signal is to be alike, where another signal picks its label.
-fn with_label(signal: &Signal) -> &'static str {
+fn with_label(signal: &Signal) -> Hole<'static> {
     match signal.label {
-        Label::Point(_) => "",
-        Label::Table { .. } => ", and what picks its label",
+        Label::Point(_) => Hole::Words(""),
+        Label::Table { .. } => Hole::Words(", and what picks its label"),
     }
 }
 
@@ -68,7 +68,6 @@ fn unlike_in(
 fn unlike_start(alloc: Global, command: &Command, found: &Signal) -> Result<String, AllocError> {
     let stimuli = stimuli_of(alloc, command)?;
     let name = shown(alloc, found.name.bytes())?;
-    let name = Hole::Words(name.as_str());
     told(
         alloc,
         "secv: `{}` sees the register `{}` start differently in {}, which tells nothing of the \
@@ -76,12 +75,22 @@ fn unlike_start(alloc: Global, command: &Command, found: &Signal) -> Result<Stri
          both{}\n",
         &[
             Hole::Asked(level_of(command)),
-            name,
+            Hole::Words(name.as_str()),
             Hole::Words(stimuli.as_str()),
-            name,
-            Hole::Words(with_label(found)),
+            Hole::Words(name.as_str()),
+            with_label(found),
         ],
     )
+}
+
+// The number of a cycle, or of cycles, in a hole.
+fn hole_of(cycle: u64) -> Hole<'static> {
+    Hole::Count(cycle)
+}
+
+// The unit of so many cycles.
+fn unit_of(cycles: u64) -> Hole<'static> {
+    Hole::Words(if cycles == 1 { "cycle" } else { "cycles" })
 }
 
 // Of an input that is given differently in a cycle.
@@ -98,11 +107,11 @@ fn unlike_input(
         "secv: in cycle {} `{}` sees the input `{}` differently in {}, which tells nothing of the \
          design: give it the same value in both{}\n",
         &[
-            Hole::Count(cycle),
+            hole_of(cycle),
             Hole::Asked(level_of(command)),
             Hole::Words(name.as_str()),
             Hole::Words(stimuli.as_str()),
-            Hole::Words(with_label(found)),
+            with_label(found),
         ],
     )
 }
@@ -148,7 +157,7 @@ fn leak_in(
         "secv: in cycle {} `{}` sees `{}` differently in the two runs, though all that it was \
          given looks alike up to there: the design leaks\n",
         &[
-            Hole::Count(cycle),
+            hole_of(cycle),
             Hole::Asked(level_of(command)),
             Hole::Words(name.as_str()),
         ],
@@ -164,8 +173,8 @@ pub fn lengths(alloc: Global, command: &Command, cycles: u64) -> Result<String, 
          give both as many\n",
         &[
             Hole::Asked(level_of(command)),
-            Hole::Count(cycles),
-            Hole::Words(if cycles == 1 { "cycle" } else { "cycles" }),
+            hole_of(cycles),
+            unit_of(cycles),
             Hole::Words(stimuli.as_str()),
         ],
     )

@@ -80,27 +80,30 @@ fn mend_of_two(flat: &Flat, number: usize) -> &'static str {
 }
 
 // Of an input of an instance, with the process that drives it before.
-fn input_fault(
-    alloc: Global,
-    case: &Case,
-    driver: Option<&Process>,
-) -> Result<String, AllocError> {
+fn input_fault(alloc: Global, case: &Case, driver: Option<&Process>) -> Result<String, AllocError> {
     let at = instance_words(alloc, case)?;
-    let name = Hole::Name(case.name());
-    let at = Hole::Words(at.as_str());
     match driver {
         Some(driver) if driver.kind == ProcKind::PortIn => told(
             alloc,
             "`{}` is an input{}, and what is linked to it at {} drives it: take this assignment \
              away",
-            &[name, at, Hole::Place(driver.place)],
+            &[
+                Hole::Name(case.name()),
+                Hole::Words(at.as_str()),
+                place_of(driver),
+            ],
         ),
         _ => told(
             alloc,
             "`{}` is an input{}, which links nothing to it: link it there, and assign it nowhere",
-            &[name, at],
+            &[Hole::Name(case.name()), Hole::Words(at.as_str())],
         ),
     }
+}
+
+// The place of a process in a hole.
+fn place_of(process: &Process) -> Hole<'static> {
+    Hole::Place(process.place)
 }
 
 // The first process that drives a signal.

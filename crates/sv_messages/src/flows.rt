@@ -306,15 +306,12 @@ fn condition_on(query: &Query, read: SigId) -> Option<Place> {
     found
 }
 
-// The condition before an assignment that reads the signal, in words; nothing where none does.
-fn condition_words(alloc: Global, query: &Query, read: SigId) -> Result<String, AllocError> {
-    match condition_on(query, read) {
-        Some(place) if query.right.is_some() => told(
-            alloc,
-            ", which the condition at {} reads",
-            &[Hole::Place(place)],
-        ),
-        _ => Ok(String::new(alloc)),
+// The place of the condition before an assignment that reads the signal, if one does.
+fn condition_before(query: &Query, read: SigId) -> Option<Place> {
+    if query.right.is_some() {
+        condition_on(query, read)
+    } else {
+        None
     }
 }
 
@@ -421,21 +418,30 @@ fn learnt_words(
         from,
         to,
     } = names;
-    let by = condition_words(alloc, query, signal)?;
-    told(
-        alloc,
-        "obligation {}: `{}` learns from `{}`{}: at the printed values `{}` is at `{}`, and `{}` at \
-         `{}`{}",
-        &[
-            Hole::Number(number as u64),
-            target,
-            read,
-            Hole::Words(by.as_str()),
-            read,
-            from,
-            target,
-            to,
-            Hole::Words(frame_words(query)),
-        ],
-    )
+    let number = Hole::Number(number as u64);
+    let of = Hole::Words(frame_words(query));
+    match condition_before(query, signal) {
+        Some(place) => told(
+            alloc,
+            "obligation {}: `{}` learns from `{}`, which the condition at {} reads: at the printed \
+             values `{}` is at `{}`, and `{}` at `{}`{}",
+            &[
+                number,
+                target,
+                read,
+                Hole::Place(place),
+                read,
+                from,
+                target,
+                to,
+                of,
+            ],
+        ),
+        None => told(
+            alloc,
+            "obligation {}: `{}` learns from `{}`: at the printed values `{}` is at `{}`, and `{}` \
+             at `{}`{}",
+            &[number, target, read, read, from, target, to, of],
+        ),
+    }
 }

@@ -245,7 +245,11 @@ fn point_words(alloc: Global, origin: &Origin) -> Result<String, AllocError> {
 
 fn named_points(alloc: Global, design: &Design) -> Result<String, AllocError> {
     let points = points_of(alloc, design)?;
-    told(alloc, "; the points are {}", &[Hole::Words(points.as_str())])
+    told(
+        alloc,
+        "; the points are {}",
+        &[Hole::Words(points.as_str())],
+    )
 }
 
 /// Of a level that is no point.

@@ -7,7 +7,7 @@ use crate::limits;
 use crate::said::Said;
 use crate::stimuli::{Given, proof, stimulus};
 use std::alloc::{AllocError, Global};
-use sv_hints::{Case, Hole, Origin, push_excerpt, told, words_of};
+use sv_hints::{Case, Hole, Origin, file_name, push_excerpt, told, words_of};
 use sv_num::{Name, Place, Rule};
 use sv_report::Broken;
 use sv_words::Command;
@@ -79,19 +79,31 @@ fn ruled(
 
 // What is said, as lines.
 fn lines(alloc: Global, origin: &Origin, said: Said) -> Result<String, AllocError> {
-    let words = Hole::Words(said.words.as_str());
     match said.place {
-        Some(place) => {
-            let mut lines = told(
-                alloc,
-                "{}:{}: {}\n",
-                &[Hole::File(origin.file), Hole::Place(place), words],
-            )?;
-            push_excerpt(alloc, &mut lines, origin.text, place)?;
-            Ok(lines)
-        }
-        None => told(alloc, "secv: {}\n", &[words]),
+        Some(place) => placed(alloc, origin, place, said.words.as_str()),
+        None => told(alloc, "secv: {}\n", &[Hole::Words(said.words.as_str())]),
     }
+}
+
+// What is said of a place, as lines.
+fn placed(alloc: Global, origin: &Origin, place: Place, words: &str) -> Result<String, AllocError> {
+    let file = file_name(alloc, origin.file)?;
+    let mut lines = told(
+        alloc,
+        "{}:{}: {}\n",
+        &[
+            Hole::Words(file.as_str()),
+            hole_at(place),
+            Hole::Words(words),
+        ],
+    )?;
+    push_excerpt(alloc, &mut lines, origin.text, place)?;
+    Ok(lines)
+}
+
+// A place in a hole.
+fn hole_at(place: Place) -> Hole<'static> {
+    Hole::Place(place)
 }
 
 // What is said of a rule or limit.

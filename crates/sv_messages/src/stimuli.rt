@@ -79,12 +79,27 @@ pub fn stimulus(
 ) -> Result<String, AllocError> {
     let (source, line, kind) = wrong;
     let wanted = wanted_of(alloc, origin, kind, given.stimulus(source, line))?;
-    let wanted = Hole::Words(wanted.as_str());
-    let line = Hole::Number(line);
     match file_of(command, source) {
-        Some(file) => told(alloc, "{}:{}:1: {}\n", &[Hole::File(file), line, wanted]),
-        None => told(alloc, line_sentence(source), &[line, wanted]),
+        Some(file) => told(
+            alloc,
+            "{}:{}:1: {}\n",
+            &[
+                Hole::File(file),
+                line_number(line),
+                Hole::Words(wanted.as_str()),
+            ],
+        ),
+        None => told(
+            alloc,
+            line_sentence(source),
+            &[Hole::Number(line), Hole::Words(wanted.as_str())],
+        ),
     }
+}
+
+// The number of a line in a hole.
+fn line_number(line: u64) -> Hole<'static> {
+    Hole::Number(line)
 }
 
 // How a line of a stimulus is told of that has no file of its own.
@@ -189,18 +204,17 @@ fn wrong_name(alloc: Global, design: &Design, name: &[u8]) -> Result<String, All
         );
     }
     let registers = signals_in(alloc, design, design.registers())?;
-    let registers = Hole::Words(registers.as_str());
     if name.is_empty() {
         return told(
             alloc,
             "behind `start` stand one blank and the name of a register; the registers are {}",
-            &[registers],
+            &[Hole::Words(registers.as_str())],
         );
     }
     told(
         alloc,
         "there is no register `{}`; the registers are {}",
-        &[Hole::Given(name), registers],
+        &[Hole::Given(name), Hole::Words(registers.as_str())],
     )
 }
 
@@ -219,6 +233,11 @@ fn is_value(digits: &[u8], width: u8) -> bool {
     width >= 64 || matches!(value.checked_shr(u32::from(width)), Some(0))
 }
 
+// How many bits, as a number in a hole.
+fn number_of(width: u8) -> Hole<'static> {
+    Hole::Number(width as u64)
+}
+
 // The unit of so many bits.
 fn unit_of(width: u8) -> Hole<'static> {
     Hole::Words(if width == 1 { "bit" } else { "bits" })
@@ -235,7 +254,7 @@ fn wrong_start(alloc: Global, design: &Design, line: &[u8]) -> Result<String, Al
             &[
                 Hole::Given(value),
                 Hole::Name(name),
-                Hole::Number(register.width as u64),
+                number_of(register.width),
                 unit_of(register.width),
             ],
         ),
@@ -308,7 +327,7 @@ fn missing_value(alloc: Global, design: &Design, signal: &Signal) -> Result<Stri
          `{}`",
         &[
             Hole::Name(signal.name.bytes()),
-            Hole::Number(signal.width as u64),
+            number_of(signal.width),
             unit_of(signal.width),
             Hole::Words(header.as_str()),
         ],
@@ -317,22 +336,28 @@ fn missing_value(alloc: Global, design: &Design, signal: &Signal) -> Result<Stri
 
 // Of a word that is no value of an input.
 fn wrong_value(alloc: Global, signal: &Signal, word: &[u8]) -> Result<String, AllocError> {
-    let name = shown(alloc, signal.name.bytes())?;
-    let name = Hole::Words(name.as_str());
-    let width = Hole::Number(signal.width as u64);
-    let unit = unit_of(signal.width);
     if word.is_empty() {
         return told(
             alloc,
             "a blank too many stands where a value of the input `{}`, of {} {}, is wanted",
-            &[name, width, unit],
+            &[
+                Hole::Name(signal.name.bytes()),
+                number_of(signal.width),
+                unit_of(signal.width),
+            ],
         );
     }
+    let name = shown(alloc, signal.name.bytes())?;
     told(
         alloc,
         "`{}` is no value of the input `{}`: wanted are 1 to 16 hexadecimal digits that fit in {} \
          {}",
-        &[Hole::Given(word), name, width, unit],
+        &[
+            Hole::Given(word),
+            Hole::Words(name.as_str()),
+            number_of(signal.width),
+            unit_of(signal.width),
+        ],
     )
 }
 
@@ -373,7 +398,7 @@ fn add_signal(alloc: Global, row: &mut Row, signal: &Signal) -> Result<(), Alloc
     let behind = told(
         alloc,
         " ({} {})",
-        &[Hole::Number(signal.width as u64), unit_of(signal.width)],
+        &[number_of(signal.width), unit_of(signal.width)],
     )?;
     row.add(signal.name.bytes(), behind.as_str())
 }
@@ -394,7 +419,7 @@ pub fn proof(
         "{}:{}:1: {}\n",
         &[
             Hole::File(name),
-            Hole::Number(line),
+            line_number(line),
             Hole::Words(proof_words(given.proof(line), line)),
         ],
     )

@@ -56,8 +56,11 @@ MEMORY = {"OutOfMemory", "AllocError", "AllocFailed"}
 ITEM = re.compile(r"^( {4})?(pub(?:\([a-z]+\))? )?(?:unsafe )?fn (\w+)", re.M)
 OWNER = re.compile(r"^(?:impl\b|pub trait |trait )[^{]*\{", re.M)
 CLAUSE = re.compile(r"\b(requires|ensures)\*?(?: (\w+))? \{")
-SUCCESS = re.compile(r"\b(?:IfOk|OnOk|IfSome|OnSome|IfAnswered)\s+result\b\s*")
-REFUSAL = re.compile(r"\b(?:IfErr|OnErr|IsErr|IsErrOf|IfLong|IfFull|IfRefused|result_err|IsNone|IfNone|OnNone)\s+result\b")
+# Words that speak of what a call gives, or of its refusal; those of reading stand in sv_parse_expr/specs/Parses.antt.
+SUCCESS = re.compile(r"\b(?:IfOk|OnOk|IfSome|OnSome|IfAnswered|Gives(?:As|All)?|Shortens|NoLonger|Leads(?:By|In)?)\s+result\b\s*")
+REFUSAL = re.compile(r"\b(?:IfErr|OnErr|IsErr|IsErrOf|IfLong|IfFull|IfRefused|result_err|IsNone|IfNone|OnNone|Halts(?:By|On|In))\s+result\b")
+# What a function that reads gives: an alias of sv_parse_expr/src/stop.rt.
+READ = re.compile(r"^Read<'\w+, (.*)>$")
 PAREN = {"(": ")", "{": "}", "[": "]"}
 
 
@@ -135,7 +138,7 @@ class Call:
 
     def answers(self):
         """What it gives where it gives something, and what else it may answer: of a Result the error, and of an Option that there is none."""
-        found = re.match(r"(?:io::)?(Result|Option)<(.*)>$", self.given)
+        found = re.match(r"(?:io::)?(Result|Option)<(.*)>$", READ.sub(r"Result<(\1, &[Token]), Stop>", self.given))
         if not found:
             return self.given, None
         inner = parts(found[2])

@@ -1,5 +1,5 @@
 -- Private: how the code goes. What the private functions say of the machine where they read whole
--- texts and the ends of label maps.
+-- texts, and of the words with which parameters begin and label maps end.
 use Rattle.std.specs.Prelude.{◌≡◌, ◌⊎◌, ℕ, List, length}
 use Rattle.sv_token.specs.declared.keywords.WordKind.TheVariants as words
 use Rattle.sv_token.specs.Lexemes.{Placed}
@@ -11,6 +11,10 @@ use Rattle.sv_parse_machine.specs.Reads.{failure_at}
 use Rattle.sv_parse_expr.specs.declared.stop.Stop.{Stop}
 use Rattle.sv_parse_expr.specs.declared.stop.Stop.TheVariants as stops
 use Rattle.sv_parse_expr.specs.Expectations.{failure_of}
+
+-- the word of an item of parameters comes
+abbrev pub BeginsParameters : List Placed → Type 0
+BeginsParameters ts = IsNext words.Parameter ts ⊎ IsNext words.Localparam ts
 
 -- no further row of a label map comes
 abbrev pub EndsRows : List Placed → Type 0

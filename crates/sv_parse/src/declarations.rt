@@ -1,6 +1,6 @@
 // Ports and signals (IEEE 1364-2005, clauses 4 and 12).
-ghost use Rattle.std.specs.Prelude.{◌≡◌, ◌<◌, ◌≤◌, ℕ, List, length, map, IfOk, IfErr, IfSome};
-ghost use Rattle.std.specs.Prelude.{IfNone, [], ◌∷◌};
+ghost use Rattle.std.specs.Prelude.{◌≡◌, ◌<◌, ◌≤◌, ℕ, List, length, map, IfOk, IfSome, IfNone, []};
+ghost use Rattle.std.specs.Prelude.{◌∷◌};
 ghost use Rattle.std.specs.Option.{option_map};
 ghost use Rattle.sv_token.specs.Lexemes.{placed_tokens};
 ghost use Rattle.sv_token.specs.declared.keywords.WordKind.TheVariants as words;
@@ -19,12 +19,13 @@ ghost use Rattle.sv_parse.specs.Reading.{IsTypeOf, IsOutputEnd, IsNamedAs, IsTyp
 ghost use Rattle.sv_parse.specs.ReadingItems.{IsWire, IsWireLike};
 ghost use Rattle.sv_ast.specs.GrammarStatements.{IsNext};
 ghost use Rattle.sv_parse_machine.specs.Symbols.{outer, punctuation, plain_name, perhaps_wire};
-ghost use Rattle.sv_parse_machine.specs.Symbols.{perhaps_wire_or_reg, ports, more_ports, later_port};
+ghost use Rattle.sv_parse_machine.specs.Symbols.{perhaps_wire_or_reg, ports, more_ports};
+ghost use Rattle.sv_parse_machine.specs.Symbols.{later_port};
 ghost use Rattle.sv_parse_machine.specs.Symbols.{items, more_wires, perhaps_value};
 ghost use Rattle.sv_parse_machine.specs.ModuleTable.{typed_name};
-ghost use Rattle.sv_parse_machine.specs.Machine.{outside_on};
-ghost use Rattle.sv_parse_machine.specs.Reads.{Reads, NextIsNotSign, NextIsNotWord};
-ghost use Rattle.sv_parse_expr.specs.Expectations.{HaltsAs};
+ghost use Rattle.sv_parse_machine.specs.Reads.{NextIsNotSign, NextIsNotWord};
+ghost use Rattle.sv_parse_expr.specs.Parses.{Stands, Comes, GivesAs, Gives, GivesAll, Shortens};
+ghost use Rattle.sv_parse_expr.specs.Parses.{NoLonger, Leads, HaltsOn};
 
 use crate::types::{SignalType, label_copy, read_signal_type, span_copy};
 use std::alloc::{AllocError, Global};
@@ -33,7 +34,7 @@ use sv_num::{Name, Place};
 use sv_parse_expr::cursor::{behind, behind_word, expect_word, read_name, stuck};
 use sv_parse_expr::expressions::read_expression;
 use sv_parse_expr::lists::{Listed, read_list};
-use sv_parse_expr::stop::{Expected, Stop};
+use sv_parse_expr::stop::{Expected, Read, Stop};
 use sv_token::{SignKind, Token, WordKind};
 
 // A declaration of the kind and the type.
@@ -88,15 +89,11 @@ fn type_of(alloc: Global, decl: &Decl) -> Result<SignalType, AllocError>
 // The tokens behind `wire`, if it comes.
 fn behind_wire(tokens: &[Token]) -> &[Token]
     ensures is { (bytes : List ℕ) →
-        optional (a_word words.Wire) (placed_tokens bytes tokens.now)
-        (placed_tokens bytes result.now) }
+        Stands (optional (a_word words.Wire)) bytes tokens.now result.now }
     ensures shorter { length result.now ≤ length tokens.now }
-    ensures reads { (bytes : List ℕ) →
-        Reads (outer perhaps_wire ∷ []) [] (placed_tokens bytes tokens.now)
-        (placed_tokens bytes result.now) }
+    ensures reads { (bytes : List ℕ) → Comes (perhaps_wire ∷ []) [] bytes tokens.now result.now }
     ensures output { (bytes : List ℕ) → NextIsNotWord words.Reg (placed_tokens bytes tokens.now) →
-        Reads (outer perhaps_wire_or_reg ∷ []) [] (placed_tokens bytes tokens.now)
-        (placed_tokens bytes result.now) }
+        Comes (perhaps_wire_or_reg ∷ []) [] bytes tokens.now result.now }
 {
     match behind_word(WordKind::Wire, tokens) {
         Some(rest) => rest,
@@ -106,12 +103,10 @@ fn behind_wire(tokens: &[Token]) -> &[Token]
 
 // What a port is, behind its `output`.
 fn output_kind(tokens: &[Token]) -> (DeclKind, &[Token])
-    ensures is { (bytes : List ℕ) →
-        IsOutputEnd result.0 (placed_tokens bytes tokens.now) (placed_tokens bytes result.1.now) }
+    ensures is { (bytes : List ℕ) → Stands (IsOutputEnd result.0) bytes tokens.now result.1.now }
     ensures shorter { length result.1.now ≤ length tokens.now }
     ensures reads { (bytes : List ℕ) →
-        Reads (outer perhaps_wire_or_reg ∷ []) [] (placed_tokens bytes tokens.now)
-        (placed_tokens bytes result.1.now) }
+        Comes (perhaps_wire_or_reg ∷ []) [] bytes tokens.now result.1.now }
 {
     match behind_word(WordKind::Reg, tokens) {
         Some(rest) => (DeclKind::OutputReg, rest),
@@ -122,15 +117,13 @@ fn output_kind(tokens: &[Token]) -> (DeclKind, &[Token])
 // What a port is, if the words of its kind come.
 fn port_kind(tokens: &[Token]) -> Option<(DeclKind, &[Token])>
     ensures is { (bytes : List ℕ) →
-        IfSome result (λ x. IsPortKind x.0 (placed_tokens bytes tokens.now)
-        (placed_tokens bytes x.1.now)) }
+        IfSome result (λ x. Stands (IsPortKind x.0) bytes tokens.now x.1.now) }
     ensures shorter { IfSome result (λ x. length x.1.now < length tokens.now) }
     ensures first { (bytes : List ℕ) →
-        IfSome result (λ x. Reads (outer ports ∷ []) (outside_on (typed_name (more_ports ∷ [])))
-        (placed_tokens bytes tokens.now) (placed_tokens bytes x.1.now)) }
+        IfSome result (λ x. Comes (ports ∷ []) (typed_name (more_ports ∷ []))
+        bytes tokens.now x.1.now) }
     ensures later { (bytes : List ℕ) →
-        IfSome result (λ x. Reads (outer later_port ∷ []) (outside_on (typed_name []))
-        (placed_tokens bytes tokens.now) (placed_tokens bytes x.1.now)) }
+        IfSome result (λ x. Comes (later_port ∷ []) (typed_name []) bytes tokens.now x.1.now) }
     ensures none { (bytes : List ℕ) →
         IfNone result (NextIsNotWord words.Input (placed_tokens bytes tokens.now)
         × NextIsNotWord words.Output (placed_tokens bytes tokens.now)) }
@@ -154,17 +147,12 @@ fn read_named<'a>(
     kind: DeclKind,
     of: SignalType,
     tokens: &'a [Token],
-) -> Result<(Decl, &'a [Token]), Stop>
-    ensures is { IfOk result (λ x.
-        IsNamedAs kind of.signed (option_map span_tree of.span) (option_map label_tree of.label)
-        (declaration_tree x.0) (placed_tokens bytes.now tokens.now)
-        (placed_tokens bytes.now x.1.now)) }
-    ensures shorter { IfOk result (λ x. length x.1.now < length tokens.now) }
-    ensures reads { IfOk result (λ x.
-        Reads (outer plain_name ∷ []) [] (placed_tokens bytes.now tokens.now)
-        (placed_tokens bytes.now x.1.now)) }
-    ensures halts { IfErr result (λ e.
-        HaltsAs (outer plain_name ∷ []) (placed_tokens bytes.now tokens.now) e) }
+) -> Read<'a, Decl>
+    ensures is { Gives result bytes.now tokens.now declaration_tree
+        (IsNamedAs kind of.signed (option_map span_tree of.span) (option_map label_tree of.label)) }
+    ensures shorter { Shortens result tokens.now }
+    ensures reads { Leads result bytes.now tokens.now (plain_name ∷ []) [] }
+    ensures halts { HaltsOn result bytes.now tokens.now (plain_name ∷ []) }
 {
     let (name, place, rest) = read_name(alloc, bytes, tokens)?;
     Ok((declaration(kind, of, name, place, None), rest))
@@ -176,17 +164,13 @@ fn read_named_alike<'a>(
     bytes: &[u8],
     before: &Decl,
     tokens: &'a [Token],
-) -> Result<(Decl, &'a [Token]), Stop>
-    ensures is { IfOk result (λ x.
-        (given (AreAlike (declaration_tree before.now) (declaration_tree x.0))
-        (IsNamedPort (declaration_tree x.0))) (placed_tokens bytes.now tokens.now)
-        (placed_tokens bytes.now x.1.now)) }
-    ensures shorter { IfOk result (λ x. length x.1.now < length tokens.now) }
-    ensures reads { IfOk result (λ x.
-        Reads (outer plain_name ∷ []) [] (placed_tokens bytes.now tokens.now)
-        (placed_tokens bytes.now x.1.now)) }
-    ensures halts { IfErr result (λ e.
-        HaltsAs (outer plain_name ∷ []) (placed_tokens bytes.now tokens.now) e) }
+) -> Read<'a, Decl>
+    ensures is { GivesAs result bytes.now tokens.now (λ x.
+        given (AreAlike (declaration_tree before.now) (declaration_tree x))
+        (IsNamedPort (declaration_tree x))) }
+    ensures shorter { Shortens result tokens.now }
+    ensures reads { Leads result bytes.now tokens.now (plain_name ∷ []) [] }
+    ensures halts { HaltsOn result bytes.now tokens.now (plain_name ∷ []) }
 {
     let (name, place, rest) = read_name(alloc, bytes, tokens)?;
     let of = type_of(alloc, before)?;
@@ -199,16 +183,11 @@ fn read_typed_port<'a>(
     bytes: &[u8],
     kind: DeclKind,
     tokens: &'a [Token],
-) -> Result<(Decl, &'a [Token]), Stop>
-    ensures is { IfOk result (λ x.
-        IsTypedPort kind (declaration_tree x.0) (placed_tokens bytes.now tokens.now)
-        (placed_tokens bytes.now x.1.now)) }
-    ensures shorter { IfOk result (λ x. length x.1.now < length tokens.now) }
-    ensures reads { IfOk result (λ x.
-        Reads (outside_on (typed_name [])) [] (placed_tokens bytes.now tokens.now)
-        (placed_tokens bytes.now x.1.now)) }
-    ensures halts { IfErr result (λ e.
-        HaltsAs (outside_on (typed_name [])) (placed_tokens bytes.now tokens.now) e) }
+) -> Read<'a, Decl>
+    ensures is { Gives result bytes.now tokens.now declaration_tree (IsTypedPort kind) }
+    ensures shorter { Shortens result tokens.now }
+    ensures reads { Leads result bytes.now tokens.now (typed_name []) [] }
+    ensures halts { HaltsOn result bytes.now tokens.now (typed_name []) }
 {
     let (of, rest) = read_signal_type(alloc, bytes, tokens)?;
     let (decl, rest) = read_named(alloc, bytes, kind, of, rest)?;
@@ -238,12 +217,7 @@ impl Listed for Ports {
 
     ghost next = { λ n. outer later_port ∷ [] };
 
-    fn first<'a>(
-        alloc: Global,
-        bytes: &[u8],
-        _open: usize,
-        tokens: &'a [Token],
-    ) -> Result<(Decl, &'a [Token]), Stop> {
+    fn first<'a>(alloc: Global, bytes: &[u8], _open: usize, tokens: &'a [Token]) -> Read<'a, Decl> {
         let Some((kind, rest)) = port_kind(tokens) else {
             return Err(stuck(Expected::Port, tokens));
         };
@@ -257,7 +231,7 @@ impl Listed for Ports {
         _open: usize,
         before: &Decl,
         tokens: &'a [Token],
-    ) -> Result<(Decl, &'a [Token]), Stop> {
+    ) -> Read<'a, Decl> {
         if let Some((kind, rest)) = port_kind(tokens) {
             let (port, rest) = read_typed_port(alloc, bytes, kind, rest)?;
             return Ok((port, rest));
@@ -268,40 +242,25 @@ impl Listed for Ports {
 }
 
 /// The ports of a header, at least one.
-pub fn read_ports<'a>(
-    alloc: Global,
-    bytes: &[u8],
-    tokens: &'a [Token],
-) -> Result<(Vec<Decl>, &'a [Token]), Stop>
-    ensures is { IfOk result (λ x.
-        ArePorts all_limits (map declaration_tree x.0.items) (placed_tokens bytes.now tokens.now)
-        (placed_tokens bytes.now x.1.now)) }
-    ensures shorter { IfOk result (λ x. length x.1.now < length tokens.now) }
+pub fn read_ports<'a>(alloc: Global, bytes: &[u8], tokens: &'a [Token]) -> Read<'a, Vec<Decl>>
+    ensures is { GivesAll result bytes.now tokens.now declaration_tree (ArePorts all_limits) }
+    ensures shorter { Shortens result tokens.now }
     ensures reads { NextIsNotSign signs.CloseParenthesis (placed_tokens bytes.now tokens.now) →
-        IfOk result (λ x. Reads (outer ports ∷ []) (outer (punctuation signs.CloseParenthesis) ∷ [])
-        (placed_tokens bytes.now tokens.now) (placed_tokens bytes.now x.1.now)) }
+        Leads result bytes.now tokens.now (ports ∷ []) (punctuation signs.CloseParenthesis ∷ []) }
     ensures halts { NextIsNotSign signs.CloseParenthesis (placed_tokens bytes.now tokens.now) →
-        IfErr result (λ e. HaltsAs (outer ports ∷ []) (placed_tokens bytes.now tokens.now) e) }
+        HaltsOn result bytes.now tokens.now (ports ∷ []) }
 {
     let (ports, rest) = read_list::<Ports>(alloc, bytes, 0, tokens)?;
     Ok((ports, rest))
 }
 
 // The value of a `wire`, if one comes.
-fn read_wire_value<'a>(
-    alloc: Global,
-    bytes: &[u8],
-    tokens: &'a [Token],
-) -> Result<(Option<Expr>, &'a [Token]), Stop>
-    ensures is { IfOk result (λ x.
-        perhaps (equals all_limits) (option_map expression_tree x.0)
-        (placed_tokens bytes.now tokens.now) (placed_tokens bytes.now x.1.now)) }
-    ensures shorter { IfOk result (λ x. length x.1.now ≤ length tokens.now) }
-    ensures reads { IfOk result (λ x.
-        Reads (outer perhaps_value ∷ []) [] (placed_tokens bytes.now tokens.now)
-        (placed_tokens bytes.now x.1.now)) }
-    ensures halts { IfErr result (λ e.
-        HaltsAs (outer perhaps_value ∷ []) (placed_tokens bytes.now tokens.now) e) }
+fn read_wire_value<'a>(alloc: Global, bytes: &[u8], tokens: &'a [Token]) -> Read<'a, Option<Expr>>
+    ensures is { Gives result bytes.now tokens.now (option_map expression_tree)
+        (perhaps (equals all_limits)) }
+    ensures shorter { NoLonger result tokens.now }
+    ensures reads { Leads result bytes.now tokens.now (perhaps_value ∷ []) [] }
+    ensures halts { HaltsOn result bytes.now tokens.now (perhaps_value ∷ []) }
 {
     match behind(SignKind::Equals, tokens) {
         Some(rest) => {
@@ -319,15 +278,12 @@ fn read_wire_name<'a>(
     tokens: &'a [Token],
 ) -> Result<(Name, Place, Option<Expr>, &'a [Token]), Stop>
     ensures is { IfOk result (λ x.
-        (name_at x.0 x.1 ⨾ perhaps (equals all_limits) (option_map expression_tree x.2))
-        (placed_tokens bytes.now tokens.now) (placed_tokens bytes.now x.3.now)) }
+        Stands (name_at x.0 x.1 ⨾ perhaps (equals all_limits) (option_map expression_tree x.2))
+        bytes.now tokens.now x.3.now) }
     ensures shorter { IfOk result (λ x. length x.3.now < length tokens.now) }
     ensures reads { IfOk result (λ x.
-        Reads (outer plain_name ∷ outer perhaps_value ∷ []) [] (placed_tokens bytes.now tokens.now)
-        (placed_tokens bytes.now x.3.now)) }
-    ensures halts { IfErr result (λ e.
-        HaltsAs (outer plain_name ∷ outer perhaps_value ∷ [])
-        (placed_tokens bytes.now tokens.now) e) }
+        Comes (plain_name ∷ perhaps_value ∷ []) [] bytes.now tokens.now x.3.now) }
+    ensures halts { HaltsOn result bytes.now tokens.now (plain_name ∷ perhaps_value ∷ []) }
 {
     let (name, place, rest) = read_name(alloc, bytes, tokens)?;
     let (value, rest) = read_wire_value(alloc, bytes, rest)?;
@@ -340,18 +296,12 @@ fn read_named_wire<'a>(
     bytes: &[u8],
     of: SignalType,
     tokens: &'a [Token],
-) -> Result<(Decl, &'a [Token]), Stop>
-    ensures is { IfOk result (λ x.
-        IsWireAs of.signed (option_map span_tree of.span) (option_map label_tree of.label)
-        (declaration_tree x.0) (placed_tokens bytes.now tokens.now)
-        (placed_tokens bytes.now x.1.now)) }
-    ensures shorter { IfOk result (λ x. length x.1.now < length tokens.now) }
-    ensures reads { IfOk result (λ x.
-        Reads (outer plain_name ∷ outer perhaps_value ∷ []) [] (placed_tokens bytes.now tokens.now)
-        (placed_tokens bytes.now x.1.now)) }
-    ensures halts { IfErr result (λ e.
-        HaltsAs (outer plain_name ∷ outer perhaps_value ∷ [])
-        (placed_tokens bytes.now tokens.now) e) }
+) -> Read<'a, Decl>
+    ensures is { Gives result bytes.now tokens.now declaration_tree
+        (IsWireAs of.signed (option_map span_tree of.span) (option_map label_tree of.label)) }
+    ensures shorter { Shortens result tokens.now }
+    ensures reads { Leads result bytes.now tokens.now (plain_name ∷ perhaps_value ∷ []) [] }
+    ensures halts { HaltsOn result bytes.now tokens.now (plain_name ∷ perhaps_value ∷ []) }
 {
     let (name, place, value, rest) = read_wire_name(alloc, bytes, tokens)?;
     Ok((declaration(DeclKind::Wire, of, name, place, value), rest))
@@ -379,12 +329,7 @@ impl Listed for Wires {
 
     ghost next = { λ n. outer plain_name ∷ outer perhaps_value ∷ [] };
 
-    fn first<'a>(
-        alloc: Global,
-        bytes: &[u8],
-        _open: usize,
-        tokens: &'a [Token],
-    ) -> Result<(Decl, &'a [Token]), Stop> {
+    fn first<'a>(alloc: Global, bytes: &[u8], _open: usize, tokens: &'a [Token]) -> Read<'a, Decl> {
         let (_place, rest) = expect_word(WordKind::Wire, tokens)?;
         let (of, rest) = read_signal_type(alloc, bytes, rest)?;
         let (wire, rest) = read_named_wire(alloc, bytes, of, rest)?;
@@ -397,7 +342,7 @@ impl Listed for Wires {
         _open: usize,
         before: &Decl,
         tokens: &'a [Token],
-    ) -> Result<(Decl, &'a [Token]), Stop> {
+    ) -> Read<'a, Decl> {
         let of = type_of(alloc, before)?;
         let (wire, rest) = read_named_wire(alloc, bytes, of, tokens)?;
         Ok((wire, rest))
@@ -405,21 +350,14 @@ impl Listed for Wires {
 }
 
 /// The signals of an item that begins with `wire`.
-pub fn read_wires<'a>(
-    alloc: Global,
-    bytes: &[u8],
-    tokens: &'a [Token],
-) -> Result<(Vec<Item>, &'a [Token]), Stop>
-    ensures is { IfOk result (λ x.
-        all_as tree.declared (AreSignals all_limits) (map item_tree x.0.items)
-        (placed_tokens bytes.now tokens.now) (placed_tokens bytes.now x.1.now)) }
-    ensures shorter { IfOk result (λ x. length x.1.now < length tokens.now) }
+pub fn read_wires<'a>(alloc: Global, bytes: &[u8], tokens: &'a [Token]) -> Read<'a, Vec<Item>>
+    ensures is { GivesAll result bytes.now tokens.now item_tree
+        (all_as tree.declared (AreSignals all_limits)) }
+    ensures shorter { Shortens result tokens.now }
     ensures reads { IsNext words.Wire (placed_tokens bytes.now tokens.now) →
-        IfOk result (λ x. Reads (outer items ∷ [])
-        (outer (punctuation signs.Semicolon) ∷ outer items ∷ [])
-        (placed_tokens bytes.now tokens.now) (placed_tokens bytes.now x.1.now)) }
+        Leads result bytes.now tokens.now (items ∷ []) (punctuation signs.Semicolon ∷ items ∷ []) }
     ensures halts { IsNext words.Wire (placed_tokens bytes.now tokens.now) →
-        IfErr result (λ e. HaltsAs (outer items ∷ []) (placed_tokens bytes.now tokens.now) e) }
+        HaltsOn result bytes.now tokens.now (items ∷ []) }
 {
     let (wires, rest) = read_list::<Wires>(alloc, bytes, 0, tokens)?;
     let items = declared(alloc, wires)?;
@@ -448,12 +386,7 @@ impl Listed for Registers {
 
     ghost next = { λ n. outer plain_name ∷ [] };
 
-    fn first<'a>(
-        alloc: Global,
-        bytes: &[u8],
-        _open: usize,
-        tokens: &'a [Token],
-    ) -> Result<(Decl, &'a [Token]), Stop> {
+    fn first<'a>(alloc: Global, bytes: &[u8], _open: usize, tokens: &'a [Token]) -> Read<'a, Decl> {
         let (_place, rest) = expect_word(WordKind::Reg, tokens)?;
         let (of, rest) = read_signal_type(alloc, bytes, rest)?;
         let (register, rest) = read_named(alloc, bytes, DeclKind::Reg, of, rest)?;
@@ -466,7 +399,7 @@ impl Listed for Registers {
         _open: usize,
         before: &Decl,
         tokens: &'a [Token],
-    ) -> Result<(Decl, &'a [Token]), Stop> {
+    ) -> Read<'a, Decl> {
         let (register, rest) = read_named_alike(alloc, bytes, before, tokens)?;
         Ok((register, rest))
     }

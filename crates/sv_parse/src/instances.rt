@@ -1,5 +1,5 @@
 // Instances (IEEE 1364-2005, clause 12).
-ghost use Rattle.std.specs.Prelude.{◌≡◌, ◌<◌, ◌≤◌, ℕ, List, length, map, IfOk, IfErr, [], ◌∷◌};
+ghost use Rattle.std.specs.Prelude.{◌≡◌, ◌<◌, ℕ, List, length, map, IfOk, [], ◌∷◌};
 ghost use Rattle.std.specs.Option.{option_map};
 ghost use Rattle.sv_token.specs.Lexemes.{placed_tokens};
 ghost use Rattle.sv_token.specs.declared.signs.SignKind.TheVariants as signs;
@@ -14,18 +14,21 @@ ghost use Rattle.sv_ast.specs.GrammarModules.{IsNamedOverride, AreOverrides, IsN
 ghost use Rattle.sv_ast.specs.GrammarModules.{IsNamedInstance, IsInstance, AreOfOneModule};
 ghost use Rattle.sv_ast.specs.GrammarModules.{AreInstances, all_as};
 ghost use Rattle.sv_ast.specs.GrammarRules.{all_limits};
+ghost use Rattle.sv_parse.specs.ReadingDeclarations.{dotted, dotted_value, dotted_link};
 ghost use Rattle.sv_parse.specs.ReadingItems.{AreOpenOverrides, IsInstanceAs};
-ghost use Rattle.sv_parse_machine.specs.Symbols.{outer, punctuation, plain_name, expression, items};
-ghost use Rattle.sv_parse_machine.specs.Symbols.{overrides, link, links, perhaps_overrides};
-ghost use Rattle.sv_parse_machine.specs.Reads.{Reads, NextIsNotSign, NextIsAnyName};
-ghost use Rattle.sv_parse_expr.specs.Expectations.{HaltsAs};
+ghost use Rattle.sv_parse_machine.specs.Symbols.{outer, punctuation, plain_name, items, overrides};
+ghost use Rattle.sv_parse_machine.specs.Symbols.{link, links, perhaps_overrides};
+ghost use Rattle.sv_parse_machine.specs.Machine.{outside_on};
+ghost use Rattle.sv_parse_machine.specs.Reads.{NextIsNotSign, NextIsAnyName};
+ghost use Rattle.sv_parse_expr.specs.Parses.{Stands, Comes, GivesAs, Gives, GivesAll, Shortens};
+ghost use Rattle.sv_parse_expr.specs.Parses.{NoLonger, Leads, HaltsOn};
 
 use std::alloc::{AllocError, Global};
 use sv_ast::{Expr, Instance, Item, Links, Overrides};
 use sv_num::{Name, Place};
 use sv_parse_expr::cursor::{behind, expect_sign, read_name};
 use sv_parse_expr::lists::{Expressions, Listed, read_list};
-use sv_parse_expr::stop::Stop;
+use sv_parse_expr::stop::{Read, Stop};
 use sv_parse_stmt::closed::read_closed;
 use sv_token::{SignKind, Token};
 
@@ -36,16 +39,11 @@ fn read_dotted<'a>(
     tokens: &'a [Token],
 ) -> Result<(Name, Place, &'a [Token]), Stop>
     ensures is { IfOk result (λ x.
-        (a_sign signs.Dot ⨾ name_at x.0 x.1 ⨾ a_sign signs.OpenParenthesis)
-        (placed_tokens bytes.now tokens.now) (placed_tokens bytes.now x.2.now)) }
+        Stands (a_sign signs.Dot ⨾ name_at x.0 x.1 ⨾ a_sign signs.OpenParenthesis)
+        bytes.now tokens.now x.2.now) }
     ensures shorter { IfOk result (λ x. length x.2.now < length tokens.now) }
-    ensures reads { IfOk result (λ x.
-        Reads (outer (punctuation signs.Dot) ∷ outer plain_name ∷
-        outer (punctuation signs.OpenParenthesis) ∷ []) [] (placed_tokens bytes.now tokens.now)
-        (placed_tokens bytes.now x.2.now)) }
-    ensures halts { IfErr result (λ e.
-        HaltsAs (outer (punctuation signs.Dot) ∷ outer plain_name ∷
-        outer (punctuation signs.OpenParenthesis) ∷ []) (placed_tokens bytes.now tokens.now) e) }
+    ensures reads { IfOk result (λ x. Comes (dotted []) [] bytes.now tokens.now x.2.now) }
+    ensures halts { HaltsOn result bytes.now tokens.now (dotted []) }
 {
     let rest = expect_sign(SignKind::Dot, tokens)?;
     let (name, place, rest) = read_name(alloc, bytes, rest)?;
@@ -58,20 +56,11 @@ fn read_named_override<'a>(
     alloc: Global,
     bytes: &[u8],
     tokens: &'a [Token],
-) -> Result<((Name, Place, Expr), &'a [Token]), Stop>
-    ensures is { IfOk result (λ x.
-        IsNamedOverride all_limits (named_override x.0) (placed_tokens bytes.now tokens.now)
-        (placed_tokens bytes.now x.1.now)) }
-    ensures shorter { IfOk result (λ x. length x.1.now < length tokens.now) }
-    ensures reads { IfOk result (λ x.
-        Reads (outer (punctuation signs.Dot) ∷ outer plain_name ∷
-        outer (punctuation signs.OpenParenthesis) ∷ outer (expression 0) ∷
-        outer (punctuation signs.CloseParenthesis) ∷ []) [] (placed_tokens bytes.now tokens.now)
-        (placed_tokens bytes.now x.1.now)) }
-    ensures halts { IfErr result (λ e.
-        HaltsAs (outer (punctuation signs.Dot) ∷ outer plain_name ∷
-        outer (punctuation signs.OpenParenthesis) ∷ outer (expression 0) ∷
-        outer (punctuation signs.CloseParenthesis) ∷ []) (placed_tokens bytes.now tokens.now) e) }
+) -> Read<'a, (Name, Place, Expr)>
+    ensures is { Gives result bytes.now tokens.now named_override (IsNamedOverride all_limits) }
+    ensures shorter { Shortens result tokens.now }
+    ensures reads { Leads result bytes.now tokens.now dotted_value [] }
+    ensures halts { HaltsOn result bytes.now tokens.now dotted_value }
 {
     let (name, place, rest) = read_dotted(alloc, bytes, tokens)?;
     let (value, rest) = read_closed(alloc, bytes, 0, SignKind::CloseParenthesis, rest)?;
@@ -94,23 +83,18 @@ impl Listed for NamedOverrides {
 
     ghost Begins = { λ ts. Unit {0} };
 
-    ghost start = { λ n.
-        outer (punctuation signs.Dot) ∷ outer plain_name ∷
-        outer (punctuation signs.OpenParenthesis) ∷ outer (expression 0) ∷
-        outer (punctuation signs.CloseParenthesis) ∷ [] };
+    ghost start = { λ n. outside_on dotted_value };
 
     ghost behind = { λ n. [] };
 
-    ghost next = { λ n. outer (punctuation signs.Dot) ∷ outer plain_name ∷
-        outer (punctuation signs.OpenParenthesis) ∷ outer (expression 0) ∷
-        outer (punctuation signs.CloseParenthesis) ∷ [] };
+    ghost next = { λ n. outside_on dotted_value };
 
     fn first<'a>(
         alloc: Global,
         bytes: &[u8],
         _open: usize,
         tokens: &'a [Token],
-    ) -> Result<((Name, Place, Expr), &'a [Token]), Stop> {
+    ) -> Read<'a, (Name, Place, Expr)> {
         read_named_override(alloc, bytes, tokens)
     }
 
@@ -120,26 +104,18 @@ impl Listed for NamedOverrides {
         _open: usize,
         _before: &(Name, Place, Expr),
         tokens: &'a [Token],
-    ) -> Result<((Name, Place, Expr), &'a [Token]), Stop> {
+    ) -> Read<'a, (Name, Place, Expr)> {
         read_named_override(alloc, bytes, tokens)
     }
 }
 
 // The parameters that an instance sets, in parentheses of which the first is read.
-fn read_open_overrides<'a>(
-    alloc: Global,
-    bytes: &[u8],
-    tokens: &'a [Token],
-) -> Result<(Overrides, &'a [Token]), Stop>
-    ensures is { IfOk result (λ x.
-        AreOpenOverrides (override_trees x.0) (placed_tokens bytes.now tokens.now)
-        (placed_tokens bytes.now x.1.now)) }
-    ensures shorter { IfOk result (λ x. length x.1.now < length tokens.now) }
-    ensures reads { IfOk result (λ x.
-        Reads (outer overrides ∷ []) (outer (punctuation signs.CloseParenthesis) ∷ [])
-        (placed_tokens bytes.now tokens.now) (placed_tokens bytes.now x.1.now)) }
-    ensures halts { IfErr result (λ e.
-        HaltsAs (outer overrides ∷ []) (placed_tokens bytes.now tokens.now) e) }
+fn read_open_overrides<'a>(alloc: Global, bytes: &[u8], tokens: &'a [Token]) -> Read<'a, Overrides>
+    ensures is { Gives result bytes.now tokens.now override_trees AreOpenOverrides }
+    ensures shorter { Shortens result tokens.now }
+    ensures reads { Leads result bytes.now tokens.now
+        (overrides ∷ []) (punctuation signs.CloseParenthesis ∷ []) }
+    ensures halts { HaltsOn result bytes.now tokens.now (overrides ∷ []) }
 {
     match behind(SignKind::Dot, tokens) {
         Some(_) => {
@@ -154,20 +130,11 @@ fn read_open_overrides<'a>(
 }
 
 // The parameters that an instance sets.
-fn read_overrides<'a>(
-    alloc: Global,
-    bytes: &[u8],
-    tokens: &'a [Token],
-) -> Result<(Overrides, &'a [Token]), Stop>
-    ensures is { IfOk result (λ x.
-        AreOverrides all_limits (override_trees x.0) (placed_tokens bytes.now tokens.now)
-        (placed_tokens bytes.now x.1.now)) }
-    ensures shorter { IfOk result (λ x. length x.1.now ≤ length tokens.now) }
-    ensures reads { IfOk result (λ x.
-        Reads (outer perhaps_overrides ∷ []) [] (placed_tokens bytes.now tokens.now)
-        (placed_tokens bytes.now x.1.now)) }
-    ensures halts { IfErr result (λ e.
-        HaltsAs (outer perhaps_overrides ∷ []) (placed_tokens bytes.now tokens.now) e) }
+fn read_overrides<'a>(alloc: Global, bytes: &[u8], tokens: &'a [Token]) -> Read<'a, Overrides>
+    ensures is { Gives result bytes.now tokens.now override_trees (AreOverrides all_limits) }
+    ensures shorter { NoLonger result tokens.now }
+    ensures reads { Leads result bytes.now tokens.now (perhaps_overrides ∷ []) [] }
+    ensures halts { HaltsOn result bytes.now tokens.now (perhaps_overrides ∷ []) }
 {
     if let Some(rest) = behind(SignKind::Hash, tokens) {
         let rest = expect_sign(SignKind::OpenParenthesis, rest)?;
@@ -179,21 +146,13 @@ fn read_overrides<'a>(
 }
 
 // What a port is linked to, behind its `(`, if to anything; and the tokens behind the `)`.
-fn read_link_value<'a>(
-    alloc: Global,
-    bytes: &[u8],
-    tokens: &'a [Token],
-) -> Result<(Option<Expr>, &'a [Token]), Stop>
-    ensures is { IfOk result (λ x.
-        (perhaps (IsValue all_limits) (option_map expression_tree x.0)
-        ⨾ a_sign signs.CloseParenthesis) (placed_tokens bytes.now tokens.now)
-        (placed_tokens bytes.now x.1.now)) }
-    ensures shorter { IfOk result (λ x. length x.1.now < length tokens.now) }
-    ensures reads { IfOk result (λ x.
-        Reads (outer link ∷ []) [] (placed_tokens bytes.now tokens.now)
-        (placed_tokens bytes.now x.1.now)) }
-    ensures halts { IfErr result (λ e.
-        HaltsAs (outer link ∷ []) (placed_tokens bytes.now tokens.now) e) }
+fn read_link_value<'a>(alloc: Global, bytes: &[u8], tokens: &'a [Token]) -> Read<'a, Option<Expr>>
+    ensures is { GivesAs result bytes.now tokens.now (λ x.
+        perhaps (IsValue all_limits) (option_map expression_tree x)
+        ⨾ a_sign signs.CloseParenthesis) }
+    ensures shorter { Shortens result tokens.now }
+    ensures reads { Leads result bytes.now tokens.now (link ∷ []) [] }
+    ensures halts { HaltsOn result bytes.now tokens.now (link ∷ []) }
 {
     if let Some(rest) = behind(SignKind::CloseParenthesis, tokens) {
         return Ok((None, rest));
@@ -207,20 +166,11 @@ fn read_named_link<'a>(
     alloc: Global,
     bytes: &[u8],
     tokens: &'a [Token],
-) -> Result<((Name, Place, Option<Expr>), &'a [Token]), Stop>
-    ensures is { IfOk result (λ x.
-        IsNamedLink all_limits (named_link x.0) (placed_tokens bytes.now tokens.now)
-        (placed_tokens bytes.now x.1.now)) }
-    ensures shorter { IfOk result (λ x. length x.1.now < length tokens.now) }
-    ensures reads { IfOk result (λ x.
-        Reads (outer (punctuation signs.Dot) ∷ outer plain_name ∷
-        outer (punctuation signs.OpenParenthesis) ∷
-        outer link ∷ []) [] (placed_tokens bytes.now tokens.now)
-        (placed_tokens bytes.now x.1.now)) }
-    ensures halts { IfErr result (λ e.
-        HaltsAs (outer (punctuation signs.Dot) ∷ outer plain_name ∷
-        outer (punctuation signs.OpenParenthesis) ∷
-        outer link ∷ []) (placed_tokens bytes.now tokens.now) e) }
+) -> Read<'a, (Name, Place, Option<Expr>)>
+    ensures is { Gives result bytes.now tokens.now named_link (IsNamedLink all_limits) }
+    ensures shorter { Shortens result tokens.now }
+    ensures reads { Leads result bytes.now tokens.now dotted_link [] }
+    ensures halts { HaltsOn result bytes.now tokens.now dotted_link }
 {
     let (name, place, rest) = read_dotted(alloc, bytes, tokens)?;
     let (value, rest) = read_link_value(alloc, bytes, rest)?;
@@ -243,21 +193,18 @@ impl Listed for NamedLinks {
 
     ghost Begins = { λ ts. Unit {0} };
 
-    ghost start = { λ n.
-        outer (punctuation signs.Dot) ∷ outer plain_name ∷
-        outer (punctuation signs.OpenParenthesis) ∷ outer link ∷ [] };
+    ghost start = { λ n. outside_on dotted_link };
 
     ghost behind = { λ n. [] };
 
-    ghost next = { λ n. outer (punctuation signs.Dot) ∷ outer plain_name ∷
-        outer (punctuation signs.OpenParenthesis) ∷ outer link ∷ [] };
+    ghost next = { λ n. outside_on dotted_link };
 
     fn first<'a>(
         alloc: Global,
         bytes: &[u8],
         _open: usize,
         tokens: &'a [Token],
-    ) -> Result<((Name, Place, Option<Expr>), &'a [Token]), Stop> {
+    ) -> Read<'a, (Name, Place, Option<Expr>)> {
         read_named_link(alloc, bytes, tokens)
     }
 
@@ -267,26 +214,18 @@ impl Listed for NamedLinks {
         _open: usize,
         _before: &(Name, Place, Option<Expr>),
         tokens: &'a [Token],
-    ) -> Result<((Name, Place, Option<Expr>), &'a [Token]), Stop> {
+    ) -> Read<'a, (Name, Place, Option<Expr>)> {
         read_named_link(alloc, bytes, tokens)
     }
 }
 
 // The ports that an instance links, and the `)` behind them.
-fn read_links<'a>(
-    alloc: Global,
-    bytes: &[u8],
-    tokens: &'a [Token],
-) -> Result<(Links, &'a [Token]), Stop>
-    ensures is { IfOk result (λ x.
-        (AreLinks all_limits (link_trees x.0) ⨾ a_sign signs.CloseParenthesis)
-        (placed_tokens bytes.now tokens.now) (placed_tokens bytes.now x.1.now)) }
-    ensures shorter { IfOk result (λ x. length x.1.now < length tokens.now) }
-    ensures reads { IfOk result (λ x.
-        Reads (outer links ∷ []) [] (placed_tokens bytes.now tokens.now)
-        (placed_tokens bytes.now x.1.now)) }
-    ensures halts { IfErr result (λ e.
-        HaltsAs (outer links ∷ []) (placed_tokens bytes.now tokens.now) e) }
+fn read_links<'a>(alloc: Global, bytes: &[u8], tokens: &'a [Token]) -> Read<'a, Links>
+    ensures is { GivesAs result bytes.now tokens.now (λ x.
+        AreLinks all_limits (link_trees x) ⨾ a_sign signs.CloseParenthesis) }
+    ensures shorter { Shortens result tokens.now }
+    ensures reads { Leads result bytes.now tokens.now (links ∷ []) [] }
+    ensures halts { HaltsOn result bytes.now tokens.now (links ∷ []) }
 {
     if let Some(rest) = behind(SignKind::CloseParenthesis, tokens) {
         return Ok((Links::Ordered(Vec::new(alloc)), rest));
@@ -297,20 +236,13 @@ fn read_links<'a>(
 }
 
 // The ports that an instance links, at least one.
-fn read_some_links<'a>(
-    alloc: Global,
-    bytes: &[u8],
-    tokens: &'a [Token],
-) -> Result<(Links, &'a [Token]), Stop>
-    ensures is { IfOk result (λ x.
-        AreLinks all_limits (link_trees x.0) (placed_tokens bytes.now tokens.now)
-        (placed_tokens bytes.now x.1.now)) }
-    ensures shorter { IfOk result (λ x. length x.1.now < length tokens.now) }
+fn read_some_links<'a>(alloc: Global, bytes: &[u8], tokens: &'a [Token]) -> Read<'a, Links>
+    ensures is { Gives result bytes.now tokens.now link_trees (AreLinks all_limits) }
+    ensures shorter { Shortens result tokens.now }
     ensures reads { NextIsNotSign SignKind.CloseParenthesis (placed_tokens bytes.now tokens.now) →
-        IfOk result (λ x. Reads (outer links ∷ []) (outer (punctuation signs.CloseParenthesis) ∷ [])
-        (placed_tokens bytes.now tokens.now) (placed_tokens bytes.now x.1.now)) }
+        Leads result bytes.now tokens.now (links ∷ []) (punctuation signs.CloseParenthesis ∷ []) }
     ensures halts { NextIsNotSign SignKind.CloseParenthesis (placed_tokens bytes.now tokens.now) →
-        IfErr result (λ e. HaltsAs (outer links ∷ []) (placed_tokens bytes.now tokens.now) e) }
+        HaltsOn result bytes.now tokens.now (links ∷ []) }
 {
     match behind(SignKind::Dot, tokens) {
         Some(_) => {
@@ -332,17 +264,14 @@ fn read_named_instance<'a>(
     place: Place,
     overrides: Overrides,
     tokens: &'a [Token],
-) -> Result<(Instance, &'a [Token]), Stop>
-    ensures is { IfOk result (λ x.
-        IsInstanceAs «module» place (override_trees overrides) (instance_tree x.0)
-        (placed_tokens bytes.now tokens.now) (placed_tokens bytes.now x.1.now)) }
-    ensures shorter { IfOk result (λ x. length x.1.now < length tokens.now) }
-    ensures reads { IfOk result (λ x.
-        Reads (outer plain_name ∷ outer (punctuation signs.OpenParenthesis) ∷ outer links ∷ []) []
-        (placed_tokens bytes.now tokens.now) (placed_tokens bytes.now x.1.now)) }
-    ensures halts { IfErr result (λ e.
-        HaltsAs (outer plain_name ∷ outer (punctuation signs.OpenParenthesis) ∷ outer links ∷ [])
-        (placed_tokens bytes.now tokens.now) e) }
+) -> Read<'a, Instance>
+    ensures is { Gives result bytes.now tokens.now instance_tree
+        (IsInstanceAs «module» place (override_trees overrides)) }
+    ensures shorter { Shortens result tokens.now }
+    ensures reads { Leads result bytes.now tokens.now
+        (plain_name ∷ punctuation signs.OpenParenthesis ∷ links ∷ []) [] }
+    ensures halts { HaltsOn result bytes.now tokens.now
+        (plain_name ∷ punctuation signs.OpenParenthesis ∷ links ∷ []) }
 {
     let (name, name_place, rest) = read_name(alloc, bytes, tokens)?;
     let rest = expect_sign(SignKind::OpenParenthesis, rest)?;
@@ -388,7 +317,7 @@ impl Listed for Instances {
         bytes: &[u8],
         _open: usize,
         tokens: &'a [Token],
-    ) -> Result<(Instance, &'a [Token]), Stop> {
+    ) -> Read<'a, Instance> {
         let (module, place, rest) = read_name(alloc, bytes, tokens)?;
         let (overrides, rest) = read_overrides(alloc, bytes, rest)?;
         let (instance, rest) = read_named_instance(alloc, bytes, module, place, overrides, rest)?;
@@ -401,7 +330,7 @@ impl Listed for Instances {
         _open: usize,
         before: &Instance,
         tokens: &'a [Token],
-    ) -> Result<(Instance, &'a [Token]), Stop> {
+    ) -> Read<'a, Instance> {
         let module = before.module.copy(alloc)?;
         let overrides = before.overrides.copy(alloc)?;
         let (instance, rest) = read_named_instance(
@@ -425,21 +354,14 @@ fn as_items(alloc: Global, instances: Vec<Instance>) -> Result<Vec<Item>, AllocE
 }
 
 /// The instances of an item that begins with the name of a module.
-pub fn read_instances<'a>(
-    alloc: Global,
-    bytes: &[u8],
-    tokens: &'a [Token],
-) -> Result<(Vec<Item>, &'a [Token]), Stop>
-    ensures is { IfOk result (λ x.
-        all_as tree.instance_item (AreInstances all_limits) (map item_tree x.0.items)
-        (placed_tokens bytes.now tokens.now) (placed_tokens bytes.now x.1.now)) }
-    ensures shorter { IfOk result (λ x. length x.1.now < length tokens.now) }
+pub fn read_instances<'a>(alloc: Global, bytes: &[u8], tokens: &'a [Token]) -> Read<'a, Vec<Item>>
+    ensures is { GivesAll result bytes.now tokens.now item_tree
+        (all_as tree.instance_item (AreInstances all_limits)) }
+    ensures shorter { Shortens result tokens.now }
     ensures reads { NextIsAnyName (placed_tokens bytes.now tokens.now) →
-        IfOk result (λ x. Reads (outer items ∷ [])
-        (outer (punctuation signs.Semicolon) ∷ outer items ∷ [])
-        (placed_tokens bytes.now tokens.now) (placed_tokens bytes.now x.1.now)) }
+        Leads result bytes.now tokens.now (items ∷ []) (punctuation signs.Semicolon ∷ items ∷ []) }
     ensures halts { NextIsAnyName (placed_tokens bytes.now tokens.now) →
-        IfErr result (λ e. HaltsAs (outer items ∷ []) (placed_tokens bytes.now tokens.now) e) }
+        HaltsOn result bytes.now tokens.now (items ∷ []) }
 {
     let (instances, rest) = read_list::<Instances>(alloc, bytes, 0, tokens)?;
     let items = as_items(alloc, instances)?;

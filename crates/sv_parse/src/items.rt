@@ -1,5 +1,5 @@
 // Items of modules.
-ghost use Rattle.std.specs.Prelude.{◌≡◌, ◌<◌, ℕ, List, length, map, IfOk, IfErr, [], ◌∷◌};
+ghost use Rattle.std.specs.Prelude.{◌≡◌, ℕ, List, [], ◌∷◌};
 ghost use Rattle.std.specs.Option.{option_map};
 ghost use Rattle.sv_token.specs.Lexemes.{placed_tokens};
 ghost use Rattle.sv_token.specs.declared.signs.SignKind.TheVariants as signs;
@@ -9,10 +9,9 @@ ghost use Rattle.sv_ast.specs.GrammarModules.{IsInvariant, IsListedItem, IsItem}
 ghost use Rattle.sv_ast.specs.GrammarRules.{all_limits};
 ghost use Rattle.sv_ast.specs.GrammarStatements.{IsNext, only};
 ghost use Rattle.sv_parse.specs.ReadingItems.{IsOpenEvent};
-ghost use Rattle.sv_parse_machine.specs.Symbols.{outer, punctuation, items, event};
-ghost use Rattle.sv_parse_machine.specs.Symbols.{event_inside};
-ghost use Rattle.sv_parse_machine.specs.Reads.{Reads, NextIsNotWord};
-ghost use Rattle.sv_parse_expr.specs.Expectations.{HaltsAs};
+ghost use Rattle.sv_parse_machine.specs.Symbols.{punctuation, items, event, event_inside};
+ghost use Rattle.sv_parse_machine.specs.Reads.{NextIsNotWord};
+ghost use Rattle.sv_parse_expr.specs.Parses.{Gives, GivesAll, Shortens, Leads, HaltsOn};
 
 use crate::declarations::read_wires;
 use crate::instances::read_instances;
@@ -25,7 +24,7 @@ use sv_parse_expr::cursor::{behind, behind_word, expect_sign, expect_word, stuck
 use sv_parse_expr::expressions::read_expression;
 use sv_parse_expr::lists::one;
 use sv_parse_expr::operators::operator_at;
-use sv_parse_expr::stop::{Expected, Stop};
+use sv_parse_expr::stop::{Expected, Read};
 use sv_parse_stmt::assignments::read_assigned;
 use sv_parse_stmt::closed::read_closed_name;
 use sv_parse_stmt::statements::read_statement;
@@ -36,16 +35,11 @@ fn read_open_event<'a>(
     alloc: Global,
     bytes: &[u8],
     tokens: &'a [Token],
-) -> Result<(Option<(Name, Place)>, &'a [Token]), Stop>
-    ensures is { IfOk result (λ x.
-        IsOpenEvent (option_map placed_name x.0) (placed_tokens bytes.now tokens.now)
-        (placed_tokens bytes.now x.1.now)) }
-    ensures shorter { IfOk result (λ x. length x.1.now < length tokens.now) }
-    ensures reads { IfOk result (λ x.
-        Reads (outer event_inside ∷ []) [] (placed_tokens bytes.now tokens.now)
-        (placed_tokens bytes.now x.1.now)) }
-    ensures halts { IfErr result (λ e.
-        HaltsAs (outer event_inside ∷ []) (placed_tokens bytes.now tokens.now) e) }
+) -> Read<'a, Option<(Name, Place)>>
+    ensures is { Gives result bytes.now tokens.now (option_map placed_name) IsOpenEvent }
+    ensures shorter { Shortens result tokens.now }
+    ensures reads { Leads result bytes.now tokens.now (event_inside ∷ []) [] }
+    ensures halts { HaltsOn result bytes.now tokens.now (event_inside ∷ []) }
 {
     if let Some(rest) = behind_word(WordKind::Posedge, tokens) {
         let (name, place, rest) = read_closed_name(alloc, bytes, rest)?;
@@ -65,16 +59,11 @@ fn read_event<'a>(
     alloc: Global,
     bytes: &[u8],
     tokens: &'a [Token],
-) -> Result<(Option<(Name, Place)>, &'a [Token]), Stop>
-    ensures is { IfOk result (λ x.
-        IsEvent (option_map placed_name x.0) (placed_tokens bytes.now tokens.now)
-        (placed_tokens bytes.now x.1.now)) }
-    ensures shorter { IfOk result (λ x. length x.1.now < length tokens.now) }
-    ensures reads { IfOk result (λ x.
-        Reads (outer event ∷ []) [] (placed_tokens bytes.now tokens.now)
-        (placed_tokens bytes.now x.1.now)) }
-    ensures halts { IfErr result (λ e.
-        HaltsAs (outer event ∷ []) (placed_tokens bytes.now tokens.now) e) }
+) -> Read<'a, Option<(Name, Place)>>
+    ensures is { Gives result bytes.now tokens.now (option_map placed_name) IsEvent }
+    ensures shorter { Shortens result tokens.now }
+    ensures reads { Leads result bytes.now tokens.now (event ∷ []) [] }
+    ensures halts { HaltsOn result bytes.now tokens.now (event ∷ []) }
 {
     if let Some(rest) = behind(SignKind::OpenParenthesis, tokens) {
         let (event, rest) = read_open_event(alloc, bytes, rest)?;
@@ -87,20 +76,13 @@ fn read_event<'a>(
 }
 
 // A process.
-fn read_process<'a>(
-    alloc: Global,
-    bytes: &[u8],
-    tokens: &'a [Token],
-) -> Result<(Item, &'a [Token]), Stop>
-    ensures is { IfOk result (λ x.
-        IsAlways all_limits (item_tree x.0) (placed_tokens bytes.now tokens.now)
-        (placed_tokens bytes.now x.1.now)) }
-    ensures shorter { IfOk result (λ x. length x.1.now < length tokens.now) }
+fn read_process<'a>(alloc: Global, bytes: &[u8], tokens: &'a [Token]) -> Read<'a, Item>
+    ensures is { Gives result bytes.now tokens.now item_tree (IsAlways all_limits) }
+    ensures shorter { Shortens result tokens.now }
     ensures reads { IsNext WordKind.Always (placed_tokens bytes.now tokens.now) →
-        IfOk result (λ x. Reads (outer items ∷ []) (outer items ∷ [])
-        (placed_tokens bytes.now tokens.now) (placed_tokens bytes.now x.1.now)) }
+        Leads result bytes.now tokens.now (items ∷ []) (items ∷ []) }
     ensures halts { IsNext WordKind.Always (placed_tokens bytes.now tokens.now) →
-        IfErr result (λ e. HaltsAs (outer items ∷ []) (placed_tokens bytes.now tokens.now) e) }
+        HaltsOn result bytes.now tokens.now (items ∷ []) }
 {
     let (place, rest) = expect_word(WordKind::Always, tokens)?;
     let rest = expect_sign(SignKind::At, rest)?;
@@ -127,21 +109,13 @@ fn place_of(expr: &Expr) -> Place
 }
 
 // The one item that says what always holds, with the place of the expression.
-fn read_invariant<'a>(
-    alloc: Global,
-    bytes: &[u8],
-    tokens: &'a [Token],
-) -> Result<(Vec<Item>, &'a [Token]), Stop>
-    ensures is { IfOk result (λ x.
-        only (IsInvariant all_limits) (map item_tree x.0.items)
-        (placed_tokens bytes.now tokens.now) (placed_tokens bytes.now x.1.now)) }
-    ensures shorter { IfOk result (λ x. length x.1.now < length tokens.now) }
+fn read_invariant<'a>(alloc: Global, bytes: &[u8], tokens: &'a [Token]) -> Read<'a, Vec<Item>>
+    ensures is { GivesAll result bytes.now tokens.now item_tree (only (IsInvariant all_limits)) }
+    ensures shorter { Shortens result tokens.now }
     ensures reads { IsNext WordKind.Invariant (placed_tokens bytes.now tokens.now) →
-        IfOk result (λ x. Reads (outer items ∷ [])
-        (outer (punctuation signs.Semicolon) ∷ outer items ∷ [])
-        (placed_tokens bytes.now tokens.now) (placed_tokens bytes.now x.1.now)) }
+        Leads result bytes.now tokens.now (items ∷ []) (punctuation signs.Semicolon ∷ items ∷ []) }
     ensures halts { IsNext WordKind.Invariant (placed_tokens bytes.now tokens.now) →
-        IfErr result (λ e. HaltsAs (outer items ∷ []) (placed_tokens bytes.now tokens.now) e) }
+        HaltsOn result bytes.now tokens.now (items ∷ []) }
 {
     let (_place, rest) = expect_word(WordKind::Invariant, tokens)?;
     let (expr, rest) = read_expression(alloc, bytes, 0, rest)?;
@@ -150,23 +124,15 @@ fn read_invariant<'a>(
 }
 
 // The items up to a `;`.
-fn read_listed_item<'a>(
-    alloc: Global,
-    bytes: &[u8],
-    tokens: &'a [Token],
-) -> Result<(Vec<Item>, &'a [Token]), Stop>
-    ensures is { IfOk result (λ x.
-        IsListedItem all_limits (map item_tree x.0.items) (placed_tokens bytes.now tokens.now)
-        (placed_tokens bytes.now x.1.now)) }
-    ensures shorter { IfOk result (λ x. length x.1.now < length tokens.now) }
+fn read_listed_item<'a>(alloc: Global, bytes: &[u8], tokens: &'a [Token]) -> Read<'a, Vec<Item>>
+    ensures is { GivesAll result bytes.now tokens.now item_tree (IsListedItem all_limits) }
+    ensures shorter { Shortens result tokens.now }
     ensures reads { NextIsNotWord WordKind.Always (placed_tokens bytes.now tokens.now) →
         NextIsNotWord WordKind.Endmodule (placed_tokens bytes.now tokens.now) →
-        IfOk result (λ x. Reads (outer items ∷ [])
-        (outer (punctuation signs.Semicolon) ∷ outer items ∷ [])
-        (placed_tokens bytes.now tokens.now) (placed_tokens bytes.now x.1.now)) }
+        Leads result bytes.now tokens.now (items ∷ []) (punctuation signs.Semicolon ∷ items ∷ []) }
     ensures halts { NextIsNotWord WordKind.Always (placed_tokens bytes.now tokens.now) →
         NextIsNotWord WordKind.Endmodule (placed_tokens bytes.now tokens.now) →
-        IfErr result (λ e. HaltsAs (outer items ∷ []) (placed_tokens bytes.now tokens.now) e) }
+        HaltsOn result bytes.now tokens.now (items ∷ []) }
 {
     let [first, ..] = tokens else {
         return Err(stuck(Expected::Item, tokens));
@@ -185,20 +151,13 @@ fn read_listed_item<'a>(
 }
 
 /// An item of the text, and the tokens behind it: an item of the tree for each name that it has.
-pub fn read_item<'a>(
-    alloc: Global,
-    bytes: &[u8],
-    tokens: &'a [Token],
-) -> Result<(Vec<Item>, &'a [Token]), Stop>
-    ensures is { IfOk result (λ x.
-        IsItem all_limits (map item_tree x.0.items) (placed_tokens bytes.now tokens.now)
-        (placed_tokens bytes.now x.1.now)) }
-    ensures shorter { IfOk result (λ x. length x.1.now < length tokens.now) }
+pub fn read_item<'a>(alloc: Global, bytes: &[u8], tokens: &'a [Token]) -> Read<'a, Vec<Item>>
+    ensures is { GivesAll result bytes.now tokens.now item_tree (IsItem all_limits) }
+    ensures shorter { Shortens result tokens.now }
     ensures reads { NextIsNotWord WordKind.Endmodule (placed_tokens bytes.now tokens.now) →
-        IfOk result (λ x. Reads (outer items ∷ []) (outer items ∷ [])
-        (placed_tokens bytes.now tokens.now) (placed_tokens bytes.now x.1.now)) }
+        Leads result bytes.now tokens.now (items ∷ []) (items ∷ []) }
     ensures halts { NextIsNotWord WordKind.Endmodule (placed_tokens bytes.now tokens.now) →
-        IfErr result (λ e. HaltsAs (outer items ∷ []) (placed_tokens bytes.now tokens.now) e) }
+        HaltsOn result bytes.now tokens.now (items ∷ []) }
 {
     match behind_word(WordKind::Always, tokens) {
         Some(_) => {

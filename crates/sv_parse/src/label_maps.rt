@@ -1,6 +1,5 @@
 // Label maps (SecVerilog, ASPLOS 2015; ranges and rows are this project's profile).
-ghost use Rattle.std.specs.Prelude.{◌≡◌, true, false, ◌<◌, ◌≤◌, ℕ, List, length, map, IfOk, IfErr};
-ghost use Rattle.std.specs.Prelude.{[], ◌∷◌};
+ghost use Rattle.std.specs.Prelude.{◌≡◌, true, false, ℕ, List, IfOk, [], ◌∷◌};
 ghost use Rattle.std.specs.Option.{option_map};
 ghost use Rattle.sv_token.specs.Lexemes.{placed_tokens};
 ghost use Rattle.sv_token.specs.declared.signs.SignKind.TheVariants as signs;
@@ -9,13 +8,16 @@ ghost use Rattle.sv_ast.specs.Views.{span_tree, key_tree, row_tree, map_tree};
 ghost use Rattle.sv_ast.specs.GrammarForms.{◌⨾◌, perhaps, each, a_word, a_sign, a_name};
 ghost use Rattle.sv_ast.specs.GrammarModules.{IsKeyRange, IsKey, IsRow, IsMap};
 ghost use Rattle.sv_ast.specs.GrammarStatements.{IsNext};
+ghost use Rattle.sv_parse.specs.ReadingDeclarations.{to_point};
 ghost use Rattle.sv_parse.specs.ReadingItems.{IsOpenKeyRange, range_tree};
 ghost use Rattle.sv_parse.specs.ReadingTexts.{EndsRows};
-ghost use Rattle.sv_parse_machine.specs.Symbols.{outer, punctuation, plain_name, plain_number};
-ghost use Rattle.sv_parse_machine.specs.Symbols.{perhaps_maps, perhaps_key_range, rows};
-ghost use Rattle.sv_parse_machine.specs.Symbols.{perhaps_second_key, end_of_map};
-ghost use Rattle.sv_parse_machine.specs.Reads.{Reads, NextIsNotWord};
-ghost use Rattle.sv_parse_expr.specs.Expectations.{HaltsAs};
+ghost use Rattle.sv_parse_machine.specs.Symbols.{punctuation, plain_number, perhaps_maps};
+ghost use Rattle.sv_parse_machine.specs.Symbols.{perhaps_key_range, rows, perhaps_second_key};
+ghost use Rattle.sv_parse_machine.specs.Symbols.{end_of_map};
+ghost use Rattle.sv_parse_machine.specs.ModuleTable.{number_range};
+ghost use Rattle.sv_parse_machine.specs.Reads.{NextIsNotWord};
+ghost use Rattle.sv_parse_expr.specs.Parses.{GivesAs, Gives, GivesAll, Shortens, NoLonger, Leads};
+ghost use Rattle.sv_parse_expr.specs.Parses.{HaltsOn};
 
 use std::alloc::Global;
 use sv_ast::{Expr, MapText, Span};
@@ -23,7 +25,7 @@ use sv_num::{Name, Place};
 use sv_parse_expr::cursor::{
     behind, behind_word, expect_sign, expect_word, read_name, read_number,
 };
-use sv_parse_expr::stop::Stop;
+use sv_parse_expr::stop::Read;
 use sv_token::{Lit, SignKind, Token, TokenKind, WordKind};
 
 // A range of plain numbers, each with its place. It is made a tree last: a tree that is held where
@@ -57,20 +59,11 @@ fn perhaps_span(range: Option<KeyRange>) -> Option<Span>
 }
 
 // A range of plain numbers, behind its `[`.
-fn read_open_range(tokens: &[Token]) -> Result<(KeyRange, &[Token]), Stop>
-    ensures is { (bytes : List ℕ) →
-        IfOk result (λ x. IsOpenKeyRange (range_tree x.0) (placed_tokens bytes tokens.now)
-        (placed_tokens bytes x.1.now)) }
-    ensures shorter { IfOk result (λ x. length x.1.now < length tokens.now) }
-    ensures reads { (bytes : List ℕ) →
-        IfOk result (λ x. Reads
-        (outer plain_number ∷ outer (punctuation signs.Colon) ∷ outer plain_number ∷
-        outer (punctuation signs.CloseBracket) ∷ []) [] (placed_tokens bytes tokens.now)
-        (placed_tokens bytes x.1.now)) }
-    ensures halts { (bytes : List ℕ) →
-        IfErr result (λ e. HaltsAs
-        (outer plain_number ∷ outer (punctuation signs.Colon) ∷ outer plain_number ∷
-        outer (punctuation signs.CloseBracket) ∷ []) (placed_tokens bytes tokens.now) e) }
+fn read_open_range(tokens: &[Token]) -> Read<'_, KeyRange>
+    ensures is { (bytes : List ℕ) → Gives result bytes tokens.now range_tree IsOpenKeyRange }
+    ensures shorter { Shortens result tokens.now }
+    ensures reads { (bytes : List ℕ) → Leads result bytes tokens.now number_range [] }
+    ensures halts { (bytes : List ℕ) → HaltsOn result bytes tokens.now number_range }
 {
     let (high, high_place, rest) = read_number(tokens)?;
     let rest = expect_sign(SignKind::Colon, rest)?;
@@ -86,22 +79,13 @@ fn read_open_range(tokens: &[Token]) -> Result<(KeyRange, &[Token]), Stop>
 }
 
 // A range, which has to come.
-fn read_range(tokens: &[Token]) -> Result<(KeyRange, &[Token]), Stop>
-    ensures is { (bytes : List ℕ) →
-        IfOk result (λ x. IsKeyRange (range_tree x.0) (placed_tokens bytes tokens.now)
-        (placed_tokens bytes x.1.now)) }
-    ensures shorter { IfOk result (λ x. length x.1.now < length tokens.now) }
+fn read_range(tokens: &[Token]) -> Read<'_, KeyRange>
+    ensures is { (bytes : List ℕ) → Gives result bytes tokens.now range_tree IsKeyRange }
+    ensures shorter { Shortens result tokens.now }
     ensures reads { (bytes : List ℕ) →
-        IfOk result (λ x. Reads
-        (outer (punctuation signs.OpenBracket) ∷ outer plain_number ∷
-        outer (punctuation signs.Colon) ∷ outer plain_number ∷
-        outer (punctuation signs.CloseBracket) ∷ []) [] (placed_tokens bytes tokens.now)
-        (placed_tokens bytes x.1.now)) }
+        Leads result bytes tokens.now (punctuation signs.OpenBracket ∷ number_range) [] }
     ensures halts { (bytes : List ℕ) →
-        IfErr result (λ e. HaltsAs
-        (outer (punctuation signs.OpenBracket) ∷ outer plain_number ∷
-        outer (punctuation signs.Colon) ∷ outer plain_number ∷
-        outer (punctuation signs.CloseBracket) ∷ []) (placed_tokens bytes tokens.now) e) }
+        HaltsOn result bytes tokens.now (punctuation signs.OpenBracket ∷ number_range) }
 {
     let rest = expect_sign(SignKind::OpenBracket, tokens)?;
     let (range, rest) = read_open_range(rest)?;
@@ -109,17 +93,12 @@ fn read_range(tokens: &[Token]) -> Result<(KeyRange, &[Token]), Stop>
 }
 
 // A second range, if one comes.
-fn read_second_range(tokens: &[Token]) -> Result<(Option<KeyRange>, &[Token]), Stop>
+fn read_second_range(tokens: &[Token]) -> Read<'_, Option<KeyRange>>
     ensures is { (bytes : List ℕ) →
-        IfOk result (λ x. perhaps IsKeyRange (option_map range_tree x.0)
-        (placed_tokens bytes tokens.now) (placed_tokens bytes x.1.now)) }
-    ensures shorter { IfOk result (λ x. length x.1.now ≤ length tokens.now) }
-    ensures reads { (bytes : List ℕ) →
-        IfOk result (λ x. Reads (outer perhaps_key_range ∷ []) [] (placed_tokens bytes tokens.now)
-        (placed_tokens bytes x.1.now)) }
-    ensures halts { (bytes : List ℕ) →
-        IfErr result (λ e. HaltsAs (outer perhaps_key_range ∷ [])
-        (placed_tokens bytes tokens.now) e) }
+        Gives result bytes tokens.now (option_map range_tree) (perhaps IsKeyRange) }
+    ensures shorter { NoLonger result tokens.now }
+    ensures reads { (bytes : List ℕ) → Leads result bytes tokens.now (perhaps_key_range ∷ []) [] }
+    ensures halts { (bytes : List ℕ) → HaltsOn result bytes tokens.now (perhaps_key_range ∷ []) }
 {
     match behind(SignKind::OpenBracket, tokens) {
         Some(rest) => {
@@ -131,17 +110,13 @@ fn read_second_range(tokens: &[Token]) -> Result<(Option<KeyRange>, &[Token]), S
 }
 
 // A second key, if one comes.
-fn read_second_key(tokens: &[Token]) -> Result<(Option<(Lit, Place)>, &[Token]), Stop>
+fn read_second_key(tokens: &[Token]) -> Read<'_, Option<(Lit, Place)>>
     ensures is { (bytes : List ℕ) →
-        IfOk result (λ x. perhaps (λ k. a_sign signs.Comma ⨾ IsKey k) (option_map key_tree x.0)
-        (placed_tokens bytes tokens.now) (placed_tokens bytes x.1.now)) }
-    ensures shorter { IfOk result (λ x. length x.1.now ≤ length tokens.now) }
-    ensures reads { (bytes : List ℕ) →
-        IfOk result (λ x. Reads (outer perhaps_second_key ∷ []) [] (placed_tokens bytes tokens.now)
-        (placed_tokens bytes x.1.now)) }
-    ensures halts { (bytes : List ℕ) →
-        IfErr result (λ e. HaltsAs (outer perhaps_second_key ∷ [])
-        (placed_tokens bytes tokens.now) e) }
+        Gives result bytes tokens.now (option_map key_tree)
+        (perhaps (λ k. a_sign signs.Comma ⨾ IsKey k)) }
+    ensures shorter { NoLonger result tokens.now }
+    ensures reads { (bytes : List ℕ) → Leads result bytes tokens.now (perhaps_second_key ∷ []) [] }
+    ensures halts { (bytes : List ℕ) → HaltsOn result bytes tokens.now (perhaps_second_key ∷ []) }
 {
     match behind(SignKind::Comma, tokens) {
         Some(rest) => {
@@ -153,22 +128,12 @@ fn read_second_key(tokens: &[Token]) -> Result<(Option<(Lit, Place)>, &[Token]),
 }
 
 // A point behind a `:`, and the `;` behind it.
-fn read_to_point<'a>(
-    alloc: Global,
-    bytes: &[u8],
-    tokens: &'a [Token],
-) -> Result<(Name, &'a [Token]), Stop>
-    ensures is { IfOk result (λ x.
-        (a_sign signs.Colon ⨾ a_name x.0 ⨾ a_sign signs.Semicolon)
-        (placed_tokens bytes.now tokens.now) (placed_tokens bytes.now x.1.now)) }
-    ensures shorter { IfOk result (λ x. length x.1.now < length tokens.now) }
-    ensures reads { IfOk result (λ x.
-        Reads (outer (punctuation signs.Colon) ∷ outer plain_name ∷
-        outer (punctuation signs.Semicolon) ∷ []) [] (placed_tokens bytes.now tokens.now)
-        (placed_tokens bytes.now x.1.now)) }
-    ensures halts { IfErr result (λ e.
-        HaltsAs (outer (punctuation signs.Colon) ∷ outer plain_name ∷
-        outer (punctuation signs.Semicolon) ∷ []) (placed_tokens bytes.now tokens.now) e) }
+fn read_to_point<'a>(alloc: Global, bytes: &[u8], tokens: &'a [Token]) -> Read<'a, Name>
+    ensures is { GivesAs result bytes.now tokens.now (λ x.
+        a_sign signs.Colon ⨾ a_name x ⨾ a_sign signs.Semicolon) }
+    ensures shorter { Shortens result tokens.now }
+    ensures reads { Leads result bytes.now tokens.now to_point [] }
+    ensures halts { HaltsOn result bytes.now tokens.now to_point }
 {
     let rest = expect_sign(SignKind::Colon, tokens)?;
     let (point, _place, rest) = read_name(alloc, bytes, rest)?;
@@ -179,23 +144,13 @@ fn read_to_point<'a>(
 // A row: a key or two, with their places, and the point.
 type Row = (Lit, Place, Option<(Lit, Place)>, Name);
 
-fn read_row<'a>(
-    alloc: Global,
-    bytes: &[u8],
-    tokens: &'a [Token],
-) -> Result<(Row, &'a [Token]), Stop>
-    ensures is { IfOk result (λ x.
-        IsRow (row_tree x.0) (placed_tokens bytes.now tokens.now)
-        (placed_tokens bytes.now x.1.now)) }
-    ensures shorter { IfOk result (λ x. length x.1.now < length tokens.now) }
-    ensures reads { IfOk result (λ x.
-        Reads (outer plain_number ∷ outer perhaps_second_key ∷ outer (punctuation signs.Colon) ∷
-        outer plain_name ∷ outer (punctuation signs.Semicolon) ∷ []) []
-        (placed_tokens bytes.now tokens.now) (placed_tokens bytes.now x.1.now)) }
-    ensures halts { IfErr result (λ e.
-        HaltsAs (outer plain_number ∷ outer perhaps_second_key ∷ outer (punctuation signs.Colon) ∷
-        outer plain_name ∷ outer (punctuation signs.Semicolon) ∷ [])
-        (placed_tokens bytes.now tokens.now) e) }
+fn read_row<'a>(alloc: Global, bytes: &[u8], tokens: &'a [Token]) -> Read<'a, Row>
+    ensures is { Gives result bytes.now tokens.now row_tree IsRow }
+    ensures shorter { Shortens result tokens.now }
+    ensures reads { Leads result bytes.now tokens.now
+        (plain_number ∷ perhaps_second_key ∷ to_point) [] }
+    ensures halts { HaltsOn result bytes.now tokens.now
+        (plain_number ∷ perhaps_second_key ∷ to_point) }
 {
     let (first, place, rest) = read_number(tokens)?;
     let (second, rest) = read_second_key(rest)?;
@@ -221,20 +176,11 @@ fn ends_rows(tokens: &[Token]) -> bool
 }
 
 // The rows, and then `default` or the last word.
-fn read_rows<'a>(
-    alloc: Global,
-    bytes: &[u8],
-    tokens: &'a [Token],
-) -> Result<(Vec<Row>, &'a [Token]), Stop>
-    ensures is { IfOk result (λ x.
-        each IsRow (map row_tree x.0.items) (placed_tokens bytes.now tokens.now)
-        (placed_tokens bytes.now x.1.now)) }
-    ensures shorter { IfOk result (λ x. length x.1.now ≤ length tokens.now) }
-    ensures reads { IfOk result (λ x.
-        Reads (outer rows ∷ []) (outer rows ∷ []) (placed_tokens bytes.now tokens.now)
-        (placed_tokens bytes.now x.1.now)) }
-    ensures halts { IfErr result (λ e.
-        HaltsAs (outer rows ∷ []) (placed_tokens bytes.now tokens.now) e) }
+fn read_rows<'a>(alloc: Global, bytes: &[u8], tokens: &'a [Token]) -> Read<'a, Vec<Row>>
+    ensures is { GivesAll result bytes.now tokens.now row_tree (each IsRow) }
+    ensures shorter { NoLonger result tokens.now }
+    ensures reads { Leads result bytes.now tokens.now (rows ∷ []) (rows ∷ []) }
+    ensures halts { HaltsOn result bytes.now tokens.now (rows ∷ []) }
     ensures ends { IfOk result (λ x. EndsRows (placed_tokens bytes.now x.1.now)) }
 {
     let mut rows = Vec::new(alloc);
@@ -248,20 +194,15 @@ fn read_rows<'a>(
 }
 
 // The point of the other keys, if one comes.
-fn read_other<'a>(
-    alloc: Global,
-    bytes: &[u8],
-    tokens: &'a [Token],
-) -> Result<(Option<Name>, &'a [Token]), Stop>
-    ensures is { IfOk result (λ x.
-        perhaps (λ x. a_word words.Default ⨾ a_sign signs.Colon ⨾ a_name x ⨾ a_sign signs.Semicolon)
-        x.0 (placed_tokens bytes.now tokens.now) (placed_tokens bytes.now x.1.now)) }
-    ensures shorter { IfOk result (λ x. length x.1.now ≤ length tokens.now) }
+fn read_other<'a>(alloc: Global, bytes: &[u8], tokens: &'a [Token]) -> Read<'a, Option<Name>>
+    ensures is { GivesAs result bytes.now tokens.now
+        (perhaps (λ x. a_word words.Default ⨾ a_sign signs.Colon ⨾ a_name x
+        ⨾ a_sign signs.Semicolon)) }
+    ensures shorter { NoLonger result tokens.now }
     ensures reads { EndsRows (placed_tokens bytes.now tokens.now) →
-        IfOk result (λ x. Reads (outer rows ∷ []) (outer end_of_map ∷ [])
-        (placed_tokens bytes.now tokens.now) (placed_tokens bytes.now x.1.now)) }
+        Leads result bytes.now tokens.now (rows ∷ []) (end_of_map ∷ []) }
     ensures halts { EndsRows (placed_tokens bytes.now tokens.now) →
-        IfErr result (λ e. HaltsAs (outer rows ∷ []) (placed_tokens bytes.now tokens.now) e) }
+        HaltsOn result bytes.now tokens.now (rows ∷ []) }
 {
     match behind_word(WordKind::Default, tokens) {
         Some(rest) => {
@@ -273,21 +214,13 @@ fn read_other<'a>(
 }
 
 /// A label map.
-pub fn read_label_map<'a>(
-    alloc: Global,
-    bytes: &[u8],
-    tokens: &'a [Token],
-) -> Result<(MapText, &'a [Token]), Stop>
-    ensures is { IfOk result (λ x.
-        IsMap (map_tree x.0) (placed_tokens bytes.now tokens.now)
-        (placed_tokens bytes.now x.1.now)) }
-    ensures shorter { IfOk result (λ x. length x.1.now < length tokens.now) }
+pub fn read_label_map<'a>(alloc: Global, bytes: &[u8], tokens: &'a [Token]) -> Read<'a, MapText>
+    ensures is { Gives result bytes.now tokens.now map_tree IsMap }
+    ensures shorter { Shortens result tokens.now }
     ensures reads { IsNext WordKind.Labelmap (placed_tokens bytes.now tokens.now) →
-        IfOk result (λ x. Reads (outer perhaps_maps ∷ []) (outer perhaps_maps ∷ [])
-        (placed_tokens bytes.now tokens.now) (placed_tokens bytes.now x.1.now)) }
+        Leads result bytes.now tokens.now (perhaps_maps ∷ []) (perhaps_maps ∷ []) }
     ensures halts { IsNext WordKind.Labelmap (placed_tokens bytes.now tokens.now) →
-        IfErr result (λ e. HaltsAs (outer perhaps_maps ∷ [])
-        (placed_tokens bytes.now tokens.now) e) }
+        HaltsOn result bytes.now tokens.now (perhaps_maps ∷ []) }
 {
     let (_word, rest) = expect_word(WordKind::Labelmap, tokens)?;
     let (name, place, rest) = read_name(alloc, bytes, rest)?;

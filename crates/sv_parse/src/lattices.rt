@@ -1,5 +1,5 @@
 // Lattices (SecVerilog, ASPLOS 2015).
-ghost use Rattle.std.specs.Prelude.{◌<◌, ◌≤◌, ℕ, List, length, map, IfOk, IfErr, [], ◌∷◌};
+ghost use Rattle.std.specs.Prelude.{◌≤◌, ℕ, List, map, [], ◌∷◌};
 ghost use Rattle.sv_token.specs.Lexemes.{placed_tokens};
 ghost use Rattle.sv_token.specs.declared.signs.SignKind.TheVariants as signs;
 ghost use Rattle.sv_ast.specs.Tree.{PlacedName};
@@ -10,8 +10,8 @@ ghost use Rattle.sv_parse.specs.ReadingItems.{IsOneMore, AreLines};
 ghost use Rattle.sv_ast.specs.GrammarStatements.{IsNext};
 ghost use Rattle.sv_parse_machine.specs.Symbols.{outer, punctuation, plain_name, more_names};
 ghost use Rattle.sv_parse_machine.specs.Symbols.{perhaps_lattice, lattice_lines, less_equal};
-ghost use Rattle.sv_parse_machine.specs.Reads.{Reads, NextIsNotWord};
-ghost use Rattle.sv_parse_expr.specs.Expectations.{HaltsAs};
+ghost use Rattle.sv_parse_machine.specs.Reads.{NextIsNotWord};
+ghost use Rattle.sv_parse_expr.specs.Parses.{GivesAs, Gives, Shortens, Leads, HaltsOn};
 
 use std::alloc::Global;
 use sv_ast::LatticeText;
@@ -19,24 +19,15 @@ use sv_num::{BinOp, Name, Place};
 use sv_parse_expr::cursor::{behind_word, expect_sign, expect_word, read_name, unexpected};
 use sv_parse_expr::lists::{Listed, read_list};
 use sv_parse_expr::operators::operator_at;
-use sv_parse_expr::stop::Stop;
+use sv_parse_expr::stop::Read;
 use sv_token::{SignKind, Token, WordKind};
 
 // A name with its place.
-fn read_placed_name<'a>(
-    alloc: Global,
-    bytes: &[u8],
-    tokens: &'a [Token],
-) -> Result<((Name, Place), &'a [Token]), Stop>
-    ensures is { IfOk result (λ x.
-        IsPlacedName (placed_name x.0) (placed_tokens bytes.now tokens.now)
-        (placed_tokens bytes.now x.1.now)) }
-    ensures shorter { IfOk result (λ x. length x.1.now < length tokens.now) }
-    ensures reads { IfOk result (λ x.
-        Reads (outer plain_name ∷ []) [] (placed_tokens bytes.now tokens.now)
-        (placed_tokens bytes.now x.1.now)) }
-    ensures halts { IfErr result (λ e.
-        HaltsAs (outer plain_name ∷ []) (placed_tokens bytes.now tokens.now) e) }
+fn read_placed_name<'a>(alloc: Global, bytes: &[u8], tokens: &'a [Token]) -> Read<'a, (Name, Place)>
+    ensures is { Gives result bytes.now tokens.now placed_name IsPlacedName }
+    ensures shorter { Shortens result tokens.now }
+    ensures reads { Leads result bytes.now tokens.now (plain_name ∷ []) [] }
+    ensures halts { HaltsOn result bytes.now tokens.now (plain_name ∷ []) }
 {
     let (name, place, rest) = read_name(alloc, bytes, tokens)?;
     Ok(((name, place), rest))
@@ -69,7 +60,7 @@ impl Listed for Points {
         bytes: &[u8],
         _open: usize,
         tokens: &'a [Token],
-    ) -> Result<((Name, Place), &'a [Token]), Stop> {
+    ) -> Read<'a, (Name, Place)> {
         read_placed_name(alloc, bytes, tokens)
     }
 
@@ -79,7 +70,7 @@ impl Listed for Points {
         _open: usize,
         _before: &(Name, Place),
         tokens: &'a [Token],
-    ) -> Result<((Name, Place), &'a [Token]), Stop> {
+    ) -> Read<'a, (Name, Place)> {
         read_placed_name(alloc, bytes, tokens)
     }
 }
@@ -88,22 +79,13 @@ impl Listed for Points {
 type Pair = (Name, Place, Name, Place);
 
 // A pair, and its `;`.
-fn read_pair<'a>(
-    alloc: Global,
-    bytes: &[u8],
-    tokens: &'a [Token],
-) -> Result<(Pair, &'a [Token]), Stop>
-    ensures is { IfOk result (λ x.
-        IsLatticeLine (pair (pair_tree x.0)) (placed_tokens bytes.now tokens.now)
-        (placed_tokens bytes.now x.1.now)) }
-    ensures shorter { IfOk result (λ x. length x.1.now < length tokens.now) }
-    ensures reads { IfOk result (λ x.
-        Reads (outer plain_name ∷ outer less_equal ∷ outer plain_name ∷
-        outer (punctuation signs.Semicolon) ∷ []) [] (placed_tokens bytes.now tokens.now)
-        (placed_tokens bytes.now x.1.now)) }
-    ensures halts { IfErr result (λ e.
-        HaltsAs (outer plain_name ∷ outer less_equal ∷ outer plain_name ∷
-        outer (punctuation signs.Semicolon) ∷ []) (placed_tokens bytes.now tokens.now) e) }
+fn read_pair<'a>(alloc: Global, bytes: &[u8], tokens: &'a [Token]) -> Read<'a, Pair>
+    ensures is { GivesAs result bytes.now tokens.now (λ x. IsLatticeLine (pair (pair_tree x))) }
+    ensures shorter { Shortens result tokens.now }
+    ensures reads { Leads result bytes.now tokens.now
+        (plain_name ∷ less_equal ∷ plain_name ∷ punctuation signs.Semicolon ∷ []) [] }
+    ensures halts { HaltsOn result bytes.now tokens.now
+        (plain_name ∷ less_equal ∷ plain_name ∷ punctuation signs.Semicolon ∷ []) }
 {
     let (lower, place, rest) = read_name(alloc, bytes, tokens)?;
     let Some(rest) = operator_at(BinOp::Le, rest) else {
@@ -115,21 +97,14 @@ fn read_pair<'a>(
 }
 
 // The points of a line, behind `point`, and its `;`.
-fn read_points<'a>(
-    alloc: Global,
-    bytes: &[u8],
-    tokens: &'a [Token],
-) -> Result<(Vec<(Name, Place)>, &'a [Token]), Stop>
-    ensures is { IfOk result (λ x.
-        (commas IsPlacedName (map placed_name x.0.items) ⨾ a_sign signs.Semicolon)
-        (placed_tokens bytes.now tokens.now) (placed_tokens bytes.now x.1.now)) }
-    ensures shorter { IfOk result (λ x. length x.1.now < length tokens.now) }
-    ensures reads { IfOk result (λ x.
-        Reads (outer plain_name ∷ outer (more_names signs.Semicolon) ∷ []) []
-        (placed_tokens bytes.now tokens.now) (placed_tokens bytes.now x.1.now)) }
-    ensures halts { IfErr result (λ e.
-        HaltsAs (outer plain_name ∷ outer (more_names signs.Semicolon) ∷ [])
-        (placed_tokens bytes.now tokens.now) e) }
+fn read_points<'a>(alloc: Global, bytes: &[u8], tokens: &'a [Token]) -> Read<'a, Vec<(Name, Place)>>
+    ensures is { GivesAs result bytes.now tokens.now (λ x.
+        commas IsPlacedName (map placed_name x.items) ⨾ a_sign signs.Semicolon) }
+    ensures shorter { Shortens result tokens.now }
+    ensures reads { Leads result bytes.now tokens.now
+        (plain_name ∷ more_names signs.Semicolon ∷ []) [] }
+    ensures halts { HaltsOn result bytes.now tokens.now
+        (plain_name ∷ more_names signs.Semicolon ∷ []) }
 {
     let (points, rest) = read_list::<Points>(alloc, bytes, 0, tokens)?;
     let rest = expect_sign(SignKind::Semicolon, rest)?;
@@ -144,23 +119,15 @@ struct Lines {
 }
 
 // One more line.
-fn read_line<'a>(
-    alloc: Global,
-    bytes: &[u8],
-    lines: Lines,
-    tokens: &'a [Token],
-) -> Result<(Lines, &'a [Token]), Stop>
-    ensures is { IfOk result (λ x.
+fn read_line<'a>(alloc: Global, bytes: &[u8], lines: Lines, tokens: &'a [Token]) -> Read<'a, Lines>
+    ensures is { GivesAs result bytes.now tokens.now (λ x.
         IsOneMore (map placed_name lines.points.items) (map pair_tree lines.pairs.items)
-        (map placed_name x.0.points.items) (map pair_tree x.0.pairs.items)
-        (placed_tokens bytes.now tokens.now) (placed_tokens bytes.now x.1.now)) }
-    ensures shorter { IfOk result (λ x. length x.1.now < length tokens.now) }
+        (map placed_name x.points.items) (map pair_tree x.pairs.items)) }
+    ensures shorter { Shortens result tokens.now }
     ensures reads { NextIsNotWord WordKind.Endlattice (placed_tokens bytes.now tokens.now) →
-        IfOk result (λ x. Reads (outer lattice_lines ∷ []) (outer lattice_lines ∷ [])
-        (placed_tokens bytes.now tokens.now) (placed_tokens bytes.now x.1.now)) }
+        Leads result bytes.now tokens.now (lattice_lines ∷ []) (lattice_lines ∷ []) }
     ensures halts { NextIsNotWord WordKind.Endlattice (placed_tokens bytes.now tokens.now) →
-        IfErr result (λ e. HaltsAs (outer lattice_lines ∷ [])
-        (placed_tokens bytes.now tokens.now) e) }
+        HaltsOn result bytes.now tokens.now (lattice_lines ∷ []) }
 {
     let Lines {
         mut points,
@@ -181,20 +148,12 @@ fn read_line<'a>(
 }
 
 // The lines of a lattice, and its last word.
-fn read_lines<'a>(
-    alloc: Global,
-    bytes: &[u8],
-    tokens: &'a [Token],
-) -> Result<(Lines, &'a [Token]), Stop>
-    ensures is { IfOk result (λ x.
-        AreLines (map placed_name x.0.points.items) (map pair_tree x.0.pairs.items)
-        (placed_tokens bytes.now tokens.now) (placed_tokens bytes.now x.1.now)) }
-    ensures shorter { IfOk result (λ x. length x.1.now < length tokens.now) }
-    ensures reads { IfOk result (λ x.
-        Reads (outer lattice_lines ∷ []) [] (placed_tokens bytes.now tokens.now)
-        (placed_tokens bytes.now x.1.now)) }
-    ensures halts { IfErr result (λ e.
-        HaltsAs (outer lattice_lines ∷ []) (placed_tokens bytes.now tokens.now) e) }
+fn read_lines<'a>(alloc: Global, bytes: &[u8], tokens: &'a [Token]) -> Read<'a, Lines>
+    ensures is { GivesAs result bytes.now tokens.now (λ x.
+        AreLines (map placed_name x.points.items) (map pair_tree x.pairs.items)) }
+    ensures shorter { Shortens result tokens.now }
+    ensures reads { Leads result bytes.now tokens.now (lattice_lines ∷ []) [] }
+    ensures halts { HaltsOn result bytes.now tokens.now (lattice_lines ∷ []) }
 {
     let mut lines = Lines {
         points: Vec::new(alloc),
@@ -212,21 +171,13 @@ fn read_lines<'a>(
 }
 
 /// A lattice.
-pub fn read_lattice<'a>(
-    alloc: Global,
-    bytes: &[u8],
-    tokens: &'a [Token],
-) -> Result<(LatticeText, &'a [Token]), Stop>
-    ensures is { IfOk result (λ x.
-        IsLattice (lattice_tree x.0) (placed_tokens bytes.now tokens.now)
-        (placed_tokens bytes.now x.1.now)) }
-    ensures shorter { IfOk result (λ x. length x.1.now < length tokens.now) }
+pub fn read_lattice<'a>(alloc: Global, bytes: &[u8], tokens: &'a [Token]) -> Read<'a, LatticeText>
+    ensures is { Gives result bytes.now tokens.now lattice_tree IsLattice }
+    ensures shorter { Shortens result tokens.now }
     ensures reads { IsNext WordKind.Lattice (placed_tokens bytes.now tokens.now) →
-        IfOk result (λ x. Reads (outer perhaps_lattice ∷ []) [] (placed_tokens bytes.now tokens.now)
-        (placed_tokens bytes.now x.1.now)) }
+        Leads result bytes.now tokens.now (perhaps_lattice ∷ []) [] }
     ensures halts { IsNext WordKind.Lattice (placed_tokens bytes.now tokens.now) →
-        IfErr result (λ e. HaltsAs (outer perhaps_lattice ∷ [])
-        (placed_tokens bytes.now tokens.now) e) }
+        HaltsOn result bytes.now tokens.now (perhaps_lattice ∷ []) }
 {
     let (place, rest) = expect_word(WordKind::Lattice, tokens)?;
     let (Lines { points, pairs }, rest) = read_lines(alloc, bytes, rest)?;

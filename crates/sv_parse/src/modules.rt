@@ -1,5 +1,5 @@
 // Modules and whole texts (IEEE 1364-2005, clause 12).
-ghost use Rattle.std.specs.Prelude.{◌<◌, ◌≤◌, List, [], ◌∷◌, length, map, IfOk, IfErr};
+ghost use Rattle.std.specs.Prelude.{List, [], ◌∷◌, map, IfOk, IfErr};
 ghost use Rattle.std.specs.Option.{option_map};
 ghost use Rattle.sv_token.specs.Lexemes.{placed_tokens};
 ghost use Rattle.sv_token.specs.declared.signs.SignKind.TheVariants as signs;
@@ -13,9 +13,9 @@ ghost use Rattle.sv_parse_machine.specs.Symbols.{outer, one_module, perhaps_head
 ghost use Rattle.sv_parse_machine.specs.Symbols.{perhaps_ports, ports, items, perhaps_lattice};
 ghost use Rattle.sv_parse_machine.specs.Symbols.{perhaps_maps};
 ghost use Rattle.sv_parse_machine.specs.Machine.{text_state};
+ghost use Rattle.sv_parse_expr.specs.Parses.{GivesAs, Gives, GivesAll, Shortens, NoLonger, Leads};
+ghost use Rattle.sv_parse_expr.specs.Parses.{HaltsOn};
 ghost use Rattle.sv_parse.specs.ReadingTexts.{FailsAs};
-ghost use Rattle.sv_parse_machine.specs.Reads.{Reads};
-ghost use Rattle.sv_parse_expr.specs.Expectations.{HaltsAs};
 ghost use Rattle.sv_parse.specs.ReadingItems.{AreParameterList, AreOpenPorts, ArePortList};
 ghost use Rattle.sv_parse.specs.ReadingItems.{IsHeaderOf};
 
@@ -28,24 +28,15 @@ use std::alloc::Global;
 use sv_ast::{Decl, Item, LatticeText, MapText, Module, Param, Text};
 use sv_num::{Name, Place};
 use sv_parse_expr::cursor::{behind, behind_word, expect_sign, expect_word, read_name};
-use sv_parse_expr::stop::Stop;
+use sv_parse_expr::stop::{Read, Stop};
 use sv_token::{SignKind, Token, WordKind};
 
 // The parameters of a header, if it has a list of them.
-fn read_parameter_list<'a>(
-    alloc: Global,
-    bytes: &[u8],
-    tokens: &'a [Token],
-) -> Result<(Vec<Param>, &'a [Token]), Stop>
-    ensures is { IfOk result (λ x.
-        AreParameterList (map parameter_tree x.0.items) (placed_tokens bytes.now tokens.now)
-        (placed_tokens bytes.now x.1.now)) }
-    ensures shorter { IfOk result (λ x. length x.1.now ≤ length tokens.now) }
-    ensures reads { IfOk result (λ x.
-        Reads (outer perhaps_header_parameters ∷ []) [] (placed_tokens bytes.now tokens.now)
-        (placed_tokens bytes.now x.1.now)) }
-    ensures halts { IfErr result (λ e.
-        HaltsAs (outer perhaps_header_parameters ∷ []) (placed_tokens bytes.now tokens.now) e) }
+fn read_parameter_list<'a>(alloc: Global, bytes: &[u8], tokens: &'a [Token]) -> Read<'a, Vec<Param>>
+    ensures is { GivesAll result bytes.now tokens.now parameter_tree AreParameterList }
+    ensures shorter { NoLonger result tokens.now }
+    ensures reads { Leads result bytes.now tokens.now (perhaps_header_parameters ∷ []) [] }
+    ensures halts { HaltsOn result bytes.now tokens.now (perhaps_header_parameters ∷ []) }
 {
     match behind(SignKind::Hash, tokens) {
         Some(rest) => {
@@ -59,20 +50,12 @@ fn read_parameter_list<'a>(
 }
 
 // The ports of a header, behind its `(`, and the `)`.
-fn read_open_ports<'a>(
-    alloc: Global,
-    bytes: &[u8],
-    tokens: &'a [Token],
-) -> Result<(Vec<Decl>, &'a [Token]), Stop>
-    ensures is { IfOk result (λ x.
-        (AreOpenPorts (map declaration_tree x.0.items) ⨾ a_sign signs.CloseParenthesis)
-        (placed_tokens bytes.now tokens.now) (placed_tokens bytes.now x.1.now)) }
-    ensures shorter { IfOk result (λ x. length x.1.now < length tokens.now) }
-    ensures reads { IfOk result (λ x.
-        Reads (outer ports ∷ []) [] (placed_tokens bytes.now tokens.now)
-        (placed_tokens bytes.now x.1.now)) }
-    ensures halts { IfErr result (λ e.
-        HaltsAs (outer ports ∷ []) (placed_tokens bytes.now tokens.now) e) }
+fn read_open_ports<'a>(alloc: Global, bytes: &[u8], tokens: &'a [Token]) -> Read<'a, Vec<Decl>>
+    ensures is { GivesAs result bytes.now tokens.now (λ x.
+        AreOpenPorts (map declaration_tree x.items) ⨾ a_sign signs.CloseParenthesis) }
+    ensures shorter { Shortens result tokens.now }
+    ensures reads { Leads result bytes.now tokens.now (ports ∷ []) [] }
+    ensures halts { HaltsOn result bytes.now tokens.now (ports ∷ []) }
 {
     if let Some(rest) = behind(SignKind::CloseParenthesis, tokens) {
         return Ok((Vec::new(alloc), rest));
@@ -83,20 +66,11 @@ fn read_open_ports<'a>(
 }
 
 // The ports of a header, if it has a list of them.
-fn read_port_list<'a>(
-    alloc: Global,
-    bytes: &[u8],
-    tokens: &'a [Token],
-) -> Result<(Vec<Decl>, &'a [Token]), Stop>
-    ensures is { IfOk result (λ x.
-        ArePortList (map declaration_tree x.0.items) (placed_tokens bytes.now tokens.now)
-        (placed_tokens bytes.now x.1.now)) }
-    ensures shorter { IfOk result (λ x. length x.1.now ≤ length tokens.now) }
-    ensures reads { IfOk result (λ x.
-        Reads (outer perhaps_ports ∷ []) [] (placed_tokens bytes.now tokens.now)
-        (placed_tokens bytes.now x.1.now)) }
-    ensures halts { IfErr result (λ e.
-        HaltsAs (outer perhaps_ports ∷ []) (placed_tokens bytes.now tokens.now) e) }
+fn read_port_list<'a>(alloc: Global, bytes: &[u8], tokens: &'a [Token]) -> Read<'a, Vec<Decl>>
+    ensures is { GivesAll result bytes.now tokens.now declaration_tree ArePortList }
+    ensures shorter { NoLonger result tokens.now }
+    ensures reads { Leads result bytes.now tokens.now (perhaps_ports ∷ []) [] }
+    ensures halts { HaltsOn result bytes.now tokens.now (perhaps_ports ∷ []) }
 {
     match behind(SignKind::OpenParenthesis, tokens) {
         Some(rest) => {
@@ -116,21 +90,13 @@ struct Header {
     ports: Vec<Decl>,
 }
 
-fn read_header<'a>(
-    alloc: Global,
-    bytes: &[u8],
-    tokens: &'a [Token],
-) -> Result<(Header, &'a [Token]), Stop>
-    ensures is { IfOk result (λ x.
-        IsHeaderOf x.0.name x.0.place (map parameter_tree x.0.params.items)
-        (map declaration_tree x.0.ports.items) (placed_tokens bytes.now tokens.now)
-        (placed_tokens bytes.now x.1.now)) }
-    ensures shorter { IfOk result (λ x. length x.1.now < length tokens.now) }
-    ensures reads { IfOk result (λ x.
-        Reads (outer one_module ∷ []) (outer items ∷ []) (placed_tokens bytes.now tokens.now)
-        (placed_tokens bytes.now x.1.now)) }
-    ensures halts { IfErr result (λ e.
-        HaltsAs (outer one_module ∷ []) (placed_tokens bytes.now tokens.now) e) }
+fn read_header<'a>(alloc: Global, bytes: &[u8], tokens: &'a [Token]) -> Read<'a, Header>
+    ensures is { GivesAs result bytes.now tokens.now (λ x.
+        IsHeaderOf x.name x.place (map parameter_tree x.params.items)
+        (map declaration_tree x.ports.items)) }
+    ensures shorter { Shortens result tokens.now }
+    ensures reads { Leads result bytes.now tokens.now (one_module ∷ []) (items ∷ []) }
+    ensures halts { HaltsOn result bytes.now tokens.now (one_module ∷ []) }
 {
     let (_word, rest) = expect_word(WordKind::Module, tokens)?;
     let (name, place, rest) = read_name(alloc, bytes, rest)?;
@@ -147,20 +113,12 @@ fn read_header<'a>(
 }
 
 // The items of a module, and its last word.
-fn read_items<'a>(
-    alloc: Global,
-    bytes: &[u8],
-    tokens: &'a [Token],
-) -> Result<(Vec<Item>, &'a [Token]), Stop>
-    ensures is { IfOk result (λ x.
-        (AreItems all_limits (map item_tree x.0.items) ⨾ a_word words.Endmodule)
-        (placed_tokens bytes.now tokens.now) (placed_tokens bytes.now x.1.now)) }
-    ensures shorter { IfOk result (λ x. length x.1.now < length tokens.now) }
-    ensures reads { IfOk result (λ x.
-        Reads (outer items ∷ []) [] (placed_tokens bytes.now tokens.now)
-        (placed_tokens bytes.now x.1.now)) }
-    ensures halts { IfErr result (λ e.
-        HaltsAs (outer items ∷ []) (placed_tokens bytes.now tokens.now) e) }
+fn read_items<'a>(alloc: Global, bytes: &[u8], tokens: &'a [Token]) -> Read<'a, Vec<Item>>
+    ensures is { GivesAs result bytes.now tokens.now (λ x.
+        AreItems all_limits (map item_tree x.items) ⨾ a_word words.Endmodule) }
+    ensures shorter { Shortens result tokens.now }
+    ensures reads { Leads result bytes.now tokens.now (items ∷ []) [] }
+    ensures halts { HaltsOn result bytes.now tokens.now (items ∷ []) }
 {
     let mut items = Vec::new(alloc);
     let mut rest = tokens;
@@ -175,20 +133,11 @@ fn read_items<'a>(
 }
 
 // A module.
-fn read_module<'a>(
-    alloc: Global,
-    bytes: &[u8],
-    tokens: &'a [Token],
-) -> Result<(Module, &'a [Token]), Stop>
-    ensures is { IfOk result (λ x.
-        IsModule all_limits (module_tree x.0) (placed_tokens bytes.now tokens.now)
-        (placed_tokens bytes.now x.1.now)) }
-    ensures shorter { IfOk result (λ x. length x.1.now < length tokens.now) }
-    ensures reads { IfOk result (λ x.
-        Reads (outer one_module ∷ []) [] (placed_tokens bytes.now tokens.now)
-        (placed_tokens bytes.now x.1.now)) }
-    ensures halts { IfErr result (λ e.
-        HaltsAs (outer one_module ∷ []) (placed_tokens bytes.now tokens.now) e) }
+fn read_module<'a>(alloc: Global, bytes: &[u8], tokens: &'a [Token]) -> Read<'a, Module>
+    ensures is { Gives result bytes.now tokens.now module_tree (IsModule all_limits) }
+    ensures shorter { Shortens result tokens.now }
+    ensures reads { Leads result bytes.now tokens.now (one_module ∷ []) [] }
+    ensures halts { HaltsOn result bytes.now tokens.now (one_module ∷ []) }
 {
     let (header, rest) = read_header(alloc, bytes, tokens)?;
     let (items, rest) = read_items(alloc, bytes, rest)?;
@@ -232,16 +181,11 @@ fn read_first_lattice<'a>(
     alloc: Global,
     bytes: &[u8],
     tokens: &'a [Token],
-) -> Result<(Option<LatticeText>, &'a [Token]), Stop>
-    ensures is { IfOk result (λ x.
-        perhaps IsLattice (option_map lattice_tree x.0) (placed_tokens bytes.now tokens.now)
-        (placed_tokens bytes.now x.1.now)) }
-    ensures shorter { IfOk result (λ x. length x.1.now ≤ length tokens.now) }
-    ensures reads { IfOk result (λ x.
-        Reads (outer perhaps_lattice ∷ []) [] (placed_tokens bytes.now tokens.now)
-        (placed_tokens bytes.now x.1.now)) }
-    ensures halts { IfErr result (λ e.
-        HaltsAs (outer perhaps_lattice ∷ []) (placed_tokens bytes.now tokens.now) e) }
+) -> Read<'a, Option<LatticeText>>
+    ensures is { Gives result bytes.now tokens.now (option_map lattice_tree) (perhaps IsLattice) }
+    ensures shorter { NoLonger result tokens.now }
+    ensures reads { Leads result bytes.now tokens.now (perhaps_lattice ∷ []) [] }
+    ensures halts { HaltsOn result bytes.now tokens.now (perhaps_lattice ∷ []) }
 {
     match behind_word(WordKind::Lattice, tokens) {
         Some(_) => {
@@ -253,20 +197,11 @@ fn read_first_lattice<'a>(
 }
 
 // The label maps.
-fn read_maps<'a>(
-    alloc: Global,
-    bytes: &[u8],
-    tokens: &'a [Token],
-) -> Result<(Vec<MapText>, &'a [Token]), Stop>
-    ensures is { IfOk result (λ x.
-        each IsMap (map map_tree x.0.items) (placed_tokens bytes.now tokens.now)
-        (placed_tokens bytes.now x.1.now)) }
-    ensures shorter { IfOk result (λ x. length x.1.now ≤ length tokens.now) }
-    ensures reads { IfOk result (λ x.
-        Reads (outer perhaps_maps ∷ []) [] (placed_tokens bytes.now tokens.now)
-        (placed_tokens bytes.now x.1.now)) }
-    ensures halts { IfErr result (λ e.
-        HaltsAs (outer perhaps_maps ∷ []) (placed_tokens bytes.now tokens.now) e) }
+fn read_maps<'a>(alloc: Global, bytes: &[u8], tokens: &'a [Token]) -> Read<'a, Vec<MapText>>
+    ensures is { GivesAll result bytes.now tokens.now map_tree (each IsMap) }
+    ensures shorter { NoLonger result tokens.now }
+    ensures reads { Leads result bytes.now tokens.now (perhaps_maps ∷ []) [] }
+    ensures halts { HaltsOn result bytes.now tokens.now (perhaps_maps ∷ []) }
 {
     let mut maps = Vec::new(alloc);
     let mut rest = tokens;

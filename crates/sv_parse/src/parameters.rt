@@ -1,9 +1,7 @@
 // Parameters (IEEE 1364-2005, clause 12.2).
-ghost use Rattle.std.specs.Prelude.{◌≡◌, ◌<◌, ◌≤◌, ℕ, List, length, map, IfOk, IfErr, [], ◌∷◌};
-ghost use Rattle.std.specs.Prelude.{◌++◌, ◌⊎◌};
+ghost use Rattle.std.specs.Prelude.{◌≡◌, ◌<◌, ◌≤◌, ℕ, List, length, map, IfOk, [], ◌∷◌, ◌++◌};
 ghost use Rattle.std.specs.Option.{option_map};
 ghost use Rattle.sv_token.specs.Lexemes.{placed_tokens};
-ghost use Rattle.sv_token.specs.declared.keywords.WordKind.TheVariants as words;
 ghost use Rattle.sv_token.specs.declared.signs.SignKind.TheVariants as signs;
 ghost use Rattle.sv_ast.specs.Tree as tree;
 ghost use Rattle.sv_ast.specs.Tree.{ParameterTree};
@@ -15,14 +13,14 @@ ghost use Rattle.sv_ast.specs.GrammarDeclarations.{AreHeaderParameters, paramete
 ghost use Rattle.sv_ast.specs.GrammarModules.{all_as};
 ghost use Rattle.sv_ast.specs.GrammarRules.{all_limits};
 ghost use Rattle.sv_parse.specs.Reading.{IsParameterAs, IsTypedParameter};
-ghost use Rattle.sv_ast.specs.GrammarStatements.{IsNext};
 ghost use Rattle.sv_parse_machine.specs.Symbols.{outer, punctuation, parameter_type, items};
 ghost use Rattle.sv_parse_machine.specs.Symbols.{more_parameters, header_parameter};
 ghost use Rattle.sv_parse_machine.specs.Symbols.{later_header_parameter, more_header_parameters};
 ghost use Rattle.sv_parse_machine.specs.Machine.{outside_on};
-ghost use Rattle.sv_parse_machine.specs.Reads.{Reads};
-ghost use Rattle.sv_parse_expr.specs.Expectations.{HaltsAs};
+ghost use Rattle.sv_parse_expr.specs.Parses.{Stands, Comes, Gives, GivesAll, Shortens, Leads};
+ghost use Rattle.sv_parse_expr.specs.Parses.{HaltsOn};
 ghost use Rattle.sv_parse.specs.ReadingDeclarations.{named_value, typed_value};
+ghost use Rattle.sv_parse.specs.ReadingTexts.{BeginsParameters};
 
 use crate::types::{read_open_span, span_copy};
 use std::alloc::{AllocError, Global};
@@ -31,7 +29,7 @@ use sv_num::{Name, Place};
 use sv_parse_expr::cursor::{behind, behind_word, expect_sign, expect_word, read_name, unexpected};
 use sv_parse_expr::expressions::read_expression;
 use sv_parse_expr::lists::{Listed, read_list};
-use sv_parse_expr::stop::Stop;
+use sv_parse_expr::stop::{Read, Stop};
 use sv_token::{SignKind, Token, WordKind};
 
 // The signedness and the range of a parameter; without a range it is unsigned.
@@ -41,14 +39,11 @@ fn read_param_type<'a>(
     tokens: &'a [Token],
 ) -> Result<(bool, Option<Span>, &'a [Token]), Stop>
     ensures is { IfOk result (λ x.
-        IsParameterType all_limits x.0 (option_map span_tree x.1)
-        (placed_tokens bytes.now tokens.now) (placed_tokens bytes.now x.2.now)) }
+        Stands (IsParameterType all_limits x.0 (option_map span_tree x.1))
+        bytes.now tokens.now x.2.now) }
     ensures shorter { IfOk result (λ x. length x.2.now ≤ length tokens.now) }
-    ensures reads { IfOk result (λ x.
-        Reads (outer parameter_type ∷ []) [] (placed_tokens bytes.now tokens.now)
-        (placed_tokens bytes.now x.2.now)) }
-    ensures halts { IfErr result (λ e.
-        HaltsAs (outer parameter_type ∷ []) (placed_tokens bytes.now tokens.now) e) }
+    ensures reads { IfOk result (λ x. Comes (parameter_type ∷ []) [] bytes.now tokens.now x.2.now) }
+    ensures halts { HaltsOn result bytes.now tokens.now (parameter_type ∷ []) }
 {
     if let Some(rest) = behind_word(WordKind::Signed, tokens) {
         let rest = expect_sign(SignKind::OpenBracket, rest)?;
@@ -69,14 +64,11 @@ fn read_param_value<'a>(
     tokens: &'a [Token],
 ) -> Result<(Name, Place, Expr, &'a [Token]), Stop>
     ensures is { IfOk result (λ x.
-        (name_at x.0 x.1 ⨾ a_sign signs.Equals ⨾ IsValue all_limits (expression_tree x.2))
-        (placed_tokens bytes.now tokens.now) (placed_tokens bytes.now x.3.now)) }
+        Stands (name_at x.0 x.1 ⨾ a_sign signs.Equals ⨾ IsValue all_limits (expression_tree x.2))
+        bytes.now tokens.now x.3.now) }
     ensures shorter { IfOk result (λ x. length x.3.now < length tokens.now) }
-    ensures reads { IfOk result (λ x.
-        Reads (outside_on named_value) [] (placed_tokens bytes.now tokens.now)
-        (placed_tokens bytes.now x.3.now)) }
-    ensures halts { IfErr result (λ e.
-        HaltsAs (outside_on named_value) (placed_tokens bytes.now tokens.now) e) }
+    ensures reads { IfOk result (λ x. Comes named_value [] bytes.now tokens.now x.3.now) }
+    ensures halts { HaltsOn result bytes.now tokens.now named_value }
 {
     let (name, place, rest) = read_name(alloc, bytes, tokens)?;
     let rest = expect_sign(SignKind::Equals, rest)?;
@@ -92,16 +84,12 @@ fn read_named_param<'a>(
     signed: bool,
     span: Option<Span>,
     tokens: &'a [Token],
-) -> Result<(Param, &'a [Token]), Stop>
-    ensures is { IfOk result (λ x.
-        IsParameterAs local signed (option_map span_tree span) (parameter_tree x.0)
-        (placed_tokens bytes.now tokens.now) (placed_tokens bytes.now x.1.now)) }
-    ensures shorter { IfOk result (λ x. length x.1.now < length tokens.now) }
-    ensures reads { IfOk result (λ x.
-        Reads (outside_on named_value) [] (placed_tokens bytes.now tokens.now)
-        (placed_tokens bytes.now x.1.now)) }
-    ensures halts { IfErr result (λ e.
-        HaltsAs (outside_on named_value) (placed_tokens bytes.now tokens.now) e) }
+) -> Read<'a, Param>
+    ensures is { Gives result bytes.now tokens.now parameter_tree
+        (IsParameterAs local signed (option_map span_tree span)) }
+    ensures shorter { Shortens result tokens.now }
+    ensures reads { Leads result bytes.now tokens.now named_value [] }
+    ensures halts { HaltsOn result bytes.now tokens.now named_value }
 {
     let (name, place, value, rest) = read_param_value(alloc, bytes, tokens)?;
     let param = Param {
@@ -121,16 +109,11 @@ fn read_typed_param<'a>(
     bytes: &[u8],
     local: bool,
     tokens: &'a [Token],
-) -> Result<(Param, &'a [Token]), Stop>
-    ensures is { IfOk result (λ x.
-        IsTypedParameter local (parameter_tree x.0) (placed_tokens bytes.now tokens.now)
-        (placed_tokens bytes.now x.1.now)) }
-    ensures shorter { IfOk result (λ x. length x.1.now < length tokens.now) }
-    ensures reads { IfOk result (λ x.
-        Reads (outside_on typed_value) [] (placed_tokens bytes.now tokens.now)
-        (placed_tokens bytes.now x.1.now)) }
-    ensures halts { IfErr result (λ e.
-        HaltsAs (outside_on typed_value) (placed_tokens bytes.now tokens.now) e) }
+) -> Read<'a, Param>
+    ensures is { Gives result bytes.now tokens.now parameter_tree (IsTypedParameter local) }
+    ensures shorter { Shortens result tokens.now }
+    ensures reads { Leads result bytes.now tokens.now typed_value [] }
+    ensures halts { HaltsOn result bytes.now tokens.now typed_value }
 {
     let (signed, span, rest) = read_param_type(alloc, bytes, tokens)?;
     let (param, rest) = read_named_param(alloc, bytes, local, signed, span, rest)?;
@@ -143,16 +126,12 @@ fn read_param_alike<'a>(
     bytes: &[u8],
     before: &Param,
     tokens: &'a [Token],
-) -> Result<(Param, &'a [Token]), Stop>
-    ensures is { IfOk result (λ x.
-        IsLaterParameter all_limits (parameter_tree before.now) (parameter_tree x.0)
-        (placed_tokens bytes.now tokens.now) (placed_tokens bytes.now x.1.now)) }
-    ensures shorter { IfOk result (λ x. length x.1.now < length tokens.now) }
-    ensures reads { IfOk result (λ x.
-        Reads (outside_on named_value) [] (placed_tokens bytes.now tokens.now)
-        (placed_tokens bytes.now x.1.now)) }
-    ensures halts { IfErr result (λ e.
-        HaltsAs (outside_on named_value) (placed_tokens bytes.now tokens.now) e) }
+) -> Read<'a, Param>
+    ensures is { Gives result bytes.now tokens.now parameter_tree
+        (IsLaterParameter all_limits (parameter_tree before.now)) }
+    ensures shorter { Shortens result tokens.now }
+    ensures reads { Leads result bytes.now tokens.now named_value [] }
+    ensures halts { HaltsOn result bytes.now tokens.now named_value }
 {
     let span = span_copy(alloc, &before.span)?;
     let (local, signed) = (before.local, before.signed);
@@ -161,21 +140,13 @@ fn read_param_alike<'a>(
 }
 
 // Whether the word that comes is `localparam`, not `parameter`.
-fn is_local(tokens: &[Token]) -> Result<(bool, &[Token]), Stop>
-    ensures is { (bytes : List ℕ) →
-        IfOk result (λ x. a_word (parameter_word x.0) (placed_tokens bytes tokens.now)
-        (placed_tokens bytes x.1.now)) }
-    ensures shorter { IfOk result (λ x. length x.1.now < length tokens.now) }
-    ensures reads { (bytes : List ℕ) →
-        (IsNext words.Parameter (placed_tokens bytes tokens.now)
-        ⊎ IsNext words.Localparam (placed_tokens bytes tokens.now)) →
-        IfOk result (λ x. Reads (outer items ∷ [])
-        (outside_on (typed_value ++ more_parameters ∷ items ∷ [])) (placed_tokens bytes tokens.now)
-        (placed_tokens bytes x.1.now)) }
-    ensures halts { (bytes : List ℕ) →
-        (IsNext words.Parameter (placed_tokens bytes tokens.now)
-        ⊎ IsNext words.Localparam (placed_tokens bytes tokens.now)) →
-        IfErr result (λ e. HaltsAs (outer items ∷ []) (placed_tokens bytes tokens.now) e) }
+fn is_local(tokens: &[Token]) -> Read<'_, bool>
+    ensures is { (bytes : List ℕ) → Gives result bytes tokens.now parameter_word a_word }
+    ensures shorter { Shortens result tokens.now }
+    ensures reads { (bytes : List ℕ) → BeginsParameters (placed_tokens bytes tokens.now) →
+        Leads result bytes tokens.now (items ∷ []) (typed_value ++ more_parameters ∷ items ∷ []) }
+    ensures halts { (bytes : List ℕ) → BeginsParameters (placed_tokens bytes tokens.now) →
+        HaltsOn result bytes tokens.now (items ∷ []) }
 {
     if let Some(rest) = behind_word(WordKind::Parameter, tokens) {
         return Ok((false, rest));
@@ -200,7 +171,7 @@ impl Listed for Params {
 
     ghost Later = { λ n before. IsLaterParameter all_limits before };
 
-    ghost Begins = { λ ts. IsNext words.Parameter ts ⊎ IsNext words.Localparam ts };
+    ghost Begins = { BeginsParameters };
 
     ghost start = { λ n. outer items ∷ [] };
 
@@ -213,7 +184,7 @@ impl Listed for Params {
         bytes: &[u8],
         _open: usize,
         tokens: &'a [Token],
-    ) -> Result<(Param, &'a [Token]), Stop> {
+    ) -> Read<'a, Param> {
         let (local, rest) = is_local(tokens)?;
         let (param, rest) = read_typed_param(alloc, bytes, local, rest)?;
         Ok((param, rest))
@@ -225,7 +196,7 @@ impl Listed for Params {
         _open: usize,
         before: &Param,
         tokens: &'a [Token],
-    ) -> Result<(Param, &'a [Token]), Stop> {
+    ) -> Read<'a, Param> {
         read_param_alike(alloc, bytes, before, tokens)
     }
 }
@@ -258,7 +229,7 @@ impl Listed for HeaderParams {
         bytes: &[u8],
         _open: usize,
         tokens: &'a [Token],
-    ) -> Result<(Param, &'a [Token]), Stop> {
+    ) -> Read<'a, Param> {
         let (_place, rest) = expect_word(WordKind::Parameter, tokens)?;
         let (param, rest) = read_typed_param(alloc, bytes, false, rest)?;
         Ok((param, rest))
@@ -270,7 +241,7 @@ impl Listed for HeaderParams {
         _open: usize,
         before: &Param,
         tokens: &'a [Token],
-    ) -> Result<(Param, &'a [Token]), Stop> {
+    ) -> Read<'a, Param> {
         if let Some(rest) = behind_word(WordKind::Parameter, tokens) {
             let (param, rest) = read_typed_param(alloc, bytes, false, rest)?;
             return Ok((param, rest));
@@ -285,18 +256,14 @@ pub fn read_header_params<'a>(
     alloc: Global,
     bytes: &[u8],
     tokens: &'a [Token],
-) -> Result<(Vec<Param>, &'a [Token]), Stop>
-    ensures is { IfOk result (λ x.
-        AreHeaderParameters all_limits (map parameter_tree x.0.items)
-        (placed_tokens bytes.now tokens.now) (placed_tokens bytes.now x.1.now)) }
-    ensures shorter { IfOk result (λ x. length x.1.now < length tokens.now) }
-    ensures reads { IfOk result (λ x.
-        Reads (outer header_parameter ∷ outer more_header_parameters ∷ [])
-        (outer (punctuation signs.CloseParenthesis) ∷ []) (placed_tokens bytes.now tokens.now)
-        (placed_tokens bytes.now x.1.now)) }
-    ensures halts { IfErr result (λ e.
-        HaltsAs (outer header_parameter ∷ outer more_header_parameters ∷ [])
-        (placed_tokens bytes.now tokens.now) e) }
+) -> Read<'a, Vec<Param>>
+    ensures is { GivesAll result bytes.now tokens.now parameter_tree
+        (AreHeaderParameters all_limits) }
+    ensures shorter { Shortens result tokens.now }
+    ensures reads { Leads result bytes.now tokens.now
+        (header_parameter ∷ more_header_parameters ∷ []) (punctuation signs.CloseParenthesis ∷ []) }
+    ensures halts { HaltsOn result bytes.now tokens.now
+        (header_parameter ∷ more_header_parameters ∷ []) }
 {
     let (params, rest) = read_list::<HeaderParams>(alloc, bytes, 0, tokens)?;
     Ok((params, rest))
@@ -311,23 +278,14 @@ fn declared(alloc: Global, params: Vec<Param>) -> Result<Vec<Item>, AllocError>
 }
 
 /// The parameters of an item that begins with `parameter` or `localparam`.
-pub fn read_params<'a>(
-    alloc: Global,
-    bytes: &[u8],
-    tokens: &'a [Token],
-) -> Result<(Vec<Item>, &'a [Token]), Stop>
-    ensures is { IfOk result (λ x.
-        all_as tree.parameter_item (AreParameters all_limits) (map item_tree x.0.items)
-        (placed_tokens bytes.now tokens.now) (placed_tokens bytes.now x.1.now)) }
-    ensures shorter { IfOk result (λ x. length x.1.now < length tokens.now) }
-    ensures reads { (IsNext words.Parameter (placed_tokens bytes.now tokens.now)
-        ⊎ IsNext words.Localparam (placed_tokens bytes.now tokens.now)) →
-        IfOk result (λ x. Reads (outer items ∷ [])
-        (outer (punctuation signs.Semicolon) ∷ outer items ∷ [])
-        (placed_tokens bytes.now tokens.now) (placed_tokens bytes.now x.1.now)) }
-    ensures halts { (IsNext words.Parameter (placed_tokens bytes.now tokens.now)
-        ⊎ IsNext words.Localparam (placed_tokens bytes.now tokens.now)) →
-        IfErr result (λ e. HaltsAs (outer items ∷ []) (placed_tokens bytes.now tokens.now) e) }
+pub fn read_params<'a>(alloc: Global, bytes: &[u8], tokens: &'a [Token]) -> Read<'a, Vec<Item>>
+    ensures is { GivesAll result bytes.now tokens.now item_tree
+        (all_as tree.parameter_item (AreParameters all_limits)) }
+    ensures shorter { Shortens result tokens.now }
+    ensures reads { BeginsParameters (placed_tokens bytes.now tokens.now) →
+        Leads result bytes.now tokens.now (items ∷ []) (punctuation signs.Semicolon ∷ items ∷ []) }
+    ensures halts { BeginsParameters (placed_tokens bytes.now tokens.now) →
+        HaltsOn result bytes.now tokens.now (items ∷ []) }
 {
     let (params, rest) = read_list::<Params>(alloc, bytes, 0, tokens)?;
     let items = declared(alloc, params)?;

@@ -1,7 +1,6 @@
 // Registers and memories (IEEE 1364-2005, clause 4; the forms of memories are this project's
 // profile).
-ghost use Rattle.std.specs.Prelude.{◌≡◌, ◌<◌, ◌≤◌, ℕ, List, length, map, true, false, IfOk, IfErr};
-ghost use Rattle.std.specs.Prelude.{[], ◌∷◌};
+ghost use Rattle.std.specs.Prelude.{◌≡◌, ℕ, List, map, true, false, IfOk, [], ◌∷◌};
 ghost use Rattle.std.specs.Option.{option_map};
 ghost use Rattle.sv_token.specs.Lexemes.{placed_tokens, literal_of};
 ghost use Rattle.sv_token.specs.declared.signs.SignKind.TheVariants as signs;
@@ -16,11 +15,13 @@ ghost use Rattle.sv_ast.specs.GrammarDeclarations.{IsRange, AreSignals, IsMemory
 ghost use Rattle.sv_ast.specs.GrammarModules.{all_as};
 ghost use Rattle.sv_ast.specs.GrammarRules.{all_limits};
 ghost use Rattle.sv_parse_machine.specs.Symbols.{outer, punctuation, plain_name, perhaps_signed};
-ghost use Rattle.sv_parse_machine.specs.Symbols.{perhaps_range, reg_label, reg_label_end, label_selector};
+ghost use Rattle.sv_parse_machine.specs.Symbols.{perhaps_range, reg_label, reg_label_end};
+ghost use Rattle.sv_parse_machine.specs.Symbols.{label_selector};
 ghost use Rattle.sv_parse_machine.specs.Symbols.{more_names, items};
 ghost use Rattle.sv_parse_machine.specs.Machine.{outside_on};
 ghost use Rattle.sv_parse_machine.specs.Reads.{Reads};
-ghost use Rattle.sv_parse_expr.specs.Expectations.{HaltsAs};
+ghost use Rattle.sv_parse_expr.specs.Parses.{Comes, GivesAs, Gives, Shortens, NoLonger, Leads};
+ghost use Rattle.sv_parse_expr.specs.Parses.{HaltsOn};
 ghost use Rattle.sv_parse.specs.ReadingDeclarations.{memory_bounds, memory_end, behind_name};
 ghost use Rattle.sv_parse.specs.ReadingItems.{IsRegLabelEnd, IsOpenRegLabel, IsRegLabel};
 ghost use Rattle.sv_parse.specs.ReadingItems.{MayBeMemory, MayBeSignal, memory_label_of};
@@ -33,7 +34,7 @@ use sv_ast::{Decl, DeclKind, Item, LabelText, MemLabel, Memory, Span};
 use sv_num::{Name, Place};
 use sv_parse_expr::cursor::{behind, expect_sign, expect_word, read_name, read_number};
 use sv_parse_expr::lists::{one, read_list_from};
-use sv_parse_expr::stop::Stop;
+use sv_parse_expr::stop::Read;
 use sv_token::{Lit, SignKind, Token, WordKind};
 
 // The label behind `reg` and its range: that of a register or of a memory, or of a memory alone.
@@ -52,16 +53,12 @@ fn read_selected_label<'a>(
     map: Name,
     place: Place,
     tokens: &'a [Token],
-) -> Result<(RegLabel, &'a [Token]), Stop>
-    ensures is { IfOk result (λ x.
-        IsRegLabelEnd map place x.0 (placed_tokens bytes.now tokens.now)
-        (placed_tokens bytes.now x.1.now)) }
-    ensures shorter { IfOk result (λ x. length x.1.now < length tokens.now) }
+) -> Read<'a, RegLabel>
+    ensures is { GivesAs result bytes.now tokens.now (IsRegLabelEnd map place) }
+    ensures shorter { Shortens result tokens.now }
     ensures reads { IfOk result (λ x.
-        Reads (outer label_selector ∷ []) (outside_on (plain_name ∷ behind_name x.0))
-        (placed_tokens bytes.now tokens.now) (placed_tokens bytes.now x.1.now)) }
-    ensures halts { IfErr result (λ e.
-        HaltsAs (outer label_selector ∷ []) (placed_tokens bytes.now tokens.now) e) }
+        Comes (label_selector ∷ []) (plain_name ∷ behind_name x.0) bytes.now tokens.now x.1.now) }
+    ensures halts { HaltsOn result bytes.now tokens.now (label_selector ∷ []) }
 {
     match behind(SignKind::Hash, tokens) {
         Some(rest) => {
@@ -80,21 +77,13 @@ fn read_selected_label<'a>(
 // symbols for labels of registers, which go on at a `#` and leave behind the `}` what the label
 // allows, a memory or registers or both. One function for both would promise each clause twice, and
 // what they share, a label with selectors, is `read_table_label`.
-fn read_open_reg_label<'a>(
-    alloc: Global,
-    bytes: &[u8],
-    tokens: &'a [Token],
-) -> Result<(RegLabel, &'a [Token]), Stop>
-    ensures is { IfOk result (λ x.
-        IsOpenRegLabel x.0 (placed_tokens bytes.now tokens.now) (placed_tokens bytes.now x.1.now)) }
-    ensures shorter { IfOk result (λ x. length x.1.now < length tokens.now) }
+fn read_open_reg_label<'a>(alloc: Global, bytes: &[u8], tokens: &'a [Token]) -> Read<'a, RegLabel>
+    ensures is { GivesAs result bytes.now tokens.now IsOpenRegLabel }
+    ensures shorter { Shortens result tokens.now }
     ensures reads { IfOk result (λ x.
-        Reads (outer plain_name ∷ outer reg_label_end ∷ [])
-        (outside_on (plain_name ∷ behind_name x.0)) (placed_tokens bytes.now tokens.now)
-        (placed_tokens bytes.now x.1.now)) }
-    ensures halts { IfErr result (λ e.
-        HaltsAs (outer plain_name ∷ outer reg_label_end ∷ [])
-        (placed_tokens bytes.now tokens.now) e) }
+        Comes (plain_name ∷ reg_label_end ∷ []) (plain_name ∷ behind_name x.0)
+        bytes.now tokens.now x.1.now) }
+    ensures halts { HaltsOn result bytes.now tokens.now (plain_name ∷ reg_label_end ∷ []) }
 {
     let (name, place, rest) = read_name(alloc, bytes, tokens)?;
     if let Some(rest) = behind(SignKind::OpenParenthesis, rest) {
@@ -106,19 +95,12 @@ fn read_open_reg_label<'a>(
 }
 
 // A label, if one comes.
-fn read_reg_label<'a>(
-    alloc: Global,
-    bytes: &[u8],
-    tokens: &'a [Token],
-) -> Result<(RegLabel, &'a [Token]), Stop>
-    ensures is { IfOk result (λ x.
-        IsRegLabel x.0 (placed_tokens bytes.now tokens.now) (placed_tokens bytes.now x.1.now)) }
-    ensures shorter { IfOk result (λ x. length x.1.now ≤ length tokens.now) }
+fn read_reg_label<'a>(alloc: Global, bytes: &[u8], tokens: &'a [Token]) -> Read<'a, RegLabel>
+    ensures is { GivesAs result bytes.now tokens.now IsRegLabel }
+    ensures shorter { NoLonger result tokens.now }
     ensures reads { IfOk result (λ x.
-        Reads (outer reg_label ∷ []) (outside_on (plain_name ∷ behind_name x.0))
-        (placed_tokens bytes.now tokens.now) (placed_tokens bytes.now x.1.now)) }
-    ensures halts { IfErr result (λ e.
-        HaltsAs (outer reg_label ∷ []) (placed_tokens bytes.now tokens.now) e) }
+        Comes (reg_label ∷ []) (plain_name ∷ behind_name x.0) bytes.now tokens.now x.1.now) }
+    ensures halts { HaltsOn result bytes.now tokens.now (reg_label ∷ []) }
 {
     match behind(SignKind::OpenBrace, tokens) {
         Some(rest) => {
@@ -137,23 +119,16 @@ struct RegType {
     label: RegLabel,
 }
 
-fn read_reg_type<'a>(
-    alloc: Global,
-    bytes: &[u8],
-    tokens: &'a [Token],
-) -> Result<(RegType, &'a [Token]), Stop>
-    ensures is { IfOk result (λ x.
-        (flag words.Signed x.0.signed ⨾ perhaps (IsRange all_limits) (option_map span_tree x.0.span)
-        ⨾ IsRegLabel x.0.label) (placed_tokens bytes.now tokens.now)
-        (placed_tokens bytes.now x.1.now)) }
-    ensures shorter { IfOk result (λ x. length x.1.now ≤ length tokens.now) }
+fn read_reg_type<'a>(alloc: Global, bytes: &[u8], tokens: &'a [Token]) -> Read<'a, RegType>
+    ensures is { GivesAs result bytes.now tokens.now (λ x.
+        flag words.Signed x.signed ⨾ perhaps (IsRange all_limits) (option_map span_tree x.span)
+        ⨾ IsRegLabel x.label) }
+    ensures shorter { NoLonger result tokens.now }
     ensures reads { IfOk result (λ x.
-        Reads (outer perhaps_signed ∷ outer perhaps_range ∷ outer reg_label ∷ [])
-        (outside_on (plain_name ∷ behind_name x.0.label)) (placed_tokens bytes.now tokens.now)
-        (placed_tokens bytes.now x.1.now)) }
-    ensures halts { IfErr result (λ e.
-        HaltsAs (outer perhaps_signed ∷ outer perhaps_range ∷ outer reg_label ∷ [])
-        (placed_tokens bytes.now tokens.now) e) }
+        Comes (perhaps_signed ∷ perhaps_range ∷ reg_label ∷ []) (plain_name ∷ behind_name x.0.label)
+        bytes.now tokens.now x.1.now) }
+    ensures halts { HaltsOn result bytes.now tokens.now
+        (perhaps_signed ∷ perhaps_range ∷ reg_label ∷ []) }
 {
     let (signed, rest) = is_signed(tokens);
     let (span, rest) = read_span(alloc, bytes, rest)?;
@@ -207,17 +182,13 @@ fn signal_label(label: RegLabel) -> Option<LabelText>
 }
 
 // The first and the last number of a memory's words, in brackets.
-fn read_bounds(tokens: &[Token]) -> Result<((Lit, Lit), &[Token]), Stop>
+fn read_bounds(tokens: &[Token]) -> Read<'_, (Lit, Lit)>
     ensures is { (bytes : List ℕ) →
-        IfOk result (λ x. in_brackets (a_number (literal_of x.0.0) ⨾ a_sign signs.Colon
-        ⨾ a_number (literal_of x.0.1)) (placed_tokens bytes tokens.now)
-        (placed_tokens bytes x.1.now)) }
-    ensures shorter { IfOk result (λ x. length x.1.now < length tokens.now) }
-    ensures reads { (bytes : List ℕ) →
-        IfOk result (λ x. Reads (outside_on memory_bounds) [] (placed_tokens bytes tokens.now)
-        (placed_tokens bytes x.1.now)) }
-    ensures halts { (bytes : List ℕ) →
-        IfErr result (λ e. HaltsAs (outside_on memory_bounds) (placed_tokens bytes tokens.now) e) }
+        GivesAs result bytes tokens.now (λ x.
+        in_brackets (a_number (literal_of x.0) ⨾ a_sign signs.Colon ⨾ a_number (literal_of x.1))) }
+    ensures shorter { Shortens result tokens.now }
+    ensures reads { (bytes : List ℕ) → Leads result bytes tokens.now memory_bounds [] }
+    ensures halts { (bytes : List ℕ) → HaltsOn result bytes tokens.now memory_bounds }
 {
     let rest = expect_sign(SignKind::OpenBracket, tokens)?;
     let (first, _place, rest) = read_number(rest)?;
@@ -228,22 +199,14 @@ fn read_bounds(tokens: &[Token]) -> Result<((Lit, Lit), &[Token]), Stop>
 }
 
 // A memory, behind its name.
-fn read_memory(
-    of: RegType,
-    name: Name,
-    place: Place,
-    tokens: &[Token],
-) -> Result<(Memory, &[Token]), Stop>
+fn read_memory(of: RegType, name: Name, place: Place, tokens: &[Token]) -> Read<'_, Memory>
     ensures is { (bytes : List ℕ) →
-        IfOk result (λ x. IsMemoryAs of.signed (option_map span_tree of.span)
-        (memory_label_of of.label) name place (memory_tree x.0) (placed_tokens bytes tokens.now)
-        (placed_tokens bytes x.1.now)) }
-    ensures shorter { IfOk result (λ x. length x.1.now < length tokens.now) }
-    ensures reads { (bytes : List ℕ) →
-        IfOk result (λ x. Reads (outside_on memory_bounds) [] (placed_tokens bytes tokens.now)
-        (placed_tokens bytes x.1.now)) }
-    ensures halts { (bytes : List ℕ) →
-        IfErr result (λ e. HaltsAs (outside_on memory_bounds) (placed_tokens bytes tokens.now) e) }
+        Gives result bytes tokens.now memory_tree
+        (IsMemoryAs of.signed (option_map span_tree of.span) (memory_label_of of.label)
+        name place) }
+    ensures shorter { Shortens result tokens.now }
+    ensures reads { (bytes : List ℕ) → Leads result bytes tokens.now memory_bounds [] }
+    ensures halts { (bytes : List ℕ) → HaltsOn result bytes tokens.now memory_bounds }
 {
     let ((first, last), rest) = read_bounds(tokens)?;
     let RegType {
@@ -292,22 +255,15 @@ fn first_register(of: RegType, name: Name, place: Place) -> Decl
 }
 
 /// The registers of an item that begins with `reg`, or its memory.
-pub fn read_registers<'a>(
-    alloc: Global,
-    bytes: &[u8],
-    tokens: &'a [Token],
-) -> Result<(Vec<Item>, &'a [Token]), Stop>
-    ensures is { IfOk result (λ x.
-        (all_as tree.declared (AreSignals all_limits) (map item_tree x.0.items)
-        or all_as tree.memory_item (only (IsMemory all_limits)) (map item_tree x.0.items))
-        (placed_tokens bytes.now tokens.now) (placed_tokens bytes.now x.1.now)) }
-    ensures shorter { IfOk result (λ x. length x.1.now < length tokens.now) }
+pub fn read_registers<'a>(alloc: Global, bytes: &[u8], tokens: &'a [Token]) -> Read<'a, Vec<Item>>
+    ensures is { GivesAs result bytes.now tokens.now (λ x.
+        all_as tree.declared (AreSignals all_limits) (map item_tree x.items)
+        or all_as tree.memory_item (only (IsMemory all_limits)) (map item_tree x.items)) }
+    ensures shorter { Shortens result tokens.now }
     ensures reads { IsNext words.Reg (placed_tokens bytes.now tokens.now) →
-        IfOk result (λ x. Reads (outer items ∷ [])
-        (outer (punctuation signs.Semicolon) ∷ outer items ∷ [])
-        (placed_tokens bytes.now tokens.now) (placed_tokens bytes.now x.1.now)) }
+        Leads result bytes.now tokens.now (items ∷ []) (punctuation signs.Semicolon ∷ items ∷ []) }
     ensures halts { IsNext words.Reg (placed_tokens bytes.now tokens.now) →
-        IfErr result (λ e. HaltsAs (outer items ∷ []) (placed_tokens bytes.now tokens.now) e) }
+        HaltsOn result bytes.now tokens.now (items ∷ []) }
 {
     let (_place, rest) = expect_word(WordKind::Reg, tokens)?;
     let (of, rest) = read_reg_type(alloc, bytes, rest)?;

@@ -1,20 +1,18 @@
 // The types of declarations: signedness, ranges and labels (IEEE 1364-2005, clause 4; labels are
 // those of SecVerilog, ASPLOS 2015).
-ghost use Rattle.std.specs.Prelude.{◌≡◌, ◌<◌, ◌≤◌, ℕ, List, [], ◌∷◌, length, IfOk, IfErr};
+ghost use Rattle.std.specs.Prelude.{◌≡◌, ◌≤◌, ℕ, List, [], ◌∷◌, length, IfOk};
 ghost use Rattle.std.specs.Option.{option_map};
-ghost use Rattle.sv_token.specs.Lexemes.{placed_tokens};
 ghost use Rattle.sv_token.specs.declared.signs.SignKind.TheVariants as signs;
 ghost use Rattle.sv_token.specs.declared.keywords.WordKind.TheVariants as words;
 ghost use Rattle.sv_ast.specs.Views.{span_tree, label_tree};
 ghost use Rattle.sv_ast.specs.GrammarForms.{◌⨾◌, a_sign, a_name, flag, perhaps};
 ghost use Rattle.sv_ast.specs.GrammarDeclarations.{IsValue, IsRange, IsLabel};
 ghost use Rattle.sv_ast.specs.GrammarRules.{all_limits};
-ghost use Rattle.sv_parse_machine.specs.Symbols.{outer, plain_name, perhaps_signed, perhaps_range};
+ghost use Rattle.sv_parse_machine.specs.Symbols.{plain_name, perhaps_signed, perhaps_range};
 ghost use Rattle.sv_parse_machine.specs.Symbols.{perhaps_label, perhaps_second_name, label_end};
 ghost use Rattle.sv_parse_machine.specs.ModuleTable.{value_range};
-ghost use Rattle.sv_parse_machine.specs.Machine.{outside_on};
-ghost use Rattle.sv_parse_machine.specs.Reads.{Reads};
-ghost use Rattle.sv_parse_expr.specs.Expectations.{HaltsAs};
+ghost use Rattle.sv_parse_expr.specs.Parses.{Stands, Comes, GivesAs, Gives, Shortens, NoLonger};
+ghost use Rattle.sv_parse_expr.specs.Parses.{Leads, HaltsOn};
 ghost use Rattle.sv_parse.specs.ReadingDeclarations.{name_type, table_end};
 ghost use Rattle.sv_parse.specs.Reading.{IsTableEnd, IsOpenLabel, IsTypedAs};
 
@@ -22,19 +20,17 @@ use std::alloc::{AllocError, Global};
 use sv_ast::{LabelText, Span};
 use sv_num::{Name, Place};
 use sv_parse_expr::cursor::{behind, behind_word, expect_sign, read_name};
-use sv_parse_expr::stop::Stop;
+use sv_parse_expr::stop::Read;
 use sv_parse_stmt::closed::read_closed;
 use sv_token::{SignKind, Token, WordKind};
 
 /// Whether `signed` comes, and the tokens behind it.
 pub fn is_signed(tokens: &[Token]) -> (bool, &[Token])
     ensures is { (bytes : List ℕ) →
-        flag words.Signed result.0 (placed_tokens bytes tokens.now)
-        (placed_tokens bytes result.1.now) }
+        Stands (flag words.Signed result.0) bytes tokens.now result.1.now }
     ensures shorter { length result.1.now ≤ length tokens.now }
     ensures reads { (bytes : List ℕ) →
-        Reads (outer perhaps_signed ∷ []) [] (placed_tokens bytes tokens.now)
-        (placed_tokens bytes result.1.now) }
+        Comes (perhaps_signed ∷ []) [] bytes tokens.now result.1.now }
 {
     match behind_word(WordKind::Signed, tokens) {
         Some(rest) => (true, rest),
@@ -43,22 +39,13 @@ pub fn is_signed(tokens: &[Token]) -> (bool, &[Token])
 }
 
 /// A range, behind its `[`.
-pub fn read_open_span<'a>(
-    alloc: Global,
-    bytes: &[u8],
-    tokens: &'a [Token],
-) -> Result<(Span, &'a [Token]), Stop>
-    ensures is { IfOk result (λ x.
-        (IsValue all_limits (span_tree x.0).high ⨾ a_sign signs.Colon
-        ⨾ IsValue all_limits (span_tree x.0).low
-        ⨾ a_sign signs.CloseBracket) (placed_tokens bytes.now tokens.now)
-        (placed_tokens bytes.now x.1.now)) }
-    ensures shorter { IfOk result (λ x. length x.1.now < length tokens.now) }
-    ensures reads { IfOk result (λ x.
-        Reads (outside_on value_range) [] (placed_tokens bytes.now tokens.now)
-        (placed_tokens bytes.now x.1.now)) }
-    ensures halts { IfErr result (λ e.
-        HaltsAs (outside_on value_range) (placed_tokens bytes.now tokens.now) e) }
+pub fn read_open_span<'a>(alloc: Global, bytes: &[u8], tokens: &'a [Token]) -> Read<'a, Span>
+    ensures is { GivesAs result bytes.now tokens.now (λ x.
+        IsValue all_limits (span_tree x).high ⨾ a_sign signs.Colon
+        ⨾ IsValue all_limits (span_tree x).low ⨾ a_sign signs.CloseBracket) }
+    ensures shorter { Shortens result tokens.now }
+    ensures reads { Leads result bytes.now tokens.now value_range [] }
+    ensures halts { HaltsOn result bytes.now tokens.now value_range }
 {
     let (high, rest) = read_closed(alloc, bytes, 0, SignKind::Colon, tokens)?;
     let (low, rest) = read_closed(alloc, bytes, 0, SignKind::CloseBracket, rest)?;
@@ -66,20 +53,12 @@ pub fn read_open_span<'a>(
 }
 
 /// A range, if one comes.
-pub fn read_span<'a>(
-    alloc: Global,
-    bytes: &[u8],
-    tokens: &'a [Token],
-) -> Result<(Option<Span>, &'a [Token]), Stop>
-    ensures is { IfOk result (λ x.
-        perhaps (IsRange all_limits) (option_map span_tree x.0) (placed_tokens bytes.now tokens.now)
-        (placed_tokens bytes.now x.1.now)) }
-    ensures shorter { IfOk result (λ x. length x.1.now ≤ length tokens.now) }
-    ensures reads { IfOk result (λ x.
-        Reads (outer perhaps_range ∷ []) [] (placed_tokens bytes.now tokens.now)
-        (placed_tokens bytes.now x.1.now)) }
-    ensures halts { IfErr result (λ e.
-        HaltsAs (outer perhaps_range ∷ []) (placed_tokens bytes.now tokens.now) e) }
+pub fn read_span<'a>(alloc: Global, bytes: &[u8], tokens: &'a [Token]) -> Read<'a, Option<Span>>
+    ensures is { Gives result bytes.now tokens.now (option_map span_tree)
+        (perhaps (IsRange all_limits)) }
+    ensures shorter { NoLonger result tokens.now }
+    ensures reads { Leads result bytes.now tokens.now (perhaps_range ∷ []) [] }
+    ensures halts { HaltsOn result bytes.now tokens.now (perhaps_range ∷ []) }
 {
     match behind(SignKind::OpenBracket, tokens) {
         Some(rest) => {
@@ -95,16 +74,12 @@ fn read_second_selector<'a>(
     alloc: Global,
     bytes: &[u8],
     tokens: &'a [Token],
-) -> Result<(Option<Name>, &'a [Token]), Stop>
-    ensures is { IfOk result (λ x.
-        perhaps (λ x. a_sign signs.Comma ⨾ a_name x) x.0 (placed_tokens bytes.now tokens.now)
-        (placed_tokens bytes.now x.1.now)) }
-    ensures shorter { IfOk result (λ x. length x.1.now ≤ length tokens.now) }
-    ensures reads { IfOk result (λ x.
-        Reads (outer perhaps_second_name ∷ []) [] (placed_tokens bytes.now tokens.now)
-        (placed_tokens bytes.now x.1.now)) }
-    ensures halts { IfErr result (λ e.
-        HaltsAs (outer perhaps_second_name ∷ []) (placed_tokens bytes.now tokens.now) e) }
+) -> Read<'a, Option<Name>>
+    ensures is { GivesAs result bytes.now tokens.now
+        (perhaps (λ x. a_sign signs.Comma ⨾ a_name x)) }
+    ensures shorter { NoLonger result tokens.now }
+    ensures reads { Leads result bytes.now tokens.now (perhaps_second_name ∷ []) [] }
+    ensures halts { HaltsOn result bytes.now tokens.now (perhaps_second_name ∷ []) }
 {
     match behind(SignKind::Comma, tokens) {
         Some(rest) => {
@@ -122,16 +97,11 @@ pub fn read_table_label<'a>(
     map: Name,
     place: Place,
     tokens: &'a [Token],
-) -> Result<(LabelText, &'a [Token]), Stop>
-    ensures is { IfOk result (λ x.
-        IsTableEnd map place (label_tree x.0) (placed_tokens bytes.now tokens.now)
-        (placed_tokens bytes.now x.1.now)) }
-    ensures shorter { IfOk result (λ x. length x.1.now < length tokens.now) }
-    ensures reads { IfOk result (λ x.
-        Reads (outside_on table_end) [] (placed_tokens bytes.now tokens.now)
-        (placed_tokens bytes.now x.1.now)) }
-    ensures halts { IfErr result (λ e.
-        HaltsAs (outside_on table_end) (placed_tokens bytes.now tokens.now) e) }
+) -> Read<'a, LabelText>
+    ensures is { Gives result bytes.now tokens.now label_tree (IsTableEnd map place) }
+    ensures shorter { Shortens result tokens.now }
+    ensures reads { Leads result bytes.now tokens.now table_end [] }
+    ensures halts { HaltsOn result bytes.now tokens.now table_end }
 {
     let (first, _at, rest) = read_name(alloc, bytes, tokens)?;
     let (second, rest) = read_second_selector(alloc, bytes, rest)?;
@@ -141,20 +111,11 @@ pub fn read_table_label<'a>(
 }
 
 // A label, behind its brace.
-fn read_open_label<'a>(
-    alloc: Global,
-    bytes: &[u8],
-    tokens: &'a [Token],
-) -> Result<(LabelText, &'a [Token]), Stop>
-    ensures is { IfOk result (λ x.
-        IsOpenLabel (label_tree x.0) (placed_tokens bytes.now tokens.now)
-        (placed_tokens bytes.now x.1.now)) }
-    ensures shorter { IfOk result (λ x. length x.1.now < length tokens.now) }
-    ensures reads { IfOk result (λ x.
-        Reads (outer plain_name ∷ outer label_end ∷ []) [] (placed_tokens bytes.now tokens.now)
-        (placed_tokens bytes.now x.1.now)) }
-    ensures halts { IfErr result (λ e.
-        HaltsAs (outer plain_name ∷ outer label_end ∷ []) (placed_tokens bytes.now tokens.now) e) }
+fn read_open_label<'a>(alloc: Global, bytes: &[u8], tokens: &'a [Token]) -> Read<'a, LabelText>
+    ensures is { Gives result bytes.now tokens.now label_tree IsOpenLabel }
+    ensures shorter { Shortens result tokens.now }
+    ensures reads { Leads result bytes.now tokens.now (plain_name ∷ label_end ∷ []) [] }
+    ensures halts { HaltsOn result bytes.now tokens.now (plain_name ∷ label_end ∷ []) }
 {
     let (name, place, rest) = read_name(alloc, bytes, tokens)?;
     if let Some(rest) = behind(SignKind::OpenParenthesis, rest) {
@@ -170,16 +131,11 @@ pub fn read_label<'a>(
     alloc: Global,
     bytes: &[u8],
     tokens: &'a [Token],
-) -> Result<(Option<LabelText>, &'a [Token]), Stop>
-    ensures is { IfOk result (λ x.
-        perhaps IsLabel (option_map label_tree x.0) (placed_tokens bytes.now tokens.now)
-        (placed_tokens bytes.now x.1.now)) }
-    ensures shorter { IfOk result (λ x. length x.1.now ≤ length tokens.now) }
-    ensures reads { IfOk result (λ x.
-        Reads (outer perhaps_label ∷ []) [] (placed_tokens bytes.now tokens.now)
-        (placed_tokens bytes.now x.1.now)) }
-    ensures halts { IfErr result (λ e.
-        HaltsAs (outer perhaps_label ∷ []) (placed_tokens bytes.now tokens.now) e) }
+) -> Read<'a, Option<LabelText>>
+    ensures is { Gives result bytes.now tokens.now (option_map label_tree) (perhaps IsLabel) }
+    ensures shorter { NoLonger result tokens.now }
+    ensures reads { Leads result bytes.now tokens.now (perhaps_label ∷ []) [] }
+    ensures halts { HaltsOn result bytes.now tokens.now (perhaps_label ∷ []) }
 {
     match behind(SignKind::OpenBrace, tokens) {
         Some(rest) => {
@@ -203,16 +159,12 @@ pub fn read_signal_type<'a>(
     alloc: Global,
     bytes: &[u8],
     tokens: &'a [Token],
-) -> Result<(SignalType, &'a [Token]), Stop>
-    ensures is { IfOk result (λ x.
-        IsTypedAs x.0.signed (option_map span_tree x.0.span) (option_map label_tree x.0.label)
-        (placed_tokens bytes.now tokens.now) (placed_tokens bytes.now x.1.now)) }
-    ensures shorter { IfOk result (λ x. length x.1.now ≤ length tokens.now) }
-    ensures reads { IfOk result (λ x.
-        Reads (outside_on name_type) [] (placed_tokens bytes.now tokens.now)
-        (placed_tokens bytes.now x.1.now)) }
-    ensures halts { IfErr result (λ e.
-        HaltsAs (outside_on name_type) (placed_tokens bytes.now tokens.now) e) }
+) -> Read<'a, SignalType>
+    ensures is { GivesAs result bytes.now tokens.now (λ x.
+        IsTypedAs x.signed (option_map span_tree x.span) (option_map label_tree x.label)) }
+    ensures shorter { NoLonger result tokens.now }
+    ensures reads { Leads result bytes.now tokens.now name_type [] }
+    ensures halts { HaltsOn result bytes.now tokens.now name_type }
 {
     let (signed, rest) = is_signed(tokens);
     let (span, rest) = read_span(alloc, bytes, rest)?;

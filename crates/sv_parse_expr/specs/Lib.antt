@@ -1,3 +1,4 @@
 pub mod Faults
 pub mod Expectations
+pub mod Parses
 pub mod Reading

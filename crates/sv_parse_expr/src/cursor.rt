@@ -5,13 +5,14 @@ ghost use Rattle.sv_token.specs.Lexemes.{placed_tokens, literal_of, between};
 ghost use Rattle.sv_ast.specs.GrammarForms.{sign_at, word_at, name_at, number_at, a_sign, a_word};
 ghost use Rattle.sv_ast.specs.GrammarStatements.{IsNext};
 ghost use Rattle.sv_parse_machine.specs.StatementTable.{is_sign};
-ghost use Rattle.sv_parse_machine.specs.Symbols.{outer, punctuation, plain_name, plain_number};
-ghost use Rattle.sv_parse_machine.specs.Reads.{Reads, NextIsNotSign, NextIsNotWord, NextIsNoName};
+ghost use Rattle.sv_parse_machine.specs.Symbols.{punctuation, plain_name, plain_number};
+ghost use Rattle.sv_parse_machine.specs.Reads.{NextIsNotSign, NextIsNotWord, NextIsNoName};
 ghost use Rattle.sv_parse_machine.specs.Reads.{NextIsNoNumber};
-ghost use Rattle.sv_parse_expr.specs.Expectations.{HaltsAs, StopsAt};
+ghost use Rattle.sv_parse_expr.specs.Expectations.{StopsAt};
+ghost use Rattle.sv_parse_expr.specs.Parses.{Stands, Comes, GivesAs, HaltsOn};
 
 use crate::refused_words::is_refused;
-use crate::stop::{Breach, Expected, Stop};
+use crate::stop::{Breach, Expected, Read, Stop};
 use std::alloc::Global;
 use sv_num::{Name, Place};
 use sv_token::{Lit, SignKind, Token, TokenKind, WordKind};
@@ -49,8 +50,7 @@ fn is_word(kind: TokenKind, word: WordKind) -> bool
 /// The place of this punctuation and the tokens behind it, if it comes.
 pub fn sign_at(sign: SignKind, tokens: &[Token]) -> Option<(Place, &[Token])>
     ensures is { (bytes : List ℕ) →
-        IfSome result (λ x. sign_at sign x.0 (placed_tokens bytes tokens.now)
-        (placed_tokens bytes x.1.now)) }
+        IfSome result (λ x. Stands (sign_at sign x.0) bytes tokens.now x.1.now) }
     ensures one { IfSome result (λ x. length tokens.now ≡ length x.1.now + 1) }
     ensures none { (bytes : List ℕ) →
         IfNone result (NextIsNotSign sign (placed_tokens bytes tokens.now)) }
@@ -64,8 +64,7 @@ pub fn sign_at(sign: SignKind, tokens: &[Token]) -> Option<(Place, &[Token])>
 /// The place of this word and the tokens behind it, if it comes.
 pub fn word_at(word: WordKind, tokens: &[Token]) -> Option<(Place, &[Token])>
     ensures is { (bytes : List ℕ) →
-        IfSome result (λ x. word_at word x.0 (placed_tokens bytes tokens.now)
-        (placed_tokens bytes x.1.now)) }
+        IfSome result (λ x. Stands (word_at word x.0) bytes tokens.now x.1.now) }
     ensures one { IfSome result (λ x. length tokens.now ≡ length x.1.now + 1) }
     ensures other { (bytes : List ℕ) →
         IfNone result (IsNext word (placed_tokens bytes tokens.now) → ⊥) }
@@ -81,8 +80,7 @@ pub fn word_at(word: WordKind, tokens: &[Token]) -> Option<(Place, &[Token])>
 /// The tokens behind this punctuation, if it comes.
 pub fn behind(sign: SignKind, tokens: &[Token]) -> Option<&[Token]>
     ensures is { (bytes : List ℕ) →
-        IfSome result (λ rest.
-        a_sign sign (placed_tokens bytes tokens.now) (placed_tokens bytes rest.now)) }
+        IfSome result (λ rest. Stands (a_sign sign) bytes tokens.now rest.now) }
     ensures one { IfSome result (λ rest. length tokens.now ≡ length rest.now + 1) }
     ensures none { (bytes : List ℕ) →
         IfNone result (NextIsNotSign sign (placed_tokens bytes tokens.now)) }
@@ -96,8 +94,7 @@ pub fn behind(sign: SignKind, tokens: &[Token]) -> Option<&[Token]>
 /// The tokens behind this word, if it comes.
 pub fn behind_word(word: WordKind, tokens: &[Token]) -> Option<&[Token]>
     ensures is { (bytes : List ℕ) →
-        IfSome result (λ rest.
-        a_word word (placed_tokens bytes tokens.now) (placed_tokens bytes rest.now)) }
+        IfSome result (λ rest. Stands (a_word word) bytes tokens.now rest.now) }
     ensures one { IfSome result (λ rest. length tokens.now ≡ length rest.now + 1) }
     ensures other { (bytes : List ℕ) →
         IfNone result (IsNext word (placed_tokens bytes tokens.now) → ⊥) }
@@ -113,19 +110,14 @@ pub fn behind_word(word: WordKind, tokens: &[Token]) -> Option<&[Token]>
 /// The tokens behind this punctuation, which has to come.
 pub fn expect_sign(sign: SignKind, tokens: &[Token]) -> Result<&[Token], Stop>
     ensures is { (bytes : List ℕ) →
-        IfOk result (λ rest.
-        a_sign sign (placed_tokens bytes tokens.now) (placed_tokens bytes rest.now)) }
+        IfOk result (λ rest. Stands (a_sign sign) bytes tokens.now rest.now) }
     ensures one { IfOk result (λ rest. length tokens.now ≡ length rest.now + 1) }
     ensures stops { (bytes : List ℕ) →
         IfErr result (λ e. StopsAt tokens.now
         (NextIsNotSign sign (placed_tokens bytes tokens.now)) e) }
     ensures reads { (bytes : List ℕ) → is_sign sign sign ≡ true →
-        IfOk result (λ rest.
-        Reads (outer (punctuation sign) ∷ []) [] (placed_tokens bytes tokens.now)
-        (placed_tokens bytes rest.now)) }
-    ensures halts { (bytes : List ℕ) →
-        IfErr result (λ e. HaltsAs (outer (punctuation sign) ∷ [])
-        (placed_tokens bytes tokens.now) e) }
+        IfOk result (λ rest. Comes (punctuation sign ∷ []) [] bytes tokens.now rest.now) }
+    ensures halts { (bytes : List ℕ) → HaltsOn result bytes tokens.now (punctuation sign ∷ []) }
 {
     match behind(sign, tokens) {
         Some(rest) => Ok(rest),
@@ -134,10 +126,8 @@ pub fn expect_sign(sign: SignKind, tokens: &[Token]) -> Result<&[Token], Stop>
 }
 
 /// The place of this word, which has to come, and the tokens behind it.
-pub fn expect_word(word: WordKind, tokens: &[Token]) -> Result<(Place, &[Token]), Stop>
-    ensures is { (bytes : List ℕ) →
-        IfOk result (λ x. word_at word x.0 (placed_tokens bytes tokens.now)
-        (placed_tokens bytes x.1.now)) }
+pub fn expect_word(word: WordKind, tokens: &[Token]) -> Read<'_, Place>
+    ensures is { (bytes : List ℕ) → GivesAs result bytes tokens.now (word_at word) }
     ensures one { IfOk result (λ x. length tokens.now ≡ length x.1.now + 1) }
     ensures stops { (bytes : List ℕ) →
         IfErr result (λ e. StopsAt tokens.now
@@ -152,16 +142,13 @@ pub fn expect_word(word: WordKind, tokens: &[Token]) -> Result<(Place, &[Token])
 /// A number with its place, which has to come, and the tokens behind it.
 pub fn read_number(tokens: &[Token]) -> Result<(Lit, Place, &[Token]), Stop>
     ensures is { (bytes : List ℕ) →
-        IfOk result (λ x. number_at (literal_of x.0) x.1 (placed_tokens bytes tokens.now)
-        (placed_tokens bytes x.2.now)) }
+        IfOk result (λ x. Stands (number_at (literal_of x.0) x.1) bytes tokens.now x.2.now) }
     ensures one { IfOk result (λ x. length tokens.now ≡ length x.2.now + 1) }
     ensures stops { (bytes : List ℕ) →
         IfErr result (λ e. StopsAt tokens.now (NextIsNoNumber (placed_tokens bytes tokens.now)) e) }
     ensures reads { (bytes : List ℕ) →
-        IfOk result (λ x. Reads (outer plain_number ∷ []) [] (placed_tokens bytes tokens.now)
-        (placed_tokens bytes x.2.now)) }
-    ensures halts { (bytes : List ℕ) →
-        IfErr result (λ e. HaltsAs (outer plain_number ∷ []) (placed_tokens bytes tokens.now) e) }
+        IfOk result (λ x. Comes (plain_number ∷ []) [] bytes tokens.now x.2.now) }
+    ensures halts { (bytes : List ℕ) → HaltsOn result bytes tokens.now (plain_number ∷ []) }
 {
     match tokens {
         [first, rest @ ..] => match first.kind {
@@ -187,16 +174,12 @@ pub fn read_name<'a>(
     bytes: &[u8],
     tokens: &'a [Token],
 ) -> Result<(Name, Place, &'a [Token]), Stop>
-    ensures is { IfOk result (λ x.
-        name_at x.0 x.1 (placed_tokens bytes.now tokens.now) (placed_tokens bytes.now x.2.now)) }
+    ensures is { IfOk result (λ x. Stands (name_at x.0 x.1) bytes.now tokens.now x.2.now) }
     ensures one { IfOk result (λ x. length tokens.now ≡ length x.2.now + 1) }
     ensures stops { IfErr result (λ e.
         StopsAt tokens.now (NextIsNoName (placed_tokens bytes.now tokens.now)) e) }
-    ensures reads { IfOk result (λ x.
-        Reads (outer plain_name ∷ []) [] (placed_tokens bytes.now tokens.now)
-        (placed_tokens bytes.now x.2.now)) }
-    ensures halts { IfErr result (λ e.
-        HaltsAs (outer plain_name ∷ []) (placed_tokens bytes.now tokens.now) e) }
+    ensures reads { IfOk result (λ x. Comes (plain_name ∷ []) [] bytes.now tokens.now x.2.now) }
+    ensures halts { HaltsOn result bytes.now tokens.now (plain_name ∷ []) }
 {
     match tokens {
         [first, rest @ ..] if first.kind == TokenKind::Name => {

@@ -1,48 +1,38 @@
 // Expressions (IEEE 1364-2005, clause 5).
-ghost use Rattle.std.specs.Prelude.{◌≡◌, ◌+◌, ◌-◌, ◌<◌, ◌≤◌, ℕ, List, [], ◌∷◌, length, IfOk, IfErr};
+ghost use Rattle.std.specs.Prelude.{◌≡◌, ◌+◌, ◌-◌, ◌<◌, ◌≤◌, ℕ, List, [], ◌∷◌, length, IfOk};
 ghost use Rattle.std.specs.Option.{option_map};
 ghost use Rattle.sv_token.specs.Lexemes.{placed_tokens};
 ghost use Rattle.sv_ast.specs.Views.{expression_tree, expression_trees};
 ghost use Rattle.sv_ast.specs.GrammarForms.{in_parentheses};
 ghost use Rattle.sv_ast.specs.GrammarExpressions.{IsExpression};
 ghost use Rattle.sv_ast.specs.GrammarRules.{all_limits};
-ghost use Rattle.sv_parse_machine.specs.Symbols.{Inner, inner, operand, tail, selection_end, members};
-ghost use Rattle.sv_parse_machine.specs.Symbols.{inner_brace, outer, expression, punctuation};
+ghost use Rattle.sv_parse_machine.specs.Symbols.{Inner, inner, operand, tail, selection_end};
+ghost use Rattle.sv_parse_machine.specs.Symbols.{members, inner_brace, expression, punctuation};
 ghost use Rattle.sv_parse_machine.specs.Reads.{Reads, NextIsLooser, NextIsNotSign, NextIsSign};
 ghost use Rattle.sv_parse_machine.specs.Reads.{NextIsAnyName, NextIsNumber, NextIsAnyOperator};
-ghost use Rattle.sv_parse_expr.specs.Expectations.{HaltsAs};
 ghost use Rattle.sv_parse_expr.specs.Reading.{IsChain, IsBounded, AreLaterParts, IsRepeated};
+ghost use Rattle.sv_parse_expr.specs.Parses.{Stands, GivesAs, Gives, Shortens, NoLonger, Leads};
+ghost use Rattle.sv_parse_expr.specs.Parses.{LeadsIn, HaltsBy, HaltsOn, HaltsIn};
 
 use crate::cursor::{behind, expect_sign, read_name, read_number, sign_at, stuck, unexpected};
 use crate::nodes::{binary, choice, join, repeat, selected, unary};
 use crate::operators::{LOOSEST, binary_of, unary_at};
 use crate::room::Room;
-use crate::stop::{Expected, Stop};
+use crate::stop::{Expected, Read, Stop};
 use std::alloc::Global;
 use sv_ast::Expr;
 use sv_token::{SignKind, Token, TokenKind};
 
 // An expression inside another one, or a whole one.
 #[cycle(expression)]
-fn read_inner<'a>(
-    alloc: Global,
-    bytes: &[u8],
-    room: Room,
-    tokens: &'a [Token],
-) -> Result<(Expr, &'a [Token]), Stop>
-    ensures is { IfOk result (λ x.
-        IsChain room.levels 11 (expression_tree x.0) (placed_tokens bytes.now tokens.now)
-        (placed_tokens bytes.now x.1.now)) }
-    ensures shorter { IfOk result (λ x. length x.1.now < length tokens.now) }
+fn read_inner<'a>(alloc: Global, bytes: &[u8], room: Room, tokens: &'a [Token]) -> Read<'a, Expr>
+    ensures is { Gives result bytes.now tokens.now expression_tree (IsChain room.levels 11) }
+    ensures shorter { Shortens result tokens.now }
     ensures counted { IfOk result (λ x. room.beyond ≤ length x.1.now) }
-    ensures reads { (start : ℕ) → room.beyond ≡ start - 1024 →
-        IfOk result (λ x. Reads
-        (inner start (operand room.levels) ∷ inner start (tail room.levels) ∷ []) []
-        (placed_tokens bytes.now tokens.now) (placed_tokens bytes.now x.1.now)) }
-    ensures halts { (start : ℕ) → room.beyond ≡ start - 1024 →
-        IfErr result (λ e. HaltsAs
-        (inner start (operand room.levels) ∷ inner start (tail room.levels) ∷ [])
-        (placed_tokens bytes.now tokens.now) e) }
+    ensures reads { LeadsIn result bytes.now tokens.now room.beyond
+        (operand room.levels ∷ tail room.levels ∷ []) [] }
+    ensures halts { HaltsIn result bytes.now tokens.now room.beyond
+        (operand room.levels ∷ tail room.levels ∷ []) }
 {
     let (cond, rest) = read_chain(alloc, bytes, room, LOOSEST, tokens)?;
     let Some((place, after)) = sign_at(SignKind::Question, rest) else {
@@ -65,21 +55,15 @@ fn read_chain<'a>(
     room: Room,
     precedence: u8,
     tokens: &'a [Token],
-) -> Result<(Expr, &'a [Token]), Stop>
-    ensures is { IfOk result (λ x.
-        IsChain room.levels precedence (expression_tree x.0) (placed_tokens bytes.now tokens.now)
-        (placed_tokens bytes.now x.1.now)) }
-    ensures shorter { IfOk result (λ x. length x.1.now < length tokens.now) }
+) -> Read<'a, Expr>
+    ensures is { Gives result bytes.now tokens.now expression_tree
+        (IsChain room.levels precedence) }
+    ensures shorter { Shortens result tokens.now }
     ensures counted { IfOk result (λ x. room.beyond ≤ length x.1.now) }
-    ensures reads { (start : ℕ) → room.beyond ≡ start - 1024 →
-        IfOk result (λ x. Reads
-        (inner start (operand room.levels) ∷ inner start (tail room.levels) ∷ [])
-        (inner start (tail room.levels) ∷ []) (placed_tokens bytes.now tokens.now)
-        (placed_tokens bytes.now x.1.now)) }
-    ensures halts { (start : ℕ) → room.beyond ≡ start - 1024 →
-        IfErr result (λ e. HaltsAs
-        (inner start (operand room.levels) ∷ inner start (tail room.levels) ∷ [])
-        (placed_tokens bytes.now tokens.now) e) }
+    ensures reads { LeadsIn result bytes.now tokens.now room.beyond
+        (operand room.levels ∷ tail room.levels ∷ []) (tail room.levels ∷ []) }
+    ensures halts { HaltsIn result bytes.now tokens.now room.beyond
+        (operand room.levels ∷ tail room.levels ∷ []) }
     ensures looser { IfOk result (λ x. NextIsLooser precedence (placed_tokens bytes.now x.1.now)) }
 {
     if precedence == 0 {
@@ -97,23 +81,12 @@ fn read_chain<'a>(
 }
 
 #[cycle(expression)]
-fn read_operand<'a>(
-    alloc: Global,
-    bytes: &[u8],
-    room: Room,
-    tokens: &'a [Token],
-) -> Result<(Expr, &'a [Token]), Stop>
-    ensures is { IfOk result (λ x.
-        IsChain room.levels 0 (expression_tree x.0) (placed_tokens bytes.now tokens.now)
-        (placed_tokens bytes.now x.1.now)) }
-    ensures shorter { IfOk result (λ x. length x.1.now < length tokens.now) }
+fn read_operand<'a>(alloc: Global, bytes: &[u8], room: Room, tokens: &'a [Token]) -> Read<'a, Expr>
+    ensures is { Gives result bytes.now tokens.now expression_tree (IsChain room.levels 0) }
+    ensures shorter { Shortens result tokens.now }
     ensures counted { IfOk result (λ x. room.beyond ≤ length x.1.now) }
-    ensures reads { (start : ℕ) → room.beyond ≡ start - 1024 →
-        IfOk result (λ x. Reads (inner start (operand room.levels) ∷ []) []
-        (placed_tokens bytes.now tokens.now) (placed_tokens bytes.now x.1.now)) }
-    ensures halts { (start : ℕ) → room.beyond ≡ start - 1024 →
-        IfErr result (λ e. HaltsAs (inner start (operand room.levels) ∷ [])
-        (placed_tokens bytes.now tokens.now) e) }
+    ensures reads { LeadsIn result bytes.now tokens.now room.beyond (operand room.levels ∷ []) [] }
+    ensures halts { HaltsIn result bytes.now tokens.now room.beyond (operand room.levels ∷ []) }
 {
     let [first, ..] = tokens else {
         return Err(unexpected(tokens));
@@ -129,19 +102,16 @@ fn read_operand<'a>(
 }
 
 // A number.
-fn read_literal(room: Room, tokens: &[Token]) -> Result<(Expr, &[Token]), Stop>
+fn read_literal(room: Room, tokens: &[Token]) -> Read<'_, Expr>
     ensures is { (bytes : List ℕ) →
-        IfOk result (λ x. IsChain room.levels 0 (expression_tree x.0)
-        (placed_tokens bytes tokens.now) (placed_tokens bytes x.1.now)) }
-    ensures shorter { IfOk result (λ x. length x.1.now < length tokens.now) }
+        Gives result bytes tokens.now expression_tree (IsChain room.levels 0) }
+    ensures shorter { Shortens result tokens.now }
     ensures counted { IfOk result (λ x. room.beyond ≤ length x.1.now) }
-    ensures reads { (bytes : List ℕ) (start : ℕ) → room.beyond ≡ start - 1024 →
-        IfOk result (λ x. Reads (inner start (operand room.levels) ∷ []) []
-        (placed_tokens bytes tokens.now) (placed_tokens bytes x.1.now)) }
+    ensures reads { (bytes : List ℕ) →
+        LeadsIn result bytes tokens.now room.beyond (operand room.levels ∷ []) [] }
     ensures halts { (bytes : List ℕ) (start : ℕ) → room.beyond ≡ start - 1024 →
         NextIsNumber (placed_tokens bytes tokens.now) →
-        IfErr result (λ e. HaltsAs (inner start (operand room.levels) ∷ [])
-        (placed_tokens bytes tokens.now) e) }
+        HaltsBy result bytes tokens.now (inner start (operand room.levels) ∷ []) }
 {
     let (value, place, rest) = read_number(tokens)?;
     room.count(tokens)?;
@@ -150,24 +120,14 @@ fn read_literal(room: Room, tokens: &[Token]) -> Result<(Expr, &[Token]), Stop>
 
 // An expression in parentheses.
 #[cycle(expression)]
-fn read_group<'a>(
-    alloc: Global,
-    bytes: &[u8],
-    room: Room,
-    tokens: &'a [Token],
-) -> Result<(Expr, &'a [Token]), Stop>
-    ensures is { IfOk result (λ x.
-        IsChain room.levels 0 (expression_tree x.0) (placed_tokens bytes.now tokens.now)
-        (placed_tokens bytes.now x.1.now)) }
-    ensures shorter { IfOk result (λ x. length x.1.now < length tokens.now) }
+fn read_group<'a>(alloc: Global, bytes: &[u8], room: Room, tokens: &'a [Token]) -> Read<'a, Expr>
+    ensures is { Gives result bytes.now tokens.now expression_tree (IsChain room.levels 0) }
+    ensures shorter { Shortens result tokens.now }
     ensures counted { IfOk result (λ x. room.beyond ≤ length x.1.now) }
-    ensures reads { (start : ℕ) → room.beyond ≡ start - 1024 →
-        IfOk result (λ x. Reads (inner start (operand room.levels) ∷ []) []
-        (placed_tokens bytes.now tokens.now) (placed_tokens bytes.now x.1.now)) }
+    ensures reads { LeadsIn result bytes.now tokens.now room.beyond (operand room.levels ∷ []) [] }
     ensures halts { (start : ℕ) → room.beyond ≡ start - 1024 →
         NextIsSign SignKind.OpenParenthesis (placed_tokens bytes.now tokens.now) →
-        IfErr result (λ e. HaltsAs (inner start (operand room.levels) ∷ [])
-        (placed_tokens bytes.now tokens.now) e) }
+        HaltsBy result bytes.now tokens.now (inner start (operand room.levels) ∷ []) }
 {
     let rest = expect_sign(SignKind::OpenParenthesis, tokens)?;
     let inside = room.opened(tokens)?;
@@ -178,24 +138,14 @@ fn read_group<'a>(
 
 // An operator, which has to be one before an operand, with its operand.
 #[cycle(expression)]
-fn read_prefixed<'a>(
-    alloc: Global,
-    bytes: &[u8],
-    room: Room,
-    tokens: &'a [Token],
-) -> Result<(Expr, &'a [Token]), Stop>
-    ensures is { IfOk result (λ x.
-        IsChain room.levels 0 (expression_tree x.0) (placed_tokens bytes.now tokens.now)
-        (placed_tokens bytes.now x.1.now)) }
-    ensures shorter { IfOk result (λ x. length x.1.now < length tokens.now) }
+fn read_prefixed<'a>(alloc: Global, bytes: &[u8], room: Room, tokens: &'a [Token]) -> Read<'a, Expr>
+    ensures is { Gives result bytes.now tokens.now expression_tree (IsChain room.levels 0) }
+    ensures shorter { Shortens result tokens.now }
     ensures counted { IfOk result (λ x. room.beyond ≤ length x.1.now) }
-    ensures reads { (start : ℕ) → room.beyond ≡ start - 1024 →
-        IfOk result (λ x. Reads (inner start (operand room.levels) ∷ []) []
-        (placed_tokens bytes.now tokens.now) (placed_tokens bytes.now x.1.now)) }
+    ensures reads { LeadsIn result bytes.now tokens.now room.beyond (operand room.levels ∷ []) [] }
     ensures halts { (start : ℕ) → room.beyond ≡ start - 1024 →
         NextIsAnyOperator (placed_tokens bytes.now tokens.now) →
-        IfErr result (λ e. HaltsAs (inner start (operand room.levels) ∷ [])
-        (placed_tokens bytes.now tokens.now) e) }
+        HaltsBy result bytes.now tokens.now (inner start (operand room.levels) ∷ []) }
 {
     let Some((op, place, rest)) = unary_at(tokens) else {
         return Err(unexpected(tokens));
@@ -207,24 +157,14 @@ fn read_prefixed<'a>(
 
 // A name, with or without a bit or a part of it.
 #[cycle(expression)]
-fn read_named<'a>(
-    alloc: Global,
-    bytes: &[u8],
-    room: Room,
-    tokens: &'a [Token],
-) -> Result<(Expr, &'a [Token]), Stop>
-    ensures is { IfOk result (λ x.
-        IsChain room.levels 0 (expression_tree x.0) (placed_tokens bytes.now tokens.now)
-        (placed_tokens bytes.now x.1.now)) }
-    ensures shorter { IfOk result (λ x. length x.1.now < length tokens.now) }
+fn read_named<'a>(alloc: Global, bytes: &[u8], room: Room, tokens: &'a [Token]) -> Read<'a, Expr>
+    ensures is { Gives result bytes.now tokens.now expression_tree (IsChain room.levels 0) }
+    ensures shorter { Shortens result tokens.now }
     ensures counted { IfOk result (λ x. room.beyond ≤ length x.1.now) }
-    ensures reads { (start : ℕ) → room.beyond ≡ start - 1024 →
-        IfOk result (λ x. Reads (inner start (operand room.levels) ∷ []) []
-        (placed_tokens bytes.now tokens.now) (placed_tokens bytes.now x.1.now)) }
+    ensures reads { LeadsIn result bytes.now tokens.now room.beyond (operand room.levels ∷ []) [] }
     ensures halts { (start : ℕ) → room.beyond ≡ start - 1024 →
         NextIsAnyName (placed_tokens bytes.now tokens.now) →
-        IfErr result (λ e. HaltsAs (inner start (operand room.levels) ∷ [])
-        (placed_tokens bytes.now tokens.now) e) }
+        HaltsBy result bytes.now tokens.now (inner start (operand room.levels) ∷ []) }
 {
     let (name, place, rest) = read_name(alloc, bytes, tokens)?;
     room.count(tokens)?;
@@ -248,8 +188,8 @@ fn read_bounds<'a>(
     tokens: &'a [Token],
 ) -> Result<(Expr, Option<Expr>, &'a [Token]), Stop>
     ensures is { IfOk result (λ x.
-        IsBounded room.levels (expression_tree x.0) (option_map expression_tree x.1)
-        (placed_tokens bytes.now tokens.now) (placed_tokens bytes.now x.2.now)) }
+        Stands (IsBounded room.levels (expression_tree x.0) (option_map expression_tree x.1))
+        bytes.now tokens.now x.2.now) }
     ensures shorter { IfOk result (λ x. length x.2.now < length tokens.now) }
     ensures counted { IfOk result (λ x. room.beyond ≤ length x.2.now) }
     ensures reads { (start : ℕ) → room.beyond ≡ start - 1024 →
@@ -257,10 +197,8 @@ fn read_bounds<'a>(
         (inner start (operand room.levels) ∷ inner start (tail room.levels) ∷
         inner start (selection_end room.levels) ∷ []) [] (placed_tokens bytes.now tokens.now)
         (placed_tokens bytes.now x.2.now)) }
-    ensures halts { (start : ℕ) → room.beyond ≡ start - 1024 →
-        IfErr result (λ e. HaltsAs
-        (inner start (operand room.levels) ∷ inner start (tail room.levels) ∷
-        inner start (selection_end room.levels) ∷ []) (placed_tokens bytes.now tokens.now) e) }
+    ensures halts { HaltsIn result bytes.now tokens.now room.beyond
+        (operand room.levels ∷ tail room.levels ∷ selection_end room.levels ∷ []) }
 {
     let (first, rest) = read_inner(alloc, bytes, room, tokens)?;
     if let Some(after) = behind(SignKind::CloseBracket, rest) {
@@ -275,24 +213,14 @@ fn read_bounds<'a>(
 
 // A join or a replication.
 #[cycle(expression)]
-fn read_braces<'a>(
-    alloc: Global,
-    bytes: &[u8],
-    room: Room,
-    tokens: &'a [Token],
-) -> Result<(Expr, &'a [Token]), Stop>
-    ensures is { IfOk result (λ x.
-        IsChain room.levels 0 (expression_tree x.0) (placed_tokens bytes.now tokens.now)
-        (placed_tokens bytes.now x.1.now)) }
-    ensures shorter { IfOk result (λ x. length x.1.now < length tokens.now) }
+fn read_braces<'a>(alloc: Global, bytes: &[u8], room: Room, tokens: &'a [Token]) -> Read<'a, Expr>
+    ensures is { Gives result bytes.now tokens.now expression_tree (IsChain room.levels 0) }
+    ensures shorter { Shortens result tokens.now }
     ensures counted { IfOk result (λ x. room.beyond ≤ length x.1.now) }
-    ensures reads { (start : ℕ) → room.beyond ≡ start - 1024 →
-        IfOk result (λ x. Reads (inner start (operand room.levels) ∷ []) []
-        (placed_tokens bytes.now tokens.now) (placed_tokens bytes.now x.1.now)) }
+    ensures reads { LeadsIn result bytes.now tokens.now room.beyond (operand room.levels ∷ []) [] }
     ensures halts { (start : ℕ) → room.beyond ≡ start - 1024 →
         NextIsSign SignKind.OpenBrace (placed_tokens bytes.now tokens.now) →
-        IfErr result (λ e. HaltsAs (inner start (operand room.levels) ∷ [])
-        (placed_tokens bytes.now tokens.now) e) }
+        HaltsBy result bytes.now tokens.now (inner start (operand room.levels) ∷ []) }
 {
     let Some((place, rest)) = sign_at(SignKind::OpenBrace, tokens) else {
         return Err(unexpected(tokens));
@@ -316,22 +244,15 @@ fn read_repeated<'a>(
     bytes: &[u8],
     room: Room,
     tokens: &'a [Token],
-) -> Result<(Vec<Expr>, &'a [Token]), Stop>
-    ensures is { IfOk result (λ x.
-        IsRepeated room.levels (expression_trees x.0.items) (placed_tokens bytes.now tokens.now)
-        (placed_tokens bytes.now x.1.now)) }
-    ensures shorter { IfOk result (λ x. length x.1.now < length tokens.now) }
+) -> Read<'a, Vec<Expr>>
+    ensures is { GivesAs result bytes.now tokens.now (λ x.
+        IsRepeated room.levels (expression_trees x.items)) }
+    ensures shorter { Shortens result tokens.now }
     ensures counted { IfOk result (λ x. room.beyond ≤ length x.1.now) }
-    ensures reads { (start : ℕ) → room.beyond ≡ start - 1024 →
-        IfOk result (λ x. Reads
-        (inner start (operand room.levels) ∷ inner start (tail room.levels) ∷
-        inner start (members room.levels) ∷ inner start inner_brace ∷ []) []
-        (placed_tokens bytes.now tokens.now) (placed_tokens bytes.now x.1.now)) }
-    ensures halts { (start : ℕ) → room.beyond ≡ start - 1024 →
-        IfErr result (λ e. HaltsAs
-        (inner start (operand room.levels) ∷ inner start (tail room.levels) ∷
-        inner start (members room.levels) ∷ inner start inner_brace ∷ [])
-        (placed_tokens bytes.now tokens.now) e) }
+    ensures reads { LeadsIn result bytes.now tokens.now room.beyond
+        (operand room.levels ∷ tail room.levels ∷ members room.levels ∷ inner_brace ∷ []) [] }
+    ensures halts { HaltsIn result bytes.now tokens.now room.beyond
+        (operand room.levels ∷ tail room.levels ∷ members room.levels ∷ inner_brace ∷ []) }
 {
     let (first, rest) = read_inner(alloc, bytes, room, tokens)?;
     let (parts, rest) = read_later_parts(alloc, bytes, room, first, rest)?;
@@ -348,18 +269,13 @@ fn read_later_parts<'a>(
     room: Room,
     first: Expr,
     tokens: &'a [Token],
-) -> Result<(Vec<Expr>, &'a [Token]), Stop>
-    ensures is { IfOk result (λ x.
-        AreLaterParts room.levels (expression_tree first) (expression_trees x.0.items)
-        (placed_tokens bytes.now tokens.now) (placed_tokens bytes.now x.1.now)) }
-    ensures shorter { IfOk result (λ x. length x.1.now ≤ length tokens.now) }
-    ensures reads { (start : ℕ) → room.beyond ≡ start - 1024 →
-        IfOk result (λ x. Reads (inner start (members room.levels) ∷ [])
-        (inner start (members room.levels) ∷ []) (placed_tokens bytes.now tokens.now)
-        (placed_tokens bytes.now x.1.now)) }
-    ensures halts { (start : ℕ) → room.beyond ≡ start - 1024 →
-        IfErr result (λ e. HaltsAs (inner start (members room.levels) ∷ [])
-        (placed_tokens bytes.now tokens.now) e) }
+) -> Read<'a, Vec<Expr>>
+    ensures is { GivesAs result bytes.now tokens.now (λ x.
+        AreLaterParts room.levels (expression_tree first) (expression_trees x.items)) }
+    ensures shorter { NoLonger result tokens.now }
+    ensures reads { LeadsIn result bytes.now tokens.now room.beyond
+        (members room.levels ∷ []) (members room.levels ∷ []) }
+    ensures halts { HaltsIn result bytes.now tokens.now room.beyond (members room.levels ∷ []) }
     ensures ends { IfOk result (λ x.
         NextIsNotSign SignKind.Comma (placed_tokens bytes.now x.1.now)) }
 {
@@ -382,16 +298,12 @@ pub fn read_expression<'a>(
     bytes: &[u8],
     levels: usize,
     tokens: &'a [Token],
-) -> Result<(Expr, &'a [Token]), Stop>
-    ensures is { IfOk result (λ x.
-        IsExpression all_limits levels (expression_tree x.0) (placed_tokens bytes.now tokens.now)
-        (placed_tokens bytes.now x.1.now)) }
-    ensures shorter { IfOk result (λ x. length x.1.now < length tokens.now) }
-    ensures reads { IfOk result (λ x.
-        Reads (outer (expression levels) ∷ []) [] (placed_tokens bytes.now tokens.now)
-        (placed_tokens bytes.now x.1.now)) }
-    ensures halts { IfErr result (λ e.
-        HaltsAs (outer (expression levels) ∷ []) (placed_tokens bytes.now tokens.now) e) }
+) -> Read<'a, Expr>
+    ensures is { Gives result bytes.now tokens.now expression_tree
+        (IsExpression all_limits levels) }
+    ensures shorter { Shortens result tokens.now }
+    ensures reads { Leads result bytes.now tokens.now (expression levels ∷ []) [] }
+    ensures halts { HaltsOn result bytes.now tokens.now (expression levels ∷ []) }
 {
     let room = Room::of(levels, tokens);
     let (expr, rest) = read_inner(alloc, bytes, room, tokens)?;
@@ -404,12 +316,11 @@ pub fn read_expression_too_many<'a>(
     bytes: &[u8],
     levels: usize,
     tokens: &'a [Token],
-) -> Result<(Expr, &'a [Token]), Stop>
+) -> Read<'a, Expr>
     ensures never { IfOk result (λ x. ⊥) }
-    ensures halts { IfErr result (λ e.
-        HaltsAs (inner (length tokens.now + 1024) (operand levels) ∷
-        inner (length tokens.now + 1024) (tail levels) ∷ [])
-        (placed_tokens bytes.now tokens.now) e) }
+    ensures halts { HaltsBy result bytes.now tokens.now
+        (inner (length tokens.now + 1024) (operand levels) ∷
+        inner (length tokens.now + 1024) (tail levels) ∷ []) }
 {
     read_inner(alloc, bytes, Room::none(levels, tokens), tokens)
 }
@@ -420,19 +331,16 @@ pub fn read_in_parentheses<'a>(
     bytes: &[u8],
     levels: usize,
     tokens: &'a [Token],
-) -> Result<(Expr, &'a [Token]), Stop>
-    ensures is { IfOk result (λ x.
-        in_parentheses (IsExpression all_limits levels (expression_tree x.0))
-        (placed_tokens bytes.now tokens.now) (placed_tokens bytes.now x.1.now)) }
-    ensures shorter { IfOk result (λ x. length x.1.now < length tokens.now) }
-    ensures reads { IfOk result (λ x.
-        Reads (outer (punctuation SignKind.OpenParenthesis) ∷ outer (expression levels) ∷
-        outer (punctuation SignKind.CloseParenthesis) ∷ []) [] (placed_tokens bytes.now tokens.now)
-        (placed_tokens bytes.now x.1.now)) }
-    ensures halts { IfErr result (λ e.
-        HaltsAs (outer (punctuation SignKind.OpenParenthesis) ∷ outer (expression levels) ∷
-        outer (punctuation SignKind.CloseParenthesis) ∷ [])
-        (placed_tokens bytes.now tokens.now) e) }
+) -> Read<'a, Expr>
+    ensures is { GivesAs result bytes.now tokens.now (λ x.
+        in_parentheses (IsExpression all_limits levels (expression_tree x))) }
+    ensures shorter { Shortens result tokens.now }
+    ensures reads { Leads result bytes.now tokens.now
+        (punctuation SignKind.OpenParenthesis ∷ expression levels ∷
+        punctuation SignKind.CloseParenthesis ∷ []) [] }
+    ensures halts { HaltsOn result bytes.now tokens.now
+        (punctuation SignKind.OpenParenthesis ∷ expression levels ∷
+        punctuation SignKind.CloseParenthesis ∷ []) }
 {
     let rest = expect_sign(SignKind::OpenParenthesis, tokens)?;
     let (expr, rest) = read_expression(alloc, bytes, levels, rest)?;

@@ -1,6 +1,5 @@
 // Lists of members with commas between them.
-ghost use Rattle.std.specs.Prelude.{◌≡◌, ◌<◌, ◌≤◌, ℕ, List, [], ◌∷◌, ◌++◌, length, map, IfOk};
-ghost use Rattle.std.specs.Prelude.{IfErr};
+ghost use Rattle.std.specs.Prelude.{◌≡◌, ℕ, List, [], ◌∷◌, ◌++◌, IfOk};
 ghost use Rattle.sv_token.specs.Lexemes.{Placed, placed_tokens};
 ghost use Rattle.sv_ast.specs.Tree.{ExpressionTree};
 ghost use Rattle.sv_ast.specs.Views.{expression_tree};
@@ -9,12 +8,12 @@ ghost use Rattle.sv_ast.specs.GrammarExpressions.{IsExpression};
 ghost use Rattle.sv_ast.specs.GrammarRules.{all_limits};
 ghost use Rattle.sv_parse_expr.specs.Reading.{AreLater};
 ghost use Rattle.sv_parse_machine.specs.Symbols.{State, outer, expression};
-ghost use Rattle.sv_parse_machine.specs.Reads.{Reads, GoesOn, NextIsNotSign};
-ghost use Rattle.sv_parse_expr.specs.Expectations.{HaltsAs};
+ghost use Rattle.sv_parse_machine.specs.Reads.{GoesOn, NextIsNotSign};
+ghost use Rattle.sv_parse_expr.specs.Parses.{Gives, GivesAll, Shortens, NoLonger, LeadsBy, HaltsBy};
 
 use crate::cursor::behind;
 use crate::expressions::read_expression;
-use crate::stop::Stop;
+use crate::stop::Read;
 use std::alloc::{AllocError, Global};
 use sv_ast::Expr;
 use sv_token::{SignKind, Token};
@@ -46,16 +45,13 @@ pub trait Listed {
         bytes: &[u8],
         levels: usize,
         tokens: &'a [Token],
-    ) -> Result<(Self::Item, &'a [Token]), Stop>
-        ensures is { IfOk result (λ x.
-            First levels (tree x.0) (placed_tokens bytes.now tokens.now)
-            (placed_tokens bytes.now x.1.now)) }
+    ) -> Read<'a, Self::Item>
+        ensures is { Gives result bytes.now tokens.now tree (First levels) }
         ensures reads { Begins (placed_tokens bytes.now tokens.now) →
-            IfOk result (λ x. Reads (start levels) (behind levels)
-            (placed_tokens bytes.now tokens.now) (placed_tokens bytes.now x.1.now)) }
+            LeadsBy result bytes.now tokens.now (start levels) (behind levels) }
         ensures halts { Begins (placed_tokens bytes.now tokens.now) →
-            IfErr result (λ e. HaltsAs (start levels) (placed_tokens bytes.now tokens.now) e) }
-        ensures shorter { IfOk result (λ x. length x.1.now < length tokens.now) };
+            HaltsBy result bytes.now tokens.now (start levels) }
+        ensures shorter { Shortens result tokens.now };
 
     /// A member behind another one, and the tokens behind it.
     fn later<'a>(
@@ -64,16 +60,11 @@ pub trait Listed {
         levels: usize,
         before: &Self::Item,
         tokens: &'a [Token],
-    ) -> Result<(Self::Item, &'a [Token]), Stop>
-        ensures reads { IfOk result (λ x.
-            Reads (next levels) [] (placed_tokens bytes.now tokens.now)
-            (placed_tokens bytes.now x.1.now)) }
-        ensures halts { IfErr result (λ e.
-            HaltsAs (next levels) (placed_tokens bytes.now tokens.now) e) }
-        ensures is { IfOk result (λ x.
-            Later levels (tree before.now) (tree x.0) (placed_tokens bytes.now tokens.now)
-            (placed_tokens bytes.now x.1.now)) }
-        ensures shorter { IfOk result (λ x. length x.1.now < length tokens.now) };
+    ) -> Read<'a, Self::Item>
+        ensures reads { LeadsBy result bytes.now tokens.now (next levels) [] }
+        ensures halts { HaltsBy result bytes.now tokens.now (next levels) }
+        ensures is { Gives result bytes.now tokens.now tree (Later levels (tree before.now)) }
+        ensures shorter { Shortens result tokens.now };
 }
 
 /// A list of one member.
@@ -92,16 +83,14 @@ pub fn read_list_from<'a, M: Listed>(
     levels: usize,
     first: M::Item,
     tokens: &'a [Token],
-) -> Result<(Vec<M::Item>, &'a [Token]), Stop>
-    ensures is { IfOk result (λ x.
-        AreLater M.Tree (M.Later levels) (M.tree first) (map M.tree x.0.items)
-        (placed_tokens bytes.now tokens.now) (placed_tokens bytes.now x.1.now)) }
-    ensures shorter { IfOk result (λ x. length x.1.now ≤ length tokens.now) }
+) -> Read<'a, Vec<M::Item>>
+    ensures is { GivesAll result bytes.now tokens.now M.tree
+        (AreLater M.Tree (M.Later levels) (M.tree first)) }
+    ensures shorter { NoLonger result tokens.now }
     ensures reads { (more : State) → GoesOn more (M.next levels) →
-        IfOk result (λ x. Reads more more (placed_tokens bytes.now tokens.now)
-        (placed_tokens bytes.now x.1.now)) }
+        LeadsBy result bytes.now tokens.now more more }
     ensures halts { (more : State) → GoesOn more (M.next levels) →
-        IfErr result (λ e. HaltsAs more (placed_tokens bytes.now tokens.now) e) }
+        HaltsBy result bytes.now tokens.now more }
     ensures ends { IfOk result (λ x.
         NextIsNotSign SignKind.Comma (placed_tokens bytes.now x.1.now)) }
 {
@@ -124,19 +113,16 @@ pub fn read_list<'a, M: Listed>(
     bytes: &[u8],
     levels: usize,
     tokens: &'a [Token],
-) -> Result<(Vec<M::Item>, &'a [Token]), Stop>
-    ensures is { IfOk result (λ x.
-        listed (M.First levels) (M.Later levels) (map M.tree x.0.items)
-        (placed_tokens bytes.now tokens.now) (placed_tokens bytes.now x.1.now)) }
-    ensures shorter { IfOk result (λ x. length x.1.now < length tokens.now) }
+) -> Read<'a, Vec<M::Item>>
+    ensures is { GivesAll result bytes.now tokens.now M.tree
+        (listed (M.First levels) (M.Later levels)) }
+    ensures shorter { Shortens result tokens.now }
     ensures reads { (more others : State) → GoesOn more (M.next levels) →
         M.behind levels ++ others ≡ more → M.Begins (placed_tokens bytes.now tokens.now) →
-        IfOk result (λ x. Reads (M.start levels ++ others) more (placed_tokens bytes.now tokens.now)
-        (placed_tokens bytes.now x.1.now)) }
+        LeadsBy result bytes.now tokens.now (M.start levels ++ others) more }
     ensures halts { (more others : State) → GoesOn more (M.next levels) →
         M.behind levels ++ others ≡ more → M.Begins (placed_tokens bytes.now tokens.now) →
-        IfErr result (λ e. HaltsAs (M.start levels ++ others)
-        (placed_tokens bytes.now tokens.now) e) }
+        HaltsBy result bytes.now tokens.now (M.start levels ++ others) }
     ensures ends { IfOk result (λ x.
         NextIsNotSign SignKind.Comma (placed_tokens bytes.now x.1.now)) }
 {
@@ -172,7 +158,7 @@ impl Listed for Expressions {
         bytes: &[u8],
         levels: usize,
         tokens: &'a [Token],
-    ) -> Result<(Expr, &'a [Token]), Stop> {
+    ) -> Read<'a, Expr> {
         read_expression(alloc, bytes, levels, tokens)
     }
 
@@ -182,7 +168,7 @@ impl Listed for Expressions {
         levels: usize,
         _before: &Expr,
         tokens: &'a [Token],
-    ) -> Result<(Expr, &'a [Token]), Stop> {
+    ) -> Read<'a, Expr> {
         read_expression(alloc, bytes, levels, tokens)
     }
 }

@@ -5,7 +5,7 @@ ghost use Rattle.sv_token.specs.Lexemes.{placed_tokens};
 ghost use Rattle.sv_ast.specs.GrammarForms.{a_sign};
 ghost use Rattle.sv_parse_machine.specs.Symbols.{Inner, inner};
 ghost use Rattle.sv_parse_machine.specs.Reads.{Reads, NextTakes, Closes};
-ghost use Rattle.sv_parse_expr.specs.Expectations.{HaltsAs};
+ghost use Rattle.sv_parse_expr.specs.Parses.{Stands, HaltsBy};
 
 use crate::cursor::expect_sign;
 use crate::stop::{Breach, Stop};
@@ -72,7 +72,7 @@ impl Room {
         ensures long { IfErr result (λ e. length tokens.now ≤ self.beyond) }
         ensures halts { (bytes : List ℕ) (start : ℕ) (s : Inner) (xs : List Inner) →
             self.beyond ≡ start - 1024 → NextTakes s 0 xs (placed_tokens bytes tokens.now) →
-            IfErr result (λ e. HaltsAs (inner start s ∷ []) (placed_tokens bytes tokens.now) e) }
+            HaltsBy result bytes tokens.now (inner start s ∷ []) }
     {
         if self.beyond < tokens.len() {
             Ok(())
@@ -91,7 +91,7 @@ impl Room {
         ensures halts { (bytes : List ℕ) (start : ℕ) (s : Inner) (xs : List Inner) →
             self.beyond ≡ start - 1024 →
             NextTakes s (self.levels + 1) xs (placed_tokens bytes tokens.now) →
-            IfErr result (λ e. HaltsAs (inner start s ∷ []) (placed_tokens bytes tokens.now) e) }
+            HaltsBy result bytes tokens.now (inner start s ∷ []) }
     {
         let levels = deeper(self.levels, tokens)?;
         self.count(tokens)?;
@@ -104,8 +104,7 @@ impl Room {
     /// The tokens behind this punctuation of the expression, which has to come.
     pub fn expect(self, sign: SignKind, tokens: &[Token]) -> Result<&[Token], Stop>
         ensures is { (bytes : List ℕ) →
-            IfOk result (λ rest.
-            a_sign sign (placed_tokens bytes tokens.now) (placed_tokens bytes rest.now)) }
+            IfOk result (λ rest. Stands (a_sign sign) bytes tokens.now rest.now) }
         ensures one { IfOk result (λ rest. length tokens.now ≡ length rest.now + 1) }
         ensures counted { IfOk result (λ rest. self.beyond ≤ length rest.now) }
         ensures reads { (bytes : List ℕ) (start : ℕ) (s : Inner) → self.beyond ≡ start - 1024 →
@@ -113,8 +112,8 @@ impl Room {
             Reads (inner start s ∷ []) [] (placed_tokens bytes tokens.now)
             (placed_tokens bytes rest.now)) }
         ensures halts { (bytes : List ℕ) (start : ℕ) (s : Inner) → self.beyond ≡ start - 1024 →
-            Closes sign s → IfErr result (λ e.
-            HaltsAs (inner start s ∷ []) (placed_tokens bytes tokens.now) e) }
+            Closes sign s →
+            HaltsBy result bytes tokens.now (inner start s ∷ []) }
     {
         let rest = expect_sign(sign, tokens)?;
         self.count(tokens)?;

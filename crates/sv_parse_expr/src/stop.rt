@@ -3,6 +3,7 @@ ghost use Rattle.std.specs.Prelude.{◌≡◌};
 ghost use Rattle.sv_parse_expr.specs.declared.stop.Stop.TheVariants.{OutOfMemory};
 
 use std::alloc::{AllocError, AllocFailed};
+use sv_token::Token;
 
 /// What may begin at a token with which no text goes on.
 #[derive(Clone, Copy, Debug, PartialEq, Eq)]
@@ -41,6 +42,9 @@ pub enum Stop {
     /// The allocator gave out no more memory.
     OutOfMemory,
 }
+
+/// What is read, and the tokens behind it; or why reading stops.
+pub type Read<'a, T> = Result<(T, &'a [Token]), Stop>;
 
 impl From<AllocError> for Stop {
     ghost from_gives = { λ _ stop. stop ≡ OutOfMemory };

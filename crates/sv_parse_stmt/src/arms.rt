@@ -1,6 +1,6 @@
 // What stands before the statement of an arm (IEEE 1364-2005, clause 9.5).
 ghost use Rattle.std.specs.Prelude.{◌≡◌, ◌+◌, ◌<◌, ◌≤◌, Bool, true, false, ◌||◌, ℕ, List, length};
-ghost use Rattle.std.specs.Prelude.{IfOk, IfErr, OnOk, [], ◌∷◌};
+ghost use Rattle.std.specs.Prelude.{IfOk, OnOk, [], ◌∷◌};
 ghost use Rattle.sv_token.specs.Lexemes.{placed_tokens};
 ghost use Rattle.sv_token.specs.declared.signs.SignKind.TheVariants as signs;
 ghost use Rattle.sv_token.specs.declared.keywords.WordKind.TheVariants as words;
@@ -9,9 +9,11 @@ ghost use Rattle.sv_ast.specs.GrammarForms.{◌⨾◌, a_sign, word_at, commas, 
 ghost use Rattle.sv_ast.specs.GrammarExpressions.{IsExpression};
 ghost use Rattle.sv_ast.specs.GrammarStatements.{IsNext, IsArmHead, is_default};
 ghost use Rattle.sv_ast.specs.GrammarRules.{all_limits};
-ghost use Rattle.sv_parse_machine.specs.Symbols.{outer, statement, arms, more_choices, perhaps_colon};
+ghost use Rattle.sv_parse_machine.specs.Symbols.{outer, statement, arms, more_choices};
+ghost use Rattle.sv_parse_machine.specs.Symbols.{perhaps_colon};
 ghost use Rattle.sv_parse_machine.specs.Reads.{Reads, NextIsNotWord};
-ghost use Rattle.sv_parse_expr.specs.Expectations.{HaltsAs};
+ghost use Rattle.sv_parse_expr.specs.Parses.{Stands, Comes, GivesAs, Gives, Shortens, LeadsBy};
+ghost use Rattle.sv_parse_expr.specs.Parses.{HaltsOn};
 ghost use Rattle.sv_parse_stmt.specs.ReadingArms.{ArmComes, behind_arm, behind_items};
 
 use std::alloc::Global;
@@ -21,7 +23,7 @@ use sv_parse_expr::cursor::{behind, expect_sign, unexpected, word_at};
 use sv_parse_expr::expressions::{read_expression, read_expression_too_many};
 use sv_parse_expr::lists::{Expressions, read_list_from};
 use sv_parse_expr::room::MOST_ARMS;
-use sv_parse_expr::stop::{Breach, Stop};
+use sv_parse_expr::stop::{Breach, Read, Stop};
 use sv_token::{SignKind, Token, WordKind};
 
 // The first item of an arm behind so many others.
@@ -31,21 +33,18 @@ fn read_first_item<'a>(
     levels: usize,
     before: usize,
     tokens: &'a [Token],
-) -> Result<(Expr, &'a [Token]), Stop>
-    ensures is { IfOk result (λ x.
-        IsExpression all_limits levels (expression_tree x.0) (placed_tokens bytes.now tokens.now)
-        (placed_tokens bytes.now x.1.now)) }
-    ensures shorter { IfOk result (λ x. length x.1.now < length tokens.now) }
+) -> Read<'a, Expr>
+    ensures is { Gives result bytes.now tokens.now expression_tree
+        (IsExpression all_limits levels) }
+    ensures shorter { Shortens result tokens.now }
     ensures few { OnOk result (before + 1 ≤ 256) }
     ensures reads { (default : Bool) → ArmComes before (placed_tokens bytes.now tokens.now) →
         NextIsNotWord words.Default (placed_tokens bytes.now tokens.now) →
-        IfOk result (λ x. Reads (outer (arms levels before default) ∷ [])
-        (behind_items levels before default) (placed_tokens bytes.now tokens.now)
-        (placed_tokens bytes.now x.1.now)) }
+        LeadsBy result bytes.now tokens.now
+        (outer (arms levels before default) ∷ []) (behind_items levels before default) }
     ensures halts { (default : Bool) → ArmComes before (placed_tokens bytes.now tokens.now) →
         NextIsNotWord words.Default (placed_tokens bytes.now tokens.now) →
-        IfErr result (λ e. HaltsAs (outer (arms levels before default) ∷ [])
-        (placed_tokens bytes.now tokens.now) e) }
+        HaltsOn result bytes.now tokens.now (arms levels before default ∷ []) }
 {
     if before < MOST_ARMS {
         let (item, rest) = read_expression(alloc, bytes, levels, tokens)?;
@@ -62,21 +61,18 @@ fn read_items<'a>(
     levels: usize,
     before: usize,
     tokens: &'a [Token],
-) -> Result<(Vec<Expr>, &'a [Token]), Stop>
-    ensures is { IfOk result (λ x.
-        (commas (IsExpression all_limits levels) (expression_trees x.0.items) ⨾ a_sign signs.Colon)
-        (placed_tokens bytes.now tokens.now) (placed_tokens bytes.now x.1.now)) }
-    ensures shorter { IfOk result (λ x. length x.1.now < length tokens.now) }
+) -> Read<'a, Vec<Expr>>
+    ensures is { GivesAs result bytes.now tokens.now (λ x.
+        commas (IsExpression all_limits levels) (expression_trees x.items) ⨾ a_sign signs.Colon) }
+    ensures shorter { Shortens result tokens.now }
     ensures few { OnOk result (before + 1 ≤ 256) }
     ensures reads { (default : Bool) → ArmComes before (placed_tokens bytes.now tokens.now) →
         NextIsNotWord words.Default (placed_tokens bytes.now tokens.now) →
-        IfOk result (λ x. Reads (outer (arms levels before default) ∷ [])
-        (behind_arm levels before default) (placed_tokens bytes.now tokens.now)
-        (placed_tokens bytes.now x.1.now)) }
+        LeadsBy result bytes.now tokens.now
+        (outer (arms levels before default) ∷ []) (behind_arm levels before default) }
     ensures halts { (default : Bool) → ArmComes before (placed_tokens bytes.now tokens.now) →
         NextIsNotWord words.Default (placed_tokens bytes.now tokens.now) →
-        IfErr result (λ e. HaltsAs (outer (arms levels before default) ∷ [])
-        (placed_tokens bytes.now tokens.now) e) }
+        HaltsOn result bytes.now tokens.now (arms levels before default ∷ []) }
 {
     let (first, rest) = read_first_item(alloc, bytes, levels, before, tokens)?;
     let (items, rest) = read_list_from::<Expressions>(alloc, bytes, levels, first, rest)?;
@@ -93,8 +89,8 @@ fn read_placed_items<'a>(
     tokens: &'a [Token],
 ) -> Result<(Place, Vec<Expr>, &'a [Token]), Stop>
     ensures is { IfOk result (λ x.
-        IsArmHead all_limits levels false x.0 (expression_trees x.1.items)
-        (placed_tokens bytes.now tokens.now) (placed_tokens bytes.now x.2.now)) }
+        Stands (IsArmHead all_limits levels false x.0 (expression_trees x.1.items))
+        bytes.now tokens.now x.2.now) }
     ensures shorter { IfOk result (λ x. length x.2.now < length tokens.now) }
     ensures few { OnOk result (before + 1 ≤ 256) }
     ensures items { IfOk result (λ x. is_default (expression_trees x.1.items) ≡ false) }
@@ -105,8 +101,7 @@ fn read_placed_items<'a>(
         (placed_tokens bytes.now x.2.now)) }
     ensures halts { (default : Bool) → ArmComes before (placed_tokens bytes.now tokens.now) →
         NextIsNotWord words.Default (placed_tokens bytes.now tokens.now) →
-        IfErr result (λ e. HaltsAs (outer (arms levels before default) ∷ [])
-        (placed_tokens bytes.now tokens.now) e) }
+        HaltsOn result bytes.now tokens.now (arms levels before default ∷ []) }
 {
     let [first, ..] = tokens else {
         return Err(unexpected(tokens));
@@ -118,12 +113,9 @@ fn read_placed_items<'a>(
 // The tokens behind the `:`, if one comes.
 fn behind_colon(tokens: &[Token]) -> &[Token]
     ensures is { (bytes : List ℕ) →
-        optional (a_sign signs.Colon) (placed_tokens bytes tokens.now)
-        (placed_tokens bytes result.now) }
+        Stands (optional (a_sign signs.Colon)) bytes tokens.now result.now }
     ensures shorter { length result.now ≤ length tokens.now }
-    ensures reads { (bytes : List ℕ) →
-        Reads (outer perhaps_colon ∷ []) [] (placed_tokens bytes tokens.now)
-        (placed_tokens bytes result.now) }
+    ensures reads { (bytes : List ℕ) → Comes (perhaps_colon ∷ []) [] bytes tokens.now result.now }
 {
     match behind(SignKind::Colon, tokens) {
         Some(rest) => rest,
@@ -137,8 +129,7 @@ fn allow_default(before: usize, has_default: bool, tokens: &[Token]) -> Result<(
     ensures first { OnOk result (has_default ≡ false) }
     ensures halts { (bytes : List ℕ) (n : ℕ) →
         IsNext words.Default (placed_tokens bytes tokens.now) →
-        IfErr result (λ e. HaltsAs (outer (arms n before has_default) ∷ [])
-        (placed_tokens bytes tokens.now) e) }
+        HaltsOn result bytes tokens.now (arms n before has_default ∷ []) }
 {
     if has_default {
         return Err(unexpected(tokens));
@@ -160,8 +151,8 @@ pub fn read_arm_head<'a>(
     tokens: &'a [Token],
 ) -> Result<(Place, Vec<Expr>, &'a [Token]), Stop>
     ensures is { IfOk result (λ x.
-        IsArmHead all_limits levels has_default x.0 (expression_trees x.1.items)
-        (placed_tokens bytes.now tokens.now) (placed_tokens bytes.now x.2.now)) }
+        Stands (IsArmHead all_limits levels has_default x.0 (expression_trees x.1.items))
+        bytes.now tokens.now x.2.now) }
     ensures shorter { IfOk result (λ x. length x.2.now < length tokens.now) }
     ensures few { OnOk result (before + 1 ≤ 256) }
     ensures reads { ArmComes before (placed_tokens bytes.now tokens.now) →
@@ -169,8 +160,7 @@ pub fn read_arm_head<'a>(
         (behind_arm levels before (has_default || is_default (expression_trees x.1.items)))
         (placed_tokens bytes.now tokens.now) (placed_tokens bytes.now x.2.now)) }
     ensures halts { ArmComes before (placed_tokens bytes.now tokens.now) →
-        IfErr result (λ e. HaltsAs (outer (arms levels before has_default) ∷ [])
-        (placed_tokens bytes.now tokens.now) e) }
+        HaltsOn result bytes.now tokens.now (arms levels before has_default ∷ []) }
 {
     match word_at(WordKind::Default, tokens) {
         Some((place, rest)) => {

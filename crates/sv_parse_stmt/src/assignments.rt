@@ -1,5 +1,5 @@
 // Items that begin with `assign` (IEEE 1364-2005, clause 6.1; releases are this project's profile).
-ghost use Rattle.std.specs.Prelude.{◌<◌, ◌≤◌, ℕ, List, length, map, IfOk, IfErr, [], ◌∷◌};
+ghost use Rattle.std.specs.Prelude.{◌<◌, ◌≤◌, ℕ, List, length, map, IfOk, [], ◌∷◌};
 ghost use Rattle.sv_token.specs.Lexemes.{placed_tokens};
 ghost use Rattle.sv_ast.specs.Tree.{TargetTree, ItemTree};
 ghost use Rattle.sv_ast.specs.Views.{target_tree, item_tree};
@@ -12,8 +12,9 @@ ghost use Rattle.sv_ast.specs.GrammarModules.{IsReleased};
 ghost use Rattle.sv_ast.specs.GrammarRules.{all_limits};
 ghost use Rattle.sv_parse_machine.specs.Symbols.{outer, punctuation, plain_name, expression, items};
 ghost use Rattle.sv_parse_machine.specs.Symbols.{assigned, later_assigned};
-ghost use Rattle.sv_parse_machine.specs.Reads.{Reads, NextIsNotSign};
-ghost use Rattle.sv_parse_expr.specs.Expectations.{HaltsAs};
+ghost use Rattle.sv_parse_machine.specs.Reads.{NextIsNotSign};
+ghost use Rattle.sv_parse_expr.specs.Parses.{GivesAs, Gives, GivesAll, Shortens, LeadsBy, Leads};
+ghost use Rattle.sv_parse_expr.specs.Parses.{HaltsBy, HaltsOn};
 ghost use Rattle.sv_parse_stmt.specs.ReadingAssignments.{AssignsTo, ReleasesAs, IsAssignEnd};
 ghost use Rattle.sv_parse_stmt.specs.ReadingAssignments.{behind_targets, behind_release};
 
@@ -25,24 +26,15 @@ use sv_num::{Name, Place};
 use sv_parse_expr::cursor::{behind, behind_word, expect_sign, expect_word, read_name};
 use sv_parse_expr::expressions::read_expression;
 use sv_parse_expr::lists::{Listed, one, read_list, read_list_from};
-use sv_parse_expr::stop::Stop;
+use sv_parse_expr::stop::Read;
 use sv_token::{SignKind, Token, WordKind};
 
 // A whole signal as target.
-fn read_whole_target<'a>(
-    alloc: Global,
-    bytes: &[u8],
-    tokens: &'a [Token],
-) -> Result<(Target, &'a [Token]), Stop>
-    ensures is { IfOk result (λ x.
-        IsWholeTarget (target_tree x.0) (placed_tokens bytes.now tokens.now)
-        (placed_tokens bytes.now x.1.now)) }
-    ensures shorter { IfOk result (λ x. length x.1.now < length tokens.now) }
-    ensures reads { IfOk result (λ x.
-        Reads (outer plain_name ∷ []) [] (placed_tokens bytes.now tokens.now)
-        (placed_tokens bytes.now x.1.now)) }
-    ensures halts { IfErr result (λ e.
-        HaltsAs (outer plain_name ∷ []) (placed_tokens bytes.now tokens.now) e) }
+fn read_whole_target<'a>(alloc: Global, bytes: &[u8], tokens: &'a [Token]) -> Read<'a, Target>
+    ensures is { Gives result bytes.now tokens.now target_tree IsWholeTarget }
+    ensures shorter { Shortens result tokens.now }
+    ensures reads { Leads result bytes.now tokens.now (plain_name ∷ []) [] }
+    ensures halts { HaltsOn result bytes.now tokens.now (plain_name ∷ []) }
 {
     let (name, place, rest) = read_name(alloc, bytes, tokens)?;
     let target = Target {
@@ -80,7 +72,7 @@ impl Listed for WholeTargets {
         bytes: &[u8],
         _open: usize,
         tokens: &'a [Token],
-    ) -> Result<(Target, &'a [Token]), Stop> {
+    ) -> Read<'a, Target> {
         read_whole_target(alloc, bytes, tokens)
     }
 
@@ -90,27 +82,18 @@ impl Listed for WholeTargets {
         _open: usize,
         _before: &Target,
         tokens: &'a [Token],
-    ) -> Result<(Target, &'a [Token]), Stop> {
+    ) -> Read<'a, Target> {
         read_whole_target(alloc, bytes, tokens)
     }
 }
 
 // The targets of an assignment of the item: one, or several in braces.
-fn read_whole_targets<'a>(
-    alloc: Global,
-    bytes: &[u8],
-    tokens: &'a [Token],
-) -> Result<(Vec<Target>, &'a [Token]), Stop>
-    ensures is { IfOk result (λ x.
-        AreTargets IsWholeTarget (map target_tree x.0.items) (placed_tokens bytes.now tokens.now)
-        (placed_tokens bytes.now x.1.now)) }
-    ensures shorter { IfOk result (λ x. length x.1.now < length tokens.now) }
+fn read_whole_targets<'a>(alloc: Global, bytes: &[u8], tokens: &'a [Token]) -> Read<'a, Vec<Target>>
+    ensures is { GivesAll result bytes.now tokens.now target_tree (AreTargets IsWholeTarget) }
+    ensures shorter { Shortens result tokens.now }
     ensures some { IfOk result (λ x. 0 < length x.0.items) }
-    ensures reads { IfOk result (λ x.
-        Reads (outer later_assigned ∷ []) behind_targets (placed_tokens bytes.now tokens.now)
-        (placed_tokens bytes.now x.1.now)) }
-    ensures halts { IfErr result (λ e.
-        HaltsAs (outer later_assigned ∷ []) (placed_tokens bytes.now tokens.now) e) }
+    ensures reads { LeadsBy result bytes.now tokens.now (outer later_assigned ∷ []) behind_targets }
+    ensures halts { HaltsOn result bytes.now tokens.now (later_assigned ∷ []) }
 {
     if let Some(rest) = behind(SignKind::OpenBrace, tokens) {
         let (targets, rest) = read_list::<WholeTargets>(alloc, bytes, 0, rest)?;
@@ -127,17 +110,13 @@ fn read_valued<'a>(
     bytes: &[u8],
     targets: Vec<Target>,
     tokens: &'a [Token],
-) -> Result<(Item, &'a [Token]), Stop>
+) -> Read<'a, Item>
     requires { 0 < length targets.items }
-    ensures is { IfOk result (λ x.
-        AssignsTo (map target_tree targets.items) (item_tree x.0)
-        (placed_tokens bytes.now tokens.now) (placed_tokens bytes.now x.1.now)) }
-    ensures shorter { IfOk result (λ x. length x.1.now < length tokens.now) }
-    ensures reads { IfOk result (λ x.
-        Reads (outer (expression 0) ∷ []) [] (placed_tokens bytes.now tokens.now)
-        (placed_tokens bytes.now x.1.now)) }
-    ensures halts { IfErr result (λ e.
-        HaltsAs (outer (expression 0) ∷ []) (placed_tokens bytes.now tokens.now) e) }
+    ensures is { Gives result bytes.now tokens.now item_tree
+        (AssignsTo (map target_tree targets.items)) }
+    ensures shorter { Shortens result tokens.now }
+    ensures reads { Leads result bytes.now tokens.now (expression 0 ∷ []) [] }
+    ensures halts { HaltsOn result bytes.now tokens.now (expression 0 ∷ []) }
 {
     let place = first_place(&targets);
     let (value, rest) = read_expression(alloc, bytes, 0, tokens)?;
@@ -150,20 +129,11 @@ fn read_valued<'a>(
 }
 
 // An assignment of the item.
-fn read_assignment<'a>(
-    alloc: Global,
-    bytes: &[u8],
-    tokens: &'a [Token],
-) -> Result<(Item, &'a [Token]), Stop>
-    ensures is { IfOk result (λ x.
-        IsContinuous all_limits (item_tree x.0) (placed_tokens bytes.now tokens.now)
-        (placed_tokens bytes.now x.1.now)) }
-    ensures shorter { IfOk result (λ x. length x.1.now < length tokens.now) }
-    ensures reads { IfOk result (λ x.
-        Reads (outer later_assigned ∷ []) [] (placed_tokens bytes.now tokens.now)
-        (placed_tokens bytes.now x.1.now)) }
-    ensures halts { IfErr result (λ e.
-        HaltsAs (outer later_assigned ∷ []) (placed_tokens bytes.now tokens.now) e) }
+fn read_assignment<'a>(alloc: Global, bytes: &[u8], tokens: &'a [Token]) -> Read<'a, Item>
+    ensures is { Gives result bytes.now tokens.now item_tree (IsContinuous all_limits) }
+    ensures shorter { Shortens result tokens.now }
+    ensures reads { Leads result bytes.now tokens.now (later_assigned ∷ []) [] }
+    ensures halts { HaltsOn result bytes.now tokens.now (later_assigned ∷ []) }
 {
     let (targets, rest) = read_whole_targets(alloc, bytes, tokens)?;
     let rest = expect_sign(SignKind::Equals, rest)?;
@@ -193,12 +163,7 @@ impl Listed for Assignments {
 
     ghost next = { λ n. outer later_assigned ∷ [] };
 
-    fn first<'a>(
-        alloc: Global,
-        bytes: &[u8],
-        _open: usize,
-        tokens: &'a [Token],
-    ) -> Result<(Item, &'a [Token]), Stop> {
+    fn first<'a>(alloc: Global, bytes: &[u8], _open: usize, tokens: &'a [Token]) -> Read<'a, Item> {
         read_assignment(alloc, bytes, tokens)
     }
 
@@ -208,7 +173,7 @@ impl Listed for Assignments {
         _open: usize,
         _before: &Item,
         tokens: &'a [Token],
-    ) -> Result<(Item, &'a [Token]), Stop> {
+    ) -> Read<'a, Item> {
         read_assignment(alloc, bytes, tokens)
     }
 }
@@ -220,16 +185,12 @@ fn read_released<'a>(
     target: Name,
     place: Place,
     tokens: &'a [Token],
-) -> Result<(Item, &'a [Token]), Stop>
-    ensures is { IfOk result (λ x.
-        ReleasesAs (record { name = target; place = place }) (item_tree x.0)
-        (placed_tokens bytes.now tokens.now) (placed_tokens bytes.now x.1.now)) }
-    ensures shorter { IfOk result (λ x. length x.1.now < length tokens.now) }
-    ensures reads { IfOk result (λ x.
-        Reads behind_release [] (placed_tokens bytes.now tokens.now)
-        (placed_tokens bytes.now x.1.now)) }
-    ensures halts { IfErr result (λ e.
-        HaltsAs behind_release (placed_tokens bytes.now tokens.now) e) }
+) -> Read<'a, Item>
+    ensures is { Gives result bytes.now tokens.now item_tree
+        (ReleasesAs (record { name = target; place = place })) }
+    ensures shorter { Shortens result tokens.now }
+    ensures reads { LeadsBy result bytes.now tokens.now behind_release [] }
+    ensures halts { HaltsBy result bytes.now tokens.now behind_release }
 {
     let rest = expect_sign(SignKind::OpenParenthesis, tokens)?;
     let (value, rest) = read_closed(alloc, bytes, 0, SignKind::Comma, rest)?;
@@ -245,20 +206,13 @@ fn read_released<'a>(
 }
 
 // The items behind `assign` where the first target is in no braces.
-fn read_named_first<'a>(
-    alloc: Global,
-    bytes: &[u8],
-    tokens: &'a [Token],
-) -> Result<(Vec<Item>, &'a [Token]), Stop>
-    ensures is { IfOk result (λ x.
-        IsAssignEnd (map item_tree x.0.items) (placed_tokens bytes.now tokens.now)
-        (placed_tokens bytes.now x.1.now)) }
-    ensures shorter { IfOk result (λ x. length x.1.now < length tokens.now) }
+fn read_named_first<'a>(alloc: Global, bytes: &[u8], tokens: &'a [Token]) -> Read<'a, Vec<Item>>
+    ensures is { GivesAll result bytes.now tokens.now item_tree IsAssignEnd }
+    ensures shorter { Shortens result tokens.now }
     ensures reads { NextIsNotSign signs.OpenBrace (placed_tokens bytes.now tokens.now) →
-        IfOk result (λ x. Reads (outer assigned ∷ []) (outer (punctuation signs.Semicolon) ∷ [])
-        (placed_tokens bytes.now tokens.now) (placed_tokens bytes.now x.1.now)) }
+        Leads result bytes.now tokens.now (assigned ∷ []) (punctuation signs.Semicolon ∷ []) }
     ensures halts { NextIsNotSign signs.OpenBrace (placed_tokens bytes.now tokens.now) →
-        IfErr result (λ e. HaltsAs (outer assigned ∷ []) (placed_tokens bytes.now tokens.now) e) }
+        HaltsOn result bytes.now tokens.now (assigned ∷ []) }
 {
     let (name, place, rest) = read_name(alloc, bytes, tokens)?;
     let rest = expect_sign(SignKind::Equals, rest)?;
@@ -277,22 +231,15 @@ fn read_named_first<'a>(
 }
 
 /// The assignments of an item that begins with `assign`, or its release.
-pub fn read_assigned<'a>(
-    alloc: Global,
-    bytes: &[u8],
-    tokens: &'a [Token],
-) -> Result<(Vec<Item>, &'a [Token]), Stop>
-    ensures is { IfOk result (λ x.
-        (AreContinuous all_limits (map item_tree x.0.items)
-        or only (IsReleased all_limits) (map item_tree x.0.items))
-        (placed_tokens bytes.now tokens.now) (placed_tokens bytes.now x.1.now)) }
-    ensures shorter { IfOk result (λ x. length x.1.now < length tokens.now) }
+pub fn read_assigned<'a>(alloc: Global, bytes: &[u8], tokens: &'a [Token]) -> Read<'a, Vec<Item>>
+    ensures is { GivesAs result bytes.now tokens.now (λ x.
+        AreContinuous all_limits (map item_tree x.items)
+        or only (IsReleased all_limits) (map item_tree x.items)) }
+    ensures shorter { Shortens result tokens.now }
     ensures reads { IsNext words.Assign (placed_tokens bytes.now tokens.now) →
-        IfOk result (λ x. Reads (outer items ∷ [])
-        (outer (punctuation signs.Semicolon) ∷ outer items ∷ [])
-        (placed_tokens bytes.now tokens.now) (placed_tokens bytes.now x.1.now)) }
+        Leads result bytes.now tokens.now (items ∷ []) (punctuation signs.Semicolon ∷ items ∷ []) }
     ensures halts { IsNext words.Assign (placed_tokens bytes.now tokens.now) →
-        IfErr result (λ e. HaltsAs (outer items ∷ []) (placed_tokens bytes.now tokens.now) e) }
+        HaltsOn result bytes.now tokens.now (items ∷ []) }
 {
     let (_place, rest) = expect_word(WordKind::Assign, tokens)?;
     match behind(SignKind::OpenBrace, rest) {

@@ -1,22 +1,20 @@
 // What has a punctuation behind it that has to come.
-ghost use Rattle.std.specs.Prelude.{◌≡◌, ◌<◌, true, length, IfOk, IfErr, [], ◌∷◌};
-ghost use Rattle.sv_token.specs.Lexemes.{placed_tokens};
+ghost use Rattle.std.specs.Prelude.{◌≡◌, ◌<◌, true, length, IfOk, [], ◌∷◌};
 ghost use Rattle.sv_token.specs.declared.signs.SignKind.TheVariants as signs;
 ghost use Rattle.sv_ast.specs.Views.{expression_tree};
 ghost use Rattle.sv_ast.specs.GrammarForms.{◌⨾◌, a_sign, name_at};
 ghost use Rattle.sv_ast.specs.GrammarExpressions.{IsExpression};
 ghost use Rattle.sv_ast.specs.GrammarRules.{all_limits};
 ghost use Rattle.sv_parse_machine.specs.StatementTable.{is_sign};
-ghost use Rattle.sv_parse_machine.specs.Symbols.{outer, punctuation, plain_name, expression};
-ghost use Rattle.sv_parse_machine.specs.Reads.{Reads};
-ghost use Rattle.sv_parse_expr.specs.Expectations.{HaltsAs};
+ghost use Rattle.sv_parse_machine.specs.Symbols.{punctuation, plain_name, expression};
+ghost use Rattle.sv_parse_expr.specs.Parses.{Stands, Comes, GivesAs, Shortens, Leads, HaltsOn};
 
 use std::alloc::Global;
 use sv_ast::Expr;
 use sv_num::{Name, Place};
 use sv_parse_expr::cursor::{expect_sign, read_name};
 use sv_parse_expr::expressions::read_expression;
-use sv_parse_expr::stop::Stop;
+use sv_parse_expr::stop::{Read, Stop};
 use sv_token::{SignKind, Token};
 
 /// An expression, and the tokens behind this punctuation, which comes next.
@@ -28,17 +26,14 @@ pub fn read_closed<'a>(
     levels: usize,
     sign: SignKind,
     tokens: &'a [Token],
-) -> Result<(Expr, &'a [Token]), Stop>
-    ensures is { IfOk result (λ x.
-        (IsExpression all_limits levels (expression_tree x.0) ⨾ a_sign sign)
-        (placed_tokens bytes.now tokens.now) (placed_tokens bytes.now x.1.now)) }
-    ensures shorter { IfOk result (λ x. length x.1.now < length tokens.now) }
+) -> Read<'a, Expr>
+    ensures is { GivesAs result bytes.now tokens.now (λ x.
+        IsExpression all_limits levels (expression_tree x) ⨾ a_sign sign) }
+    ensures shorter { Shortens result tokens.now }
     ensures reads { is_sign sign sign ≡ true →
-        IfOk result (λ x. Reads (outer (expression levels) ∷ outer (punctuation sign) ∷ []) []
-        (placed_tokens bytes.now tokens.now) (placed_tokens bytes.now x.1.now)) }
-    ensures halts { IfErr result (λ e.
-        HaltsAs (outer (expression levels) ∷ outer (punctuation sign) ∷ [])
-        (placed_tokens bytes.now tokens.now) e) }
+        Leads result bytes.now tokens.now (expression levels ∷ punctuation sign ∷ []) [] }
+    ensures halts { HaltsOn result bytes.now tokens.now
+        (expression levels ∷ punctuation sign ∷ []) }
 {
     let (expr, rest) = read_expression(alloc, bytes, levels, tokens)?;
     let rest = expect_sign(sign, rest)?;
@@ -52,15 +47,13 @@ pub fn read_closed_name<'a>(
     tokens: &'a [Token],
 ) -> Result<(Name, Place, &'a [Token]), Stop>
     ensures is { IfOk result (λ x.
-        (name_at x.0 x.1 ⨾ a_sign signs.CloseParenthesis) (placed_tokens bytes.now tokens.now)
-        (placed_tokens bytes.now x.2.now)) }
+        Stands (name_at x.0 x.1 ⨾ a_sign signs.CloseParenthesis) bytes.now tokens.now x.2.now) }
     ensures shorter { IfOk result (λ x. length x.2.now < length tokens.now) }
     ensures reads { IfOk result (λ x.
-        Reads (outer plain_name ∷ outer (punctuation signs.CloseParenthesis) ∷ []) []
-        (placed_tokens bytes.now tokens.now) (placed_tokens bytes.now x.2.now)) }
-    ensures halts { IfErr result (λ e.
-        HaltsAs (outer plain_name ∷ outer (punctuation signs.CloseParenthesis) ∷ [])
-        (placed_tokens bytes.now tokens.now) e) }
+        Comes (plain_name ∷ punctuation signs.CloseParenthesis ∷ []) []
+        bytes.now tokens.now x.2.now) }
+    ensures halts { HaltsOn result bytes.now tokens.now
+        (plain_name ∷ punctuation signs.CloseParenthesis ∷ []) }
 {
     let (name, place, rest) = read_name(alloc, bytes, tokens)?;
     let rest = expect_sign(SignKind::CloseParenthesis, rest)?;

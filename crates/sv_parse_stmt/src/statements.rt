@@ -1,6 +1,6 @@
 // Statements (IEEE 1364-2005, clause 9).
 ghost use Rattle.std.specs.Prelude.{◌≡◌, ◌+◌, ◌<◌, ◌≤◌, ◌||◌, false, ℕ, List, [], ◌∷◌, length};
-ghost use Rattle.std.specs.Prelude.{IfOk, IfErr, IfSome, IfNone, OnOk, OnSome};
+ghost use Rattle.std.specs.Prelude.{IfOk, IfSome, IfNone, OnOk, OnSome};
 ghost use Rattle.sv_token.specs.Lexemes.{placed_tokens};
 ghost use Rattle.sv_token.specs.declared.keywords.WordKind.TheVariants as words;
 ghost use Rattle.sv_ast.specs.Tree as tree;
@@ -12,9 +12,10 @@ ghost use Rattle.sv_ast.specs.GrammarStatements.{is_default, IsStatement, AreSta
 ghost use Rattle.sv_ast.specs.GrammarRules.{all_limits};
 ghost use Rattle.sv_token.specs.declared.signs.SignKind.TheVariants as signs;
 ghost use Rattle.sv_parse_machine.specs.Symbols as symbol;
-ghost use Rattle.sv_parse_machine.specs.Symbols.{outer, statement};
-ghost use Rattle.sv_parse_machine.specs.Reads.{Reads, NextIsSign, NextIsTarget};
-ghost use Rattle.sv_parse_expr.specs.Expectations.{HaltsAs};
+ghost use Rattle.sv_parse_machine.specs.Symbols.{statement};
+ghost use Rattle.sv_parse_machine.specs.Reads.{NextIsSign, NextIsTarget};
+ghost use Rattle.sv_parse_expr.specs.Parses.{Stands, Comes, GivesAs, Gives, Shortens, Leads};
+ghost use Rattle.sv_parse_expr.specs.Parses.{HaltsOn};
 ghost use Rattle.sv_parse_stmt.specs.ReadingArms.{ArmComes};
 
 use crate::arms::read_arm_head;
@@ -29,20 +30,15 @@ use sv_parse_expr::cursor::{
 use sv_parse_expr::expressions::read_in_parentheses;
 use sv_parse_expr::operators::operator_at;
 use sv_parse_expr::room::deeper;
-use sv_parse_expr::stop::{Expected, Stop};
+use sv_parse_expr::stop::{Expected, Read, Stop};
 use sv_token::{SignKind, Token, TokenKind, WordKind};
 
 // Whether an assignment is blocking, and the tokens behind its `=` or `<=`.
-fn assigns(tokens: &[Token]) -> Result<(bool, &[Token]), Stop>
-    ensures is { (bytes : List ℕ) →
-        IfOk result (λ x. assigns x.0 (placed_tokens bytes tokens.now)
-        (placed_tokens bytes x.1.now)) }
-    ensures shorter { IfOk result (λ x. length x.1.now < length tokens.now) }
-    ensures reads { (bytes : List ℕ) →
-        IfOk result (λ x. Reads (outer symbol.assigns ∷ []) [] (placed_tokens bytes tokens.now)
-        (placed_tokens bytes x.1.now)) }
-    ensures halts { (bytes : List ℕ) →
-        IfErr result (λ e. HaltsAs (outer symbol.assigns ∷ []) (placed_tokens bytes tokens.now) e) }
+fn assigns(tokens: &[Token]) -> Read<'_, bool>
+    ensures is { (bytes : List ℕ) → GivesAs result bytes tokens.now assigns }
+    ensures shorter { Shortens result tokens.now }
+    ensures reads { (bytes : List ℕ) → Leads result bytes tokens.now (symbol.assigns ∷ []) [] }
+    ensures halts { (bytes : List ℕ) → HaltsOn result bytes tokens.now (symbol.assigns ∷ []) }
 {
     if let Some(rest) = behind(SignKind::Equals, tokens) {
         return Ok((true, rest));
@@ -59,17 +55,13 @@ fn read_assignment<'a>(
     bytes: &[u8],
     levels: usize,
     tokens: &'a [Token],
-) -> Result<(Stmt, &'a [Token]), Stop>
-    ensures is { IfOk result (λ x.
-        IsStatement all_limits levels (statement_tree x.0) (placed_tokens bytes.now tokens.now)
-        (placed_tokens bytes.now x.1.now)) }
-    ensures shorter { IfOk result (λ x. length x.1.now < length tokens.now) }
+) -> Read<'a, Stmt>
+    ensures is { Gives result bytes.now tokens.now statement_tree (IsStatement all_limits levels) }
+    ensures shorter { Shortens result tokens.now }
     ensures reads { NextIsTarget (placed_tokens bytes.now tokens.now) →
-        IfOk result (λ x. Reads (outer (statement levels) ∷ []) []
-        (placed_tokens bytes.now tokens.now) (placed_tokens bytes.now x.1.now)) }
+        Leads result bytes.now tokens.now (statement levels ∷ []) [] }
     ensures halts { NextIsTarget (placed_tokens bytes.now tokens.now) →
-        IfErr result (λ e. HaltsAs (outer (statement levels) ∷ [])
-        (placed_tokens bytes.now tokens.now) e) }
+        HaltsOn result bytes.now tokens.now (statement levels ∷ []) }
 {
     let (targets, rest) = read_targets(alloc, bytes, levels, tokens)?;
     let place = first_place(&targets);
@@ -90,14 +82,11 @@ fn behind_block_name<'a>(
     bytes: &[u8],
     tokens: &'a [Token],
 ) -> Result<&'a [Token], Stop>
-    ensures is { IfOk result (λ x.
-        optional block_name (placed_tokens bytes.now tokens.now) (placed_tokens bytes.now x.now)) }
+    ensures is { IfOk result (λ x. Stands (optional block_name) bytes.now tokens.now x.now) }
     ensures shorter { IfOk result (λ x. length x.now ≤ length tokens.now) }
     ensures reads { IfOk result (λ x.
-        Reads (outer symbol.perhaps_block_name ∷ []) [] (placed_tokens bytes.now tokens.now)
-        (placed_tokens bytes.now x.now)) }
-    ensures halts { IfErr result (λ e.
-        HaltsAs (outer symbol.perhaps_block_name ∷ []) (placed_tokens bytes.now tokens.now) e) }
+        Comes (symbol.perhaps_block_name ∷ []) [] bytes.now tokens.now x.now) }
+    ensures halts { HaltsOn result bytes.now tokens.now (symbol.perhaps_block_name ∷ []) }
 {
     match behind(SignKind::Colon, tokens) {
         Some(rest) => {
@@ -139,8 +128,7 @@ fn if_else(alloc: Global, place: Place, cond: Expr, yes: Stmt, no: Stmt) -> Resu
 // The tokens behind the `endcase`, if it comes behind at least one arm.
 fn behind_arms(before: usize, tokens: &[Token]) -> Option<&[Token]>
     ensures is { (bytes : List ℕ) →
-        IfSome result (λ rest.
-        a_word words.Endcase (placed_tokens bytes tokens.now) (placed_tokens bytes rest.now)) }
+        IfSome result (λ rest. Stands (a_word words.Endcase) bytes tokens.now rest.now) }
     ensures some { OnSome result (0 < before) }
     ensures one { IfSome result (λ rest. length tokens.now ≡ length rest.now + 1) }
     ensures none { (bytes : List ℕ) →
@@ -166,16 +154,11 @@ pub fn read_statement<'a>(
     bytes: &[u8],
     levels: usize,
     tokens: &'a [Token],
-) -> Result<(Stmt, &'a [Token]), Stop>
-    ensures is { IfOk result (λ x.
-        IsStatement all_limits levels (statement_tree x.0) (placed_tokens bytes.now tokens.now)
-        (placed_tokens bytes.now x.1.now)) }
-    ensures shorter { IfOk result (λ x. length x.1.now < length tokens.now) }
-    ensures reads { IfOk result (λ x.
-        Reads (outer (statement levels) ∷ []) [] (placed_tokens bytes.now tokens.now)
-        (placed_tokens bytes.now x.1.now)) }
-    ensures halts { IfErr result (λ e.
-        HaltsAs (outer (statement levels) ∷ []) (placed_tokens bytes.now tokens.now) e) }
+) -> Read<'a, Stmt>
+    ensures is { Gives result bytes.now tokens.now statement_tree (IsStatement all_limits levels) }
+    ensures shorter { Shortens result tokens.now }
+    ensures reads { Leads result bytes.now tokens.now (statement levels ∷ []) [] }
+    ensures halts { HaltsOn result bytes.now tokens.now (statement levels ∷ []) }
 {
     let [first, ..] = tokens else {
         return Err(stuck(Expected::Statement, tokens));
@@ -193,17 +176,14 @@ pub fn read_statement<'a>(
 }
 
 // `;`
-fn read_null(tokens: &[Token]) -> Result<(Stmt, &[Token]), Stop>
+fn read_null(tokens: &[Token]) -> Read<'_, Stmt>
     ensures is { (bytes : List ℕ) (n : ℕ) →
-        IfOk result (λ x. IsStatement all_limits n (statement_tree x.0)
-        (placed_tokens bytes tokens.now) (placed_tokens bytes x.1.now)) }
-    ensures shorter { IfOk result (λ x. length x.1.now < length tokens.now) }
-    ensures reads { (bytes : List ℕ) (n : ℕ) →
-        IfOk result (λ x. Reads (outer (statement n) ∷ []) [] (placed_tokens bytes tokens.now)
-        (placed_tokens bytes x.1.now)) }
+        Gives result bytes tokens.now statement_tree (IsStatement all_limits n) }
+    ensures shorter { Shortens result tokens.now }
+    ensures reads { (bytes : List ℕ) (n : ℕ) → Leads result bytes tokens.now (statement n ∷ []) [] }
     ensures halts { (bytes : List ℕ) (n : ℕ) →
         NextIsSign signs.Semicolon (placed_tokens bytes tokens.now) →
-        IfErr result (λ e. HaltsAs (outer (statement n) ∷ []) (placed_tokens bytes tokens.now) e) }
+        HaltsOn result bytes tokens.now (statement n ∷ []) }
 {
     let rest = expect_sign(SignKind::Semicolon, tokens)?;
     Ok((Stmt::Null, rest))
@@ -211,22 +191,12 @@ fn read_null(tokens: &[Token]) -> Result<(Stmt, &[Token]), Stop>
 
 // A block.
 #[cycle(statement)]
-fn read_block<'a>(
-    alloc: Global,
-    bytes: &[u8],
-    levels: usize,
-    tokens: &'a [Token],
-) -> Result<(Stmt, &'a [Token]), Stop>
-    ensures is { IfOk result (λ x.
-        IsStatement all_limits levels (statement_tree x.0) (placed_tokens bytes.now tokens.now)
-        (placed_tokens bytes.now x.1.now)) }
-    ensures shorter { IfOk result (λ x. length x.1.now < length tokens.now) }
-    ensures reads { IfOk result (λ x.
-        Reads (outer (statement levels) ∷ []) [] (placed_tokens bytes.now tokens.now)
-        (placed_tokens bytes.now x.1.now)) }
+fn read_block<'a>(alloc: Global, bytes: &[u8], levels: usize, tokens: &'a [Token]) -> Read<'a, Stmt>
+    ensures is { Gives result bytes.now tokens.now statement_tree (IsStatement all_limits levels) }
+    ensures shorter { Shortens result tokens.now }
+    ensures reads { Leads result bytes.now tokens.now (statement levels ∷ []) [] }
     ensures halts { IsNext words.Begin (placed_tokens bytes.now tokens.now) →
-        IfErr result (λ e. HaltsAs (outer (statement levels) ∷ [])
-        (placed_tokens bytes.now tokens.now) e) }
+        HaltsOn result bytes.now tokens.now (statement levels ∷ []) }
 {
     let (_place, rest) = expect_word(WordKind::Begin, tokens)?;
     let inside = deeper(levels, tokens)?;
@@ -242,17 +212,13 @@ fn read_statements<'a>(
     bytes: &[u8],
     levels: usize,
     tokens: &'a [Token],
-) -> Result<(Vec<Stmt>, &'a [Token]), Stop>
-    ensures is { IfOk result (λ x.
-        (AreStatements all_limits levels (statements_of (statement_trees x.0.items))
-        ⨾ a_word words.End) (placed_tokens bytes.now tokens.now)
-        (placed_tokens bytes.now x.1.now)) }
-    ensures shorter { IfOk result (λ x. length x.1.now < length tokens.now) }
-    ensures reads { IfOk result (λ x.
-        Reads (outer (symbol.statements levels) ∷ []) [] (placed_tokens bytes.now tokens.now)
-        (placed_tokens bytes.now x.1.now)) }
-    ensures halts { IfErr result (λ e.
-        HaltsAs (outer (symbol.statements levels) ∷ []) (placed_tokens bytes.now tokens.now) e) }
+) -> Read<'a, Vec<Stmt>>
+    ensures is { GivesAs result bytes.now tokens.now (λ x.
+        AreStatements all_limits levels (statements_of (statement_trees x.items))
+        ⨾ a_word words.End) }
+    ensures shorter { Shortens result tokens.now }
+    ensures reads { Leads result bytes.now tokens.now (symbol.statements levels ∷ []) [] }
+    ensures halts { HaltsOn result bytes.now tokens.now (symbol.statements levels ∷ []) }
 {
     let mut stmts = Vec::new(alloc);
     let mut rest = tokens;
@@ -273,17 +239,12 @@ fn read_conditional<'a>(
     bytes: &[u8],
     levels: usize,
     tokens: &'a [Token],
-) -> Result<(Stmt, &'a [Token]), Stop>
-    ensures is { IfOk result (λ x.
-        IsStatement all_limits levels (statement_tree x.0) (placed_tokens bytes.now tokens.now)
-        (placed_tokens bytes.now x.1.now)) }
-    ensures shorter { IfOk result (λ x. length x.1.now < length tokens.now) }
-    ensures reads { IfOk result (λ x.
-        Reads (outer (statement levels) ∷ []) [] (placed_tokens bytes.now tokens.now)
-        (placed_tokens bytes.now x.1.now)) }
+) -> Read<'a, Stmt>
+    ensures is { Gives result bytes.now tokens.now statement_tree (IsStatement all_limits levels) }
+    ensures shorter { Shortens result tokens.now }
+    ensures reads { Leads result bytes.now tokens.now (statement levels ∷ []) [] }
     ensures halts { IsNext words.If (placed_tokens bytes.now tokens.now) →
-        IfErr result (λ e. HaltsAs (outer (statement levels) ∷ [])
-        (placed_tokens bytes.now tokens.now) e) }
+        HaltsOn result bytes.now tokens.now (statement levels ∷ []) }
 {
     let (place, rest) = expect_word(WordKind::If, tokens)?;
     let inside = deeper(levels, tokens)?;
@@ -298,22 +259,12 @@ fn read_conditional<'a>(
 
 // A `case`.
 #[cycle(statement)]
-fn read_case<'a>(
-    alloc: Global,
-    bytes: &[u8],
-    levels: usize,
-    tokens: &'a [Token],
-) -> Result<(Stmt, &'a [Token]), Stop>
-    ensures is { IfOk result (λ x.
-        IsStatement all_limits levels (statement_tree x.0) (placed_tokens bytes.now tokens.now)
-        (placed_tokens bytes.now x.1.now)) }
-    ensures shorter { IfOk result (λ x. length x.1.now < length tokens.now) }
-    ensures reads { IfOk result (λ x.
-        Reads (outer (statement levels) ∷ []) [] (placed_tokens bytes.now tokens.now)
-        (placed_tokens bytes.now x.1.now)) }
+fn read_case<'a>(alloc: Global, bytes: &[u8], levels: usize, tokens: &'a [Token]) -> Read<'a, Stmt>
+    ensures is { Gives result bytes.now tokens.now statement_tree (IsStatement all_limits levels) }
+    ensures shorter { Shortens result tokens.now }
+    ensures reads { Leads result bytes.now tokens.now (statement levels ∷ []) [] }
     ensures halts { IsNext words.Case (placed_tokens bytes.now tokens.now) →
-        IfErr result (λ e. HaltsAs (outer (statement levels) ∷ [])
-        (placed_tokens bytes.now tokens.now) e) }
+        HaltsOn result bytes.now tokens.now (statement levels ∷ []) }
 {
     let (place, rest) = expect_word(WordKind::Case, tokens)?;
     let inside = deeper(levels, tokens)?;
@@ -334,16 +285,12 @@ fn read_arms<'a>(
     bytes: &[u8],
     levels: usize,
     tokens: &'a [Token],
-) -> Result<(Vec<Arm>, &'a [Token]), Stop>
-    ensures is { IfOk result (λ x.
-        (AreArms all_limits levels 0 false (arms_of (arm_trees x.0.items)) ⨾ a_word words.Endcase)
-        (placed_tokens bytes.now tokens.now) (placed_tokens bytes.now x.1.now)) }
-    ensures shorter { IfOk result (λ x. length x.1.now < length tokens.now) }
-    ensures reads { IfOk result (λ x.
-        Reads (outer (symbol.arms levels 0 false) ∷ []) [] (placed_tokens bytes.now tokens.now)
-        (placed_tokens bytes.now x.1.now)) }
-    ensures halts { IfErr result (λ e.
-        HaltsAs (outer (symbol.arms levels 0 false) ∷ []) (placed_tokens bytes.now tokens.now) e) }
+) -> Read<'a, Vec<Arm>>
+    ensures is { GivesAs result bytes.now tokens.now (λ x.
+        AreArms all_limits levels 0 false (arms_of (arm_trees x.items)) ⨾ a_word words.Endcase) }
+    ensures shorter { Shortens result tokens.now }
+    ensures reads { Leads result bytes.now tokens.now (symbol.arms levels 0 false ∷ []) [] }
+    ensures halts { HaltsOn result bytes.now tokens.now (symbol.arms levels 0 false ∷ []) }
 {
     let mut arms = Vec::new(alloc);
     let mut has_default = false;
@@ -369,21 +316,18 @@ fn read_arm<'a>(
     before: usize,
     has_default: bool,
     tokens: &'a [Token],
-) -> Result<(Arm, &'a [Token]), Stop>
-    ensures is { IfOk result (λ x.
-        (IsArmHead all_limits levels has_default (arm_tree x.0).place (arm_tree x.0).items
-        ⨾ IsStatement all_limits levels (arm_tree x.0).body) (placed_tokens bytes.now tokens.now)
-        (placed_tokens bytes.now x.1.now)) }
-    ensures shorter { IfOk result (λ x. length x.1.now < length tokens.now) }
+) -> Read<'a, Arm>
+    ensures is { GivesAs result bytes.now tokens.now (λ x.
+        IsArmHead all_limits levels has_default (arm_tree x).place (arm_tree x).items
+        ⨾ IsStatement all_limits levels (arm_tree x).body) }
+    ensures shorter { Shortens result tokens.now }
     ensures few { OnOk result (before + 1 ≤ 256) }
     ensures reads { ArmComes before (placed_tokens bytes.now tokens.now) →
-        IfOk result (λ x. Reads (outer (symbol.arms levels before has_default) ∷ [])
-        (outer (symbol.arms levels (before + 1) (has_default
-        || is_default (arm_tree x.0).items)) ∷ []) (placed_tokens bytes.now tokens.now)
-        (placed_tokens bytes.now x.1.now)) }
+        IfOk result (λ x. Comes (symbol.arms levels before has_default ∷ [])
+        (symbol.arms levels (before + 1) (has_default || is_default (arm_tree x.0).items) ∷ [])
+        bytes.now tokens.now x.1.now) }
     ensures halts { ArmComes before (placed_tokens bytes.now tokens.now) →
-        IfErr result (λ e. HaltsAs (outer (symbol.arms levels before has_default) ∷ [])
-        (placed_tokens bytes.now tokens.now) e) }
+        HaltsOn result bytes.now tokens.now (symbol.arms levels before has_default ∷ []) }
 {
     let (place, items, rest) = read_arm_head(alloc, bytes, levels, before, has_default, tokens)?;
     let (body, rest) = read_statement(alloc, bytes, levels, rest)?;

@@ -1,5 +1,5 @@
 // Targets of assignments (IEEE 1364-2005, clause 9.2).
-ghost use Rattle.std.specs.Prelude.{◌<◌, ◌≤◌, length, map, IfOk, IfErr, [], ◌∷◌};
+ghost use Rattle.std.specs.Prelude.{◌<◌, length, map, IfOk, [], ◌∷◌};
 ghost use Rattle.sv_token.specs.Lexemes.{placed_tokens};
 ghost use Rattle.sv_ast.specs.Tree.{TargetTree};
 ghost use Rattle.sv_token.specs.declared.signs.SignKind.TheVariants as signs;
@@ -8,11 +8,12 @@ ghost use Rattle.sv_ast.specs.GrammarForms.{◌⨾◌, a_sign};
 ghost use Rattle.sv_ast.specs.GrammarExpressions.{IsExpression};
 ghost use Rattle.sv_ast.specs.GrammarStatements.{IsSelection, IsTarget, AreTargets, BeginAt};
 ghost use Rattle.sv_ast.specs.GrammarRules.{all_limits};
-ghost use Rattle.sv_parse_machine.specs.Reads.{Reads, NextIsNotSign, NextIsTarget};
-ghost use Rattle.sv_parse_expr.specs.Expectations.{HaltsAs};
+ghost use Rattle.sv_parse_machine.specs.Reads.{NextIsNotSign, NextIsTarget};
 ghost use Rattle.sv_parse_machine.specs.StatementTable.{assignment_behind};
-ghost use Rattle.sv_parse_machine.specs.Machine.{outside_on};
-ghost use Rattle.sv_parse_machine.specs.Symbols.{outer, plain_name, perhaps_bits, bits_end, statement};
+ghost use Rattle.sv_parse_machine.specs.Symbols.{outer, plain_name, perhaps_bits, bits_end};
+ghost use Rattle.sv_parse_machine.specs.Symbols.{statement};
+ghost use Rattle.sv_parse_expr.specs.Parses.{GivesAs, Gives, GivesAll, Shortens, NoLonger, Leads};
+ghost use Rattle.sv_parse_expr.specs.Parses.{HaltsOn};
 
 use crate::closed::read_closed;
 use std::alloc::Global;
@@ -21,27 +22,18 @@ use sv_num::Place;
 use sv_parse_expr::cursor::{behind, expect_sign, read_name};
 use sv_parse_expr::expressions::read_expression;
 use sv_parse_expr::lists::{Listed, one, read_list};
-use sv_parse_expr::stop::Stop;
+use sv_parse_expr::stop::Read;
 use sv_token::{SignKind, Token};
 
 // The low bound of a part, from the `:` to the `]`.
-fn read_low<'a>(
-    alloc: Global,
-    bytes: &[u8],
-    levels: usize,
-    tokens: &'a [Token],
-) -> Result<(Expr, &'a [Token]), Stop>
-    ensures is { IfOk result (λ x.
-        (a_sign signs.Colon ⨾ IsExpression all_limits levels (expression_tree x.0)
-        ⨾ a_sign signs.CloseBracket) (placed_tokens bytes.now tokens.now)
-        (placed_tokens bytes.now x.1.now)) }
-    ensures shorter { IfOk result (λ x. length x.1.now < length tokens.now) }
-    ensures reads { IfOk result (λ x.
-        Reads (outer (bits_end levels) ∷ []) [] (placed_tokens bytes.now tokens.now)
-        (placed_tokens bytes.now x.1.now)) }
+fn read_low<'a>(alloc: Global, bytes: &[u8], levels: usize, tokens: &'a [Token]) -> Read<'a, Expr>
+    ensures is { GivesAs result bytes.now tokens.now (λ x.
+        a_sign signs.Colon ⨾ IsExpression all_limits levels (expression_tree x)
+        ⨾ a_sign signs.CloseBracket) }
+    ensures shorter { Shortens result tokens.now }
+    ensures reads { Leads result bytes.now tokens.now (bits_end levels ∷ []) [] }
     ensures halts { NextIsNotSign signs.CloseBracket (placed_tokens bytes.now tokens.now) →
-        IfErr result (λ e. HaltsAs (outer (bits_end levels) ∷ [])
-        (placed_tokens bytes.now tokens.now) e) }
+        HaltsOn result bytes.now tokens.now (bits_end levels ∷ []) }
 {
     let rest = expect_sign(SignKind::Colon, tokens)?;
     let (low, rest) = read_closed(alloc, bytes, levels, SignKind::CloseBracket, rest)?;
@@ -54,16 +46,11 @@ fn read_select<'a>(
     bytes: &[u8],
     levels: usize,
     tokens: &'a [Token],
-) -> Result<(Select, &'a [Token]), Stop>
-    ensures is { IfOk result (λ x.
-        IsSelection all_limits levels (selection_of x.0) (placed_tokens bytes.now tokens.now)
-        (placed_tokens bytes.now x.1.now)) }
-    ensures shorter { IfOk result (λ x. length x.1.now ≤ length tokens.now) }
-    ensures reads { IfOk result (λ x.
-        Reads (outer (perhaps_bits levels) ∷ []) [] (placed_tokens bytes.now tokens.now)
-        (placed_tokens bytes.now x.1.now)) }
-    ensures halts { IfErr result (λ e.
-        HaltsAs (outer (perhaps_bits levels) ∷ []) (placed_tokens bytes.now tokens.now) e) }
+) -> Read<'a, Select>
+    ensures is { Gives result bytes.now tokens.now selection_of (IsSelection all_limits levels) }
+    ensures shorter { NoLonger result tokens.now }
+    ensures reads { Leads result bytes.now tokens.now (perhaps_bits levels ∷ []) [] }
+    ensures halts { HaltsOn result bytes.now tokens.now (perhaps_bits levels ∷ []) }
 {
     let Some(rest) = behind(SignKind::OpenBracket, tokens) else {
         return Ok((Select::Whole, tokens));
@@ -82,17 +69,11 @@ fn read_target<'a>(
     bytes: &[u8],
     levels: usize,
     tokens: &'a [Token],
-) -> Result<(Target, &'a [Token]), Stop>
-    ensures is { IfOk result (λ x.
-        IsTarget all_limits levels (target_tree x.0) (placed_tokens bytes.now tokens.now)
-        (placed_tokens bytes.now x.1.now)) }
-    ensures shorter { IfOk result (λ x. length x.1.now < length tokens.now) }
-    ensures reads { IfOk result (λ x.
-        Reads (outer plain_name ∷ outer (perhaps_bits levels) ∷ []) []
-        (placed_tokens bytes.now tokens.now) (placed_tokens bytes.now x.1.now)) }
-    ensures halts { IfErr result (λ e.
-        HaltsAs (outer plain_name ∷ outer (perhaps_bits levels) ∷ [])
-        (placed_tokens bytes.now tokens.now) e) }
+) -> Read<'a, Target>
+    ensures is { Gives result bytes.now tokens.now target_tree (IsTarget all_limits levels) }
+    ensures shorter { Shortens result tokens.now }
+    ensures reads { Leads result bytes.now tokens.now (plain_name ∷ perhaps_bits levels ∷ []) [] }
+    ensures halts { HaltsOn result bytes.now tokens.now (plain_name ∷ perhaps_bits levels ∷ []) }
 {
     let (name, place, rest) = read_name(alloc, bytes, tokens)?;
     let (select, rest) = read_select(alloc, bytes, levels, rest)?;
@@ -131,7 +112,7 @@ impl Listed for Targets {
         bytes: &[u8],
         levels: usize,
         tokens: &'a [Token],
-    ) -> Result<(Target, &'a [Token]), Stop> {
+    ) -> Read<'a, Target> {
         read_target(alloc, bytes, levels, tokens)
     }
 
@@ -141,7 +122,7 @@ impl Listed for Targets {
         levels: usize,
         _before: &Target,
         tokens: &'a [Token],
-    ) -> Result<(Target, &'a [Token]), Stop> {
+    ) -> Read<'a, Target> {
         read_target(alloc, bytes, levels, tokens)
     }
 }
@@ -152,19 +133,15 @@ pub fn read_targets<'a>(
     bytes: &[u8],
     levels: usize,
     tokens: &'a [Token],
-) -> Result<(Vec<Target>, &'a [Token]), Stop>
-    ensures is { IfOk result (λ x.
-        AreTargets (IsTarget all_limits levels) (map target_tree x.0.items)
-        (placed_tokens bytes.now tokens.now) (placed_tokens bytes.now x.1.now)) }
-    ensures shorter { IfOk result (λ x. length x.1.now < length tokens.now) }
+) -> Read<'a, Vec<Target>>
+    ensures is { GivesAll result bytes.now tokens.now target_tree
+        (AreTargets (IsTarget all_limits levels)) }
+    ensures shorter { Shortens result tokens.now }
     ensures some { IfOk result (λ x. 0 < length x.0.items) }
     ensures reads { NextIsTarget (placed_tokens bytes.now tokens.now) →
-        IfOk result (λ x. Reads (outer (statement levels) ∷ [])
-        (outside_on (assignment_behind levels)) (placed_tokens bytes.now tokens.now)
-        (placed_tokens bytes.now x.1.now)) }
+        Leads result bytes.now tokens.now (statement levels ∷ []) (assignment_behind levels) }
     ensures halts { NextIsTarget (placed_tokens bytes.now tokens.now) →
-        IfErr result (λ e. HaltsAs (outer (statement levels) ∷ [])
-        (placed_tokens bytes.now tokens.now) e) }
+        HaltsOn result bytes.now tokens.now (statement levels ∷ []) }
 {
     if let Some(rest) = behind(SignKind::OpenBrace, tokens) {
         let (targets, rest) = read_list::<Targets>(alloc, bytes, levels, rest)?;

@@ -1,5 +1,5 @@
 -- The registers' next values do not hang on clocks, and keep their widths.
-use Rattle.std.proofs.Common.{◌≡◌, ℕ, ◌<◌, ◌^◌, Bool, true, false, cond, not, ◌==◌, List, [], ◌∷◌}
+use Rattle.std.proofs.Common.{◌≡◌, ℕ, ◌<◌, ◌^◌, cond, not, ◌==◌, List, [], ◌∷◌}
 use Rattle.std.proofs.Common.{◌++◌, length, refl, sym, ap, subst, ◌∙◌, ⊎_elim, pow_pos, ltb-true}
 use Rattle.std.proofs.Common.{lt-ltb}
 use Rattle.std.specs.Prelude.{Contains, IsTrue, IsFalse, flat_map}
@@ -17,7 +17,7 @@ use Rattle.sv_flat.specs.Runs.{updates_of}
 use Rattle.sv_flat.specs.Soundness.{is_signal, sound}
 use Rattle.sv_flat.specs.Values.{signal_width}
 use Rattle.sv_flat.proofs.AdmittedFacts.{body_is_sound, assigned_is_signal, assigns_no_clock}
-use Rattle.sv_flat.proofs.AdmittedFacts.{some_width}
+use Rattle.sv_flat.proofs.AdmittedFacts.{some_width, negated_true}
 use Rattle.sv_flat.proofs.ClockFacts.{reads_no_clock}
 use Rattle.sv_flat.proofs.LeastSets.{either_way, some_from, Contains-from_filter, in_those}
 use Rattle.sv_flat.proofs.LeastSets.{those_below}
@@ -92,12 +92,8 @@ module _ (design : FlatDesign) (is_sound : IsTrue (sound design))
 
   pub seen_same : (e : Environment ℕ) (s : ℕ) → IsSeen s → e s ≡ unclocked_values e s
   seen_same e s seen = unclocked_same e s
-      (negated (is_clock design s)
+      (negated_true (is_clock design s)
       (those_pass (length design.signals) (λ z. not (is_clock design z)) s seen))
-    where
-      negated : (b : Bool) → IsTrue (not b) → IsFalse b
-      negated true h = sym h
-      negated false h = refl
 
   pub unclocked_fit : (e : Environment ℕ) → Fits (flat_system design) e →
       AllFit design.signals (unclocked_values e)

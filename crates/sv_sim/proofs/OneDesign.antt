@@ -1,6 +1,6 @@
 -- An admitted design has the drivers in order that the law on one trace asks for: each
 -- combinational signal is driven by its process, and lower signals come first.
-use Rattle.std.proofs.Common.{◌≡◌, ℕ, ◌<◌, ◌^◌, Bool, true, false, not, ◌==◌, ◌&&◌, List, [], ◌∷◌}
+use Rattle.std.proofs.Common.{◌≡◌, ℕ, ◌<◌, ◌^◌, true, false, not, ◌==◌, ◌&&◌, List, [], ◌∷◌}
 use Rattle.std.proofs.Common.{◌++◌, map, refl, sym, ap, subst, ◌∙◌, ⊎_elim, None}
 use Rattle.std.specs.Prelude.{Contains, IsTrue, IsFalse, slice_index_or, slice_get}
 use Rattle.std.specs.List.{IsDistinct}
@@ -25,7 +25,7 @@ use Rattle.sv_flat.specs.Values.{signal_width}
 use Rattle.sv_flat.proofs.AdmittedFacts.{some_is_some, drives, extra_at, body_is_sound}
 use Rattle.sv_flat.proofs.AdmittedFacts.{assigned_is_signal, targets_are_combinational}
 use Rattle.sv_flat.proofs.AdmittedFacts.{combinational_is_driven, clocked_is_process}
-use Rattle.sv_flat.proofs.AdmittedFacts.{assigns_no_clock}
+use Rattle.sv_flat.proofs.AdmittedFacts.{assigns_no_clock, negated_true}
 use Rattle.sv_flat.proofs.Depths.{first_of, second_of}
 use Rattle.sv_flat.proofs.FlatScheduled.{same_target, parts_of, in_processes, unclocked, to_system}
 use Rattle.sv_flat.proofs.FlatScheduled.{of_system}
@@ -172,7 +172,7 @@ module _ (design : FlatDesign) (is_sound : IsTrue (sound design))
       subst (λ v. v < 2 ^ signal_width design.signals s)
       (sym (value_same s comb e f
       (λ t input. unclocked_same design is_sound admitted e t
-      (negated (is_clock design t)
+      (negated_true (is_clock design t)
       (second_of (is_top_input design t) (not (is_clock design t)) input)))
       (λ t register. unclocked_same design is_sound admitted e t (register_no_clock t register))
       (λ t t_comb falls. unclocked_same design is_sound admitted e t
@@ -180,10 +180,6 @@ module _ (design : FlatDesign) (is_sound : IsTrue (sound design))
       ((run_fits design.signals (process_for s).body (f, []) sound_body
       (unclocked_fit design is_sound admitted e fits, (λ u none. absurd (Contains-nil u none)))).0 s
       (parts_of design is_sound admitted s comb).0)
-    where
-      negated : (b : Bool) → IsTrue (not b) → IsFalse b
-      negated true h = sym h
-      negated false h = refl
 
   -- no process assigns an input
   pub input_no_register : (s : ℕ) → IsTrue (is_top_input design s && not (is_clock design s)) →

@@ -19,7 +19,9 @@ use Rattle.sv_flat.proofs.Depths.{is_below}
 use Rattle.sv_flat.proofs.LeastSets.{either_way}
 use Rattle.sv_flat.proofs.Orders.{order_has, order_only}
 use Rattle.sv_design.specs.Numbers.{numbers}
-use Rattle.sv_sim.specs.Settling.{IsPlan, is_left}
+use Rattle.sv_graph.specs.Marks.{is_marked}
+use Rattle.sv_graph.proofs.QueueFacts.{differs}
+use Rattle.sv_sim.specs.Settling.{IsPlan}
 use Rattle.sv_sim.proofs.ByDepth.{order_is_plan}
 use Rattle.sv_sim.proofs.Fronts.{longer_front, last_in_front, front_or_last}
 
@@ -32,18 +34,18 @@ last_or_earlier i k less = eq-or-lt_of_le (omega arith)
 
 -- ---- tables
 
-none_left : (n s : ℕ) → is_left (replicate n false) s ≡ false
+none_left : (n s : ℕ) → is_marked (replicate n false) s ≡ false
 none_left zero s = refl
 none_left (suc n) zero = refl
 none_left (suc n) (suc s) = none_left n s
 
 module _ (left : List Bool) (v : ℕ) (answer : Bool) where
-  pub left_there : v < length left → is_left (set left v answer) v ≡ answer
+  pub left_there : v < length left → is_marked (set left v answer) v ≡ answer
   left_there inside = get_or-set_same left v answer false inside
 
-  pub left_elsewhere : (s : ℕ) → IsFalse (v == s) → is_left (set left v answer) s ≡ is_left left s
-  left_elsewhere s other =
-      get_or-set_other left v s answer false (λ e. false≢true (sym other ∙ eq-eqb v s (sym e)))
+  pub left_elsewhere : (s : ℕ) → IsFalse (v == s) →
+      is_marked (set left v answer) s ≡ is_marked left s
+  left_elsewhere s other = get_or-set_other left v s answer false (differs v s other)
 
 -- ---- all combinational signals
 
@@ -51,15 +53,15 @@ module _ (design : FlatDesign) where
   -- the first so many of the order are left
   pub record AreLeft (left : List Bool) (k : ℕ) : Type 0 where
     pub size : length left ≡ length design.signals
-    pub only : (s : ℕ) → IsTrue (is_left left s) → IsTrue (is_combinational design s)
-    pub all : (s : ℕ) → Contains (take k (order design)) s → IsTrue (is_left left s)
+    pub only : (s : ℕ) → IsTrue (is_marked left s) → IsTrue (is_combinational design s)
+    pub all : (s : ℕ) → Contains (take k (order design)) s → IsTrue (is_marked left s)
 
   pub none_entered : (left : List Bool) (n : ℕ) → left ≡ replicate n false
       → n ≡ length design.signals → AreLeft left 0
   none_entered left n is count = record {
     size = ap length is ∙ length-replicate n false ∙ count;
     only = λ s there. absurd (false≢true
-        (sym (none_left n s) ∙ sym (ap (λ ts. is_left ts s) is) ∙ there));
+        (sym (none_left n s) ∙ sym (ap (λ ts. is_marked ts s) is) ∙ there));
     all = λ s at. absurd (none_in_front (order design) s at);
   }
 
@@ -85,7 +87,7 @@ module _ (design : FlatDesign) where
           (λ other. before.only s (sym (left_elsewhere left entered true s other) ∙ there))
           (either_way (entered == s));
       all = λ s at. ⊎_elim
-          (λ same. subst (λ z. IsTrue (is_left (set left entered true) z))
+          (λ same. subst (λ z. IsTrue (is_marked (set left entered true) z))
           (eqb-true entered s same) (left_there left entered true entered_within))
           (λ other. ⊎_elim
           (λ earlier. left_elsewhere left entered true s other ∙ before.all s earlier)
@@ -96,7 +98,7 @@ module _ (design : FlatDesign) where
 
   pub all_entered : HasReadOrder design → (left : List Bool) (k : ℕ) → AreLeft left k
       → length (order design) ≤ k → (s : ℕ) → IsTrue (is_combinational design s)
-      → IsTrue (is_left left s)
+      → IsTrue (is_marked left s)
   all_entered ordered left k are whole s comb = are.all s
       (subst (λ zs. Contains zs s) (sym (take_all k (order design) whole))
       (order_has design ordered s comb))
@@ -107,8 +109,8 @@ module _ (design : FlatDesign) where
   -- the first so many of the list are taken
   pub record AreTaken (list : List ℕ) (left : List Bool) (k : ℕ) : Type 0 where
     pub size : length left ≡ length design.signals
-    pub lasting : (s : ℕ) → IsTrue (is_left left s) → IsTrue (is_combinational design s)
-    pub taken : (s : ℕ) → IsTrue (is_combinational design s) → IsFalse (is_left left s)
+    pub lasting : (s : ℕ) → IsTrue (is_marked left s) → IsTrue (is_combinational design s)
+    pub taken : (s : ℕ) → IsTrue (is_combinational design s) → IsFalse (is_marked left s)
         → Contains (take k list) s
     pub only : (s : ℕ) → Contains (take k list) s → IsTrue (is_combinational design s)
     pub behind : (i : ℕ) → i < k → (r : ℕ) → IsTrue (is_combinational design r)
@@ -116,8 +118,8 @@ module _ (design : FlatDesign) where
         → Contains (take i list) r
 
   pub none_taken : (list : List ℕ) (left : List Bool) → length left ≡ length design.signals
-      → ((s : ℕ) → IsTrue (is_left left s) → IsTrue (is_combinational design s))
-      → ((s : ℕ) → IsTrue (is_combinational design s) → IsTrue (is_left left s))
+      → ((s : ℕ) → IsTrue (is_marked left s) → IsTrue (is_combinational design s))
+      → ((s : ℕ) → IsTrue (is_combinational design s) → IsTrue (is_marked left s))
       → AreTaken list left 0
   none_taken list left size lasting all = record {
     size = size;
@@ -135,15 +137,15 @@ module _ (design : FlatDesign) where
     abbrev new : List Bool
     new = set left v false
 
-    still_left : (s : ℕ) → IsTrue (is_left new s) → v < length left → IsTrue (is_left left s)
+    still_left : (s : ℕ) → IsTrue (is_marked new s) → v < length left → IsTrue (is_marked left s)
     still_left s there within = ⊎_elim
         (λ same. absurd (false≢true
         (sym (left_there left v false within)
-        ∙ ap (is_left new) (eqb-true v s same) ∙ there)))
+        ∙ ap (is_marked new) (eqb-true v s same) ∙ there)))
         (λ other. sym (left_elsewhere left v false s other) ∙ there)
         (either_way (v == s))
 
-    taken_now : (s : ℕ) → IsTrue (is_combinational design s) → IsFalse (is_left new s)
+    taken_now : (s : ℕ) → IsTrue (is_combinational design s) → IsFalse (is_marked new s)
         → Contains (take (k + 1) list) s
     taken_now s comb none = ⊎_elim
         (λ same. subst (Contains (take (k + 1) list)) (eqb-true v s same)
@@ -152,8 +154,8 @@ module _ (design : FlatDesign) where
         (before.taken s comb (sym (left_elsewhere left v false s other) ∙ none)))
         (either_way (v == s))
 
-    v_taken : v < length left → IsTrue (is_left left v)
-        → ((r : ℕ) → Contains (reads_for design v) r → IsFalse (is_left left r))
+    v_taken : v < length left → IsTrue (is_marked left v)
+        → ((r : ℕ) → Contains (reads_for design v) r → IsFalse (is_marked left r))
         → AreTaken list new (k + 1)
     v_taken within is reads = record {
       size = length-set left v false ∙ before.size;
@@ -173,21 +175,21 @@ module _ (design : FlatDesign) where
 
     -- one more is taken, which the table has left as it is shown
     pub one_taken : (shown : List Bool) (s : ℕ) → shown ≡ left → v ≡ s → s < length shown
-        → IsTrue (is_left shown s)
-        → ((r : ℕ) → Contains (reads_for design s) r → IsFalse (is_left shown r))
+        → IsTrue (is_marked shown s)
+        → ((r : ℕ) → Contains (reads_for design s) r → IsFalse (is_marked shown r))
         → AreTaken list (set left s false) (k + 1)
     one_taken shown s is at within there reads =
         subst (λ z. AreTaken list (set left z false) (k + 1)) at
         (v_taken
         (subst (λ z. z < length left) (sym at) (subst (λ ts. s < length ts) is within))
-        (subst (λ z. IsTrue (is_left left z)) (sym at)
-        (subst (λ ts. IsTrue (is_left ts s)) is there))
-        (λ r r_at. subst (λ ts. IsFalse (is_left ts r)) is
+        (subst (λ z. IsTrue (is_marked left z)) (sym at)
+        (subst (λ ts. IsTrue (is_marked ts s)) is there))
+        (λ r r_at. subst (λ ts. IsFalse (is_marked ts r)) is
         (reads r (subst (λ z. Contains (reads_for design z) r) at r_at))))
 
   -- once none is left, the list is a plan
   pub all_taken : (list : List ℕ) (left : List Bool) (k : ℕ) → AreTaken list left k
-      → length list ≤ k → ((s : ℕ) → IsFalse (is_left left s)) → IsPlan design list
+      → length list ≤ k → ((s : ℕ) → IsFalse (is_marked left s)) → IsPlan design list
   all_taken list left k taken whole none = record {
     all = λ s comb. subst (λ zs. Contains zs s) (take_all k list whole)
         (taken.taken s comb (none s));

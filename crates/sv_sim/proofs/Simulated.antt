@@ -38,7 +38,8 @@ use Rattle.sv_flat.specs.SignalLists.{inputs as inputs_of, driver_of}
 use Rattle.sv_flat.specs.Soundness.{sound}
 use Rattle.sv_flat.specs.Values.{signal_width}
 use Rattle.sv_flat.specs.Views.{signal_form, design_of}
-use Rattle.sv_flat.proofs.AdmittedFacts.{and_true, is_process, combinational_is_driven}
+use Rattle.sv_flat.proofs.AdmittedFacts.{and_true, negated_true, is_process}
+use Rattle.sv_flat.proofs.AdmittedFacts.{combinational_is_driven}
 use Rattle.sv_flat.proofs.Depths.{first_of, second_of, is_below}
 use Rattle.sv_flat.proofs.FlatScheduled.{parts_of}
 use Rattle.sv_flat.proofs.LeastSets.{either_way, some_from, in_those, those_pass}
@@ -236,12 +237,8 @@ module _ (design : FlatDesign) (is_sound : IsTrue (sound design))
   pub input_no_clock : (s : ℕ) → IsTrue (is_top_input design s && not (is_clock design s)) →
       IsFalse (is_clock design s)
   input_no_clock s input =
-      negated (is_clock design s)
+      negated_true (is_clock design s)
       (second_of (is_top_input design s) (not (is_clock design s)) input)
-    where
-      negated : (b : Bool) → IsTrue (not b) → IsFalse b
-      negated true h = sym h
-      negated false h = refl
 
   clock_no_comb : (s : ℕ) → IsTrue (is_clock design s) → IsFalse (is_combinational design s)
   clock_no_comb s clock = none_found (is_combinational design s) (λ comb.

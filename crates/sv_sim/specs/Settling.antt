@@ -1,7 +1,7 @@
 -- Private: how the code goes. Words for how settling and the clock edge go, process by process.
 -- What settled and next mean is said in sv_system/specs/System.antt.
-use Rattle.std.specs.Prelude.{◌≡◌, ℕ, ◌<◌, Bool, false, IsTrue, IsFalse, List, length, take, filter}
-use Rattle.std.specs.Prelude.{slice_index, slice_index_or, Contains}
+use Rattle.std.specs.Prelude.{◌≡◌, ℕ, ◌<◌, IsTrue, IsFalse, List, length, take, filter}
+use Rattle.std.specs.Prelude.{slice_index, Contains}
 use Rattle.sv_system.specs.System.{Environment}
 use Rattle.sv_flat.specs.Design.{ProcessForm, FlatDesign}
 use Rattle.sv_flat.specs.Assigned.{assigns}
@@ -25,10 +25,6 @@ pub record IsPlan (design : FlatDesign) (plan : List ℕ) : Type 0 where
   pub behind : (i : ℕ) → i < length plan → (r : ℕ) → IsTrue (is_combinational design r)
       → Contains (reads_for design (slice_index plan i)) r
       → Contains (take i plan) r
-
--- the table says that the signal is left
-abbrev pub is_left : List Bool → ℕ → Bool
-is_left table s = slice_index_or table s false
 
 -- the first so many signals of the plan are stable
 abbrev pub FrontIsStable : FlatDesign → (plan : List ℕ) → Environment ℕ → ℕ → Type 0

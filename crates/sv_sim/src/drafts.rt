@@ -1,61 +1,84 @@
 // Drafts of a plan: a process is taken once all that it reads is settled (A. B. Kahn, Topological
 // sorting of large networks, 1962). Where the processes that are left wait for each other, the
-// lowest signal that is left is taken alone. No proof speaks of a draft: whether it is a plan is
-// asked of it.
-use crate::groups::{Groups, Member};
-use crate::settling::driver;
+// lowest signal that is left is taken alone. A process stands here as its head, the first of its
+// signals in the order by depth. No proof speaks of a draft, so each index is asked about: whether
+// it is a plan is asked of it.
 use std::alloc::{AllocError, Global};
 use sv_design::Design;
 use sv_flat::SigId;
+use sv_graph::{Graph, Queue};
 
 // What is taken into a plan, and what waits for it.
 #[derive(Drop)]
 struct Draft {
-    // For each signal the other processes that read it, once for each signal that it is read for.
-    readers: Groups,
-    // For each process how many such reads it waits for.
-    open: Vec<usize>,
-    // Processes that wait for none.
-    ready: Vec<usize>,
+    // From each signal to the heads of the other processes that read it, once for each signal that
+    // it is read for.
+    readers: Graph,
+    // The heads that wait for nothing, in the order in which they came to that; and for each head
+    // how much it waits for: such reads, and one thing more until all reads are noted.
+    queue: Queue,
     is_taken: Vec<bool>,
     plan: Vec<SigId>,
 }
 
 impl Draft {
-    fn new(alloc: Global, design: &Design, drivers: &[Option<usize>]) -> Result<Draft, AllocError> {
-        let signals = design.signals().len();
-        let processes = design.processes().len();
-        let reads = reads_of_others(alloc, design, drivers)?;
-        let open = counts_of(alloc, processes, &reads)?;
+    fn new(alloc: Global, count: usize) -> Result<Draft, AllocError> {
         Ok(Draft {
-            readers: Groups::new(alloc, signals, &reads)?,
-            ready: zeros_of(alloc, &open)?,
-            open,
-            is_taken: vec![in alloc; false; signals]?,
+            readers: Graph::new(alloc, count)?,
+            queue: Queue {
+                order: Vec::new(alloc),
+                counts: vec![in alloc; 1; count]?,
+            },
+            is_taken: vec![in alloc; false; count]?,
             plan: Vec::new(alloc),
         })
     }
 
-    // Takes the signals at some places in the order.
-    fn take_all(&mut self, places: &[usize], order: &[SigId]) -> Result<(), AllocError> {
-        for place in places {
-            if *place < order.len() {
-                self.take(order[*place])?;
+    // Lets a head wait for a read, where that is of another process.
+    fn add_read(
+        &mut self,
+        head: SigId,
+        other: Option<SigId>,
+        read: SigId,
+    ) -> Result<(), AllocError> {
+        let h = head.0 as usize;
+        if other.is_some() && other != Some(head) && h < self.queue.counts.len() {
+            self.queue.counts[h] = self.queue.counts[h].saturating_add(1);
+            add_edge(read, head, &mut self.readers)?;
+        }
+        Ok(())
+    }
+
+    // Lets the head of a signal's process wait for what is read for the signal.
+    fn add_reads(
+        &mut self,
+        design: &Design,
+        heads: &[Option<SigId>],
+        signal: SigId,
+    ) -> Result<(), AllocError> {
+        if let Some(head) = head_of(design, heads, signal) {
+            for read in reads_for(design, signal) {
+                let other = head_of(design, heads, *read);
+                self.add_read(head, other, *read)?;
             }
         }
         Ok(())
     }
 
-    // Takes a signal where it is not taken yet, and readies the processes that waited for nothing
-    // else.
+    // Takes a signal where it is not taken yet: the heads of what reads it no longer wait for it.
     fn take(&mut self, signal: SigId) -> Result<(), AllocError> {
         let s = signal.0 as usize;
         if s < self.is_taken.len() && !self.is_taken[s] {
             self.is_taken[s] = true;
             self.plan.push(signal)?;
-            for reader in self.readers.of(s) {
-                settle_read(*reader, &mut self.open, &mut self.ready)?;
-            }
+            settle_all(row_of(signal, &self.readers), &mut self.queue)?;
+        }
+        Ok(())
+    }
+
+    fn take_all(&mut self, signals: &[SigId]) -> Result<(), AllocError> {
+        for signal in signals {
+            self.take(*signal)?;
         }
         Ok(())
     }
@@ -65,15 +88,18 @@ impl Draft {
 /// processes wait for each other. It fails where memory runs out.
 pub fn draft_of(alloc: Global, design: &Design) -> Result<Vec<SigId>, AllocError> {
     let order = design.order();
-    let drivers = drivers_of(alloc, design)?;
-    let targets = targets_of(alloc, design, &drivers)?;
-    let mut draft = Draft::new(alloc, design, &drivers)?;
+    let heads = heads_of(alloc, design)?;
+    let targets = targets_of(alloc, design, &heads)?;
+    let mut draft = first_draft(alloc, design, &heads)?;
     // Each step takes a process, which is ready once, or goes on by a signal of the order.
-    let steps = order.len().saturating_add(design.processes().len());
+    let steps = order.len().saturating_add(heads.len());
+    let mut taken: usize = 0;
     let mut next: usize = 0;
     for _ in 0..steps {
-        if let Some(process) = draft.ready.pop() {
-            draft.take_all(targets.of(process), order)?;
+        if taken < draft.queue.order.len() {
+            let head = draft.queue.order[taken];
+            draft.take_all(row_of(head, &targets))?;
+            taken += 1;
         } else if next < order.len() {
             // What is read for the lowest signal that is left is lower, and so it is taken.
             draft.take(order[next])?;
@@ -83,110 +109,109 @@ pub fn draft_of(alloc: Global, design: &Design) -> Result<Vec<SigId>, AllocError
     Ok(draft.plan)
 }
 
-// The process of each combinational signal, and no process of the others.
-fn drivers_of(alloc: Global, design: &Design) -> Result<Vec<Option<usize>>, AllocError> {
-    let mut drivers = vec![in alloc; None; design.signals().len()]?;
-    let order = design.order();
-    for k in 0..order.len() {
-        let s = order[k].0 as usize;
-        if s < drivers.len() {
-            drivers[s] = Some(driver(design, order[k]));
+// For each process its head; none where it assigns no combinational signal.
+fn heads_of(alloc: Global, design: &Design) -> Result<Vec<Option<SigId>>, AllocError> {
+    let mut heads = vec![in alloc; None; design.processes().len()]?;
+    for signal in design.order().iter().rev() {
+        put_head(design, *signal, &mut heads);
+    }
+    Ok(heads)
+}
+
+// Makes a signal the head of its process.
+fn put_head(design: &Design, signal: SigId, heads: &mut [Option<SigId>]) {
+    if let Some(process) = driver_of(design, signal) {
+        if process < heads.len() {
+            heads[process] = Some(signal);
         }
     }
-    Ok(drivers)
 }
 
-fn driver_at(drivers: &[Option<usize>], signal: SigId) -> Option<usize> {
-    drivers.get(signal.0 as usize).copied().flatten()
+// The head of a signal's process; none where the signal is not combinational.
+fn head_of(design: &Design, heads: &[Option<SigId>], signal: SigId) -> Option<SigId> {
+    match driver_of(design, signal) {
+        Some(process) => heads.get(process).copied().flatten(),
+        None => None,
+    }
 }
 
-// For each process the places in the order of the signals that it assigns.
+fn driver_of(design: &Design, signal: SigId) -> Option<usize> {
+    if (signal.0 as usize) < design.signals().len() {
+        design.driver(signal)
+    } else {
+        None
+    }
+}
+
+fn reads_for(design: &Design, signal: SigId) -> &[SigId] {
+    if (signal.0 as usize) < design.signals().len() {
+        design.reads_for(signal)
+    } else {
+        &[]
+    }
+}
+
+// From each head to the signals of its process.
 fn targets_of(
     alloc: Global,
     design: &Design,
-    drivers: &[Option<usize>],
-) -> Result<Groups, AllocError> {
-    let mut members = Vec::new(alloc);
-    for (place, signal) in design.order().iter().enumerate() {
-        if let Some(process) = driver_at(drivers, *signal) {
-            members.push(Member {
-                group: process,
-                number: place,
-            })?;
+    heads: &[Option<SigId>],
+) -> Result<Graph, AllocError> {
+    let mut targets = Graph::new(alloc, design.signals().len())?;
+    for signal in design.order() {
+        if let Some(head) = head_of(design, heads, *signal) {
+            add_edge(head, *signal, &mut targets)?;
         }
     }
-    Groups::new(alloc, design.processes().len(), &members)
+    Ok(targets)
 }
 
-// For each combinational signal the other processes that read it, once for each signal that it is
-// read for.
-fn reads_of_others(
+// A draft in which nothing is taken.
+fn first_draft(
     alloc: Global,
     design: &Design,
-    drivers: &[Option<usize>],
-) -> Result<Vec<Member>, AllocError> {
-    let mut members = Vec::new(alloc);
-    let order = design.order();
-    for k in 0..order.len() {
-        let process = driver(design, order[k]);
-        let reads = design.reads_for(order[k]);
-        add_reads(process, reads, drivers, &mut members)?;
+    heads: &[Option<SigId>],
+) -> Result<Draft, AllocError> {
+    let mut draft = Draft::new(alloc, design.signals().len())?;
+    for signal in design.order() {
+        draft.add_reads(design, heads, *signal)?;
     }
-    Ok(members)
+    for head in heads {
+        if let Some(head) = *head {
+            settle(head, &mut draft.queue)?;
+        }
+    }
+    Ok(draft)
 }
 
-fn add_reads(
-    process: usize,
-    reads: &[SigId],
-    drivers: &[Option<usize>],
-    members: &mut Vec<Member>,
-) -> Result<(), AllocError> {
-    for read in reads {
-        let driver = driver_at(drivers, *read);
-        if driver.is_some() && driver != Some(process) {
-            members.push(Member {
-                group: read.0 as usize,
-                number: process,
-            })?;
-        }
+// Adds an edge to a graph that has the signal that it leads from.
+fn add_edge(from: SigId, to: SigId, graph: &mut Graph) -> Result<(), AllocError> {
+    if (from.0 as usize) < graph.rows.len() {
+        graph.add(from, to)?;
     }
     Ok(())
 }
 
-// How many reads each process waits for.
-fn counts_of(alloc: Global, processes: usize, reads: &[Member]) -> Result<Vec<usize>, AllocError> {
-    let mut counts: Vec<usize> = vec![in alloc; 0; processes]?;
-    for read in reads {
-        if read.number < counts.len() {
-            counts[read.number] = counts[read.number].saturating_add(1);
-        }
+// The signals that a signal's edges lead to.
+fn row_of(signal: SigId, graph: &Graph) -> &[SigId] {
+    match graph.rows.get(signal.0 as usize) {
+        Some(row) => row.as_slice(),
+        None => &[],
     }
-    Ok(counts)
 }
 
-// The places of the zeros.
-fn zeros_of(alloc: Global, counts: &[usize]) -> Result<Vec<usize>, AllocError> {
-    let mut places = Vec::new(alloc);
-    for (place, count) in counts.iter().enumerate() {
-        if *count == 0 {
-            places.push(place)?;
-        }
+// A head waits for one thing less.
+fn settle(head: SigId, queue: &mut Queue) -> Result<(), AllocError> {
+    let h = head.0 as usize;
+    if h < queue.counts.len() && queue.counts[h] > 0 {
+        queue.settle_all(&[head])?;
     }
-    Ok(places)
+    Ok(())
 }
 
-// One read less is open: with its last one a process is ready.
-fn settle_read(
-    process: usize,
-    open: &mut [usize],
-    ready: &mut Vec<usize>,
-) -> Result<(), AllocError> {
-    if process < open.len() {
-        let left = open[process].saturating_sub(1);
-        open[process] = left;
-        if left == 0 {
-            ready.push(process)?;
-        }
+fn settle_all(heads: &[SigId], queue: &mut Queue) -> Result<(), AllocError> {
+    for head in heads {
+        settle(*head, queue)?;
     }
     Ok(())
 }

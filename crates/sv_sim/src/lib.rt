@@ -12,14 +12,14 @@
 //! sees of a simulation; how values are given to signals stands in `sv_flat`. `Settling.antt` is
 //! private: it says how settling and the edge go; the meaning stands in the files before.
 //!
-//! Settling goes by a plan of the combinational signals, which `new` makes. `drafts` and `groups`
-//! promise no more than to end safely: whether a draft is a plan is asked of it, and the order by
-//! depth stands in for one that is none. Only the time that settling takes hangs on the draft.
+//! Settling goes by a plan of the combinational signals, which `new` makes. `drafts`, over the
+//! graphs and the queue of `sv_graph`, promises no more than to end safely: whether a draft is a
+//! plan is asked of it, and the order by depth stands in for one that is none. Only the time that
+//! settling takes hangs on the draft.
 #![tactic(auto)]
 
 mod drafts;
 mod edges;
-mod groups;
 mod laws;
 mod listed;
 mod plans;

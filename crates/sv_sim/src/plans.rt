@@ -5,12 +5,14 @@ ghost use Rattle.std.specs.Prelude.{◌≡◌, ◌<◌, ℕ, IsTrue, IsFalse, If
 ghost use Rattle.sv_design.specs.Numbers.{numbers};
 ghost use Rattle.sv_flat.specs.Reads.{is_combinational, reads_for};
 ghost use Rattle.sv_flat.specs.Views.{design_of};
-ghost use Rattle.sv_sim.specs.Settling.{IsPlan, is_left};
+ghost use Rattle.sv_graph.specs.Marks.{is_marked};
+ghost use Rattle.sv_sim.specs.Settling.{IsPlan};
 
 use crate::drafts::draft_of;
 use std::alloc::{AllocError, Global};
 use sv_design::Design;
 use sv_flat::SigId;
+use sv_graph::has_mark;
 
 /// A plan of the design. It fails where memory runs out.
 pub fn plan_of(alloc: Global, design: &Design) -> Result<Vec<SigId>, AllocError>
@@ -42,10 +44,10 @@ fn is_plan(alloc: Global, design: &Design, list: &[SigId]) -> Result<bool, Alloc
 // A table in which all combinational signals are left.
 fn combinational(alloc: Global, design: &Design) -> Result<Vec<bool>, AllocError>
     ensures size { IfOk result (λ left. length left.items ≡ length design.now.signals.items) }
-    ensures only { IfOk result (λ left. (s : ℕ) → IsTrue (is_left left.items s) →
+    ensures only { IfOk result (λ left. (s : ℕ) → IsTrue (is_marked left.items s) →
         IsTrue (is_combinational (design_of design.now) s)) }
     ensures all { IfOk result (λ left. (s : ℕ) →
-        IsTrue (is_combinational (design_of design.now) s) → IsTrue (is_left left.items s)) }
+        IsTrue (is_combinational (design_of design.now) s) → IsTrue (is_marked left.items s)) }
 {
     let mut left = vec![in alloc; false; design.signals().len()]?;
     let order = design.order();
@@ -59,9 +61,9 @@ fn combinational(alloc: Global, design: &Design) -> Result<Vec<bool>, AllocError
 fn is_next(design: &Design, signal: SigId, left: &[bool]) -> bool
     requires { length left.now ≡ length design.now.signals.items }
     ensures within { IsTrue result → signal.0 < length left.now }
-    ensures left { IsTrue result → IsTrue (is_left left.now signal.0) }
+    ensures left { IsTrue result → IsTrue (is_marked left.now signal.0) }
     ensures reads { IsTrue result → (r : ℕ) →
-        Contains (reads_for (design_of design.now) signal.0) r → IsFalse (is_left left.now r) }
+        Contains (reads_for (design_of design.now) signal.0) r → IsFalse (is_marked left.now r) }
 {
     let s = signal.0 as usize;
     s < left.len() && left[s] && are_taken(design.reads_for(signal), left)
@@ -70,21 +72,14 @@ fn is_next(design: &Design, signal: SigId, left: &[bool]) -> bool
 // Whether none of the signals is left.
 fn are_taken(signals: &[SigId], left: &[bool]) -> bool
     ensures { IsTrue result → (r : ℕ) → Contains (numbers signals.now) r →
-        IsFalse (is_left left.now r) }
+        IsFalse (is_marked left.now r) }
 {
-    signals.iter().all(|signal| !has(left, *signal))
-}
-
-// Whether a signal is left.
-fn has(left: &[bool], signal: SigId) -> bool
-    ensures { result ≡ is_left left.now signal.0 }
-{
-    left.get(signal.0 as usize).copied().unwrap_or(false)
+    signals.iter().all(|signal| !has_mark(left, *signal))
 }
 
 // Whether no signal is left.
 fn is_none_left(left: &[bool]) -> bool
-    ensures { IsTrue result → (s : ℕ) → IsFalse (is_left left.now s) }
+    ensures { IsTrue result → (s : ℕ) → IsFalse (is_marked left.now s) }
 {
     left.iter().all(|is_left| !*is_left)
 }

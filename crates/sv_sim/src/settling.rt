@@ -62,8 +62,8 @@ fn settle_next(
     Some(place)
 }
 
-/// The place of the process of a combinational signal.
-pub fn driver(design: &Design, signal: SigId) -> usize
+// The place of the process of a combinational signal.
+fn driver(design: &Design, signal: SigId) -> usize
     requires { IsTrue (is_combinational (design_of design.now) signal.0) }
     ensures driver { IsDriver (design_of design.now) signal.0 result }
     ensures design { IsDesign (design_of design.now) }

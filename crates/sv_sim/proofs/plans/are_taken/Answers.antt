@@ -6,16 +6,16 @@ use Rattle.sv_flat.specs.declared.signals.SigId.{SigId}
 use Rattle.sv_flat.proofs.AdmittedFacts.{negated_true}
 use Rattle.sv_flat.proofs.Depths.{from_all}
 use Rattle.sv_design.specs.Numbers.{numbers}
-use Rattle.sv_sim.specs.Settling.{is_left}
+use Rattle.sv_graph.specs.Marks.{is_marked}
 use Rattle.sv_sim.proofs.plans.are_taken.Goals as goal
 
 pub returns : goal.returns
 returns c = λ yes r at.
     let signals = c.args.signals.now in
-    let test = λ (k : ℕ). not (is_left c.args.left.now k) in
+    let test = λ (k : ℕ). not (is_marked c.args.left.now k) in
     let asked =
     all_from_yields_List (λ (s : SigId). test s.0) _ _ c.all.result c.all.ensures.ran
     (YieldsList-from_slice signals cc) (λ x b q k. search (rules, tests)) in
-    negated_true (is_left c.args.left.now r)
+    negated_true (is_marked c.args.left.now r)
     (from_all test (numbers signals) r
     (list_all-map test (λ (s : SigId). s.0) signals ∙ sym asked ∙ yes) at)

@@ -4,7 +4,7 @@ use Rattle.std.proofs.lemmas.List.{length-map}
 use Rattle.sv_flat.specs.declared.signals.SigId.{SigId}
 use Rattle.sv_flat.specs.Views.{design_of, signal_form}
 use Rattle.sv_design.specs.Numbers.{numbers}
-use Rattle.sv_sim.specs.Settling.{is_left}
+use Rattle.sv_graph.specs.Marks.{is_marked}
 use Rattle.sv_sim.proofs.PlanFacts.{none_taken, one_taken, all_taken}
 use Rattle.sv_sim.proofs.Simulated.{number_at}
 use Rattle.sv_sim.proofs.plans.is_plan.Goals as goal
@@ -34,5 +34,5 @@ returns c = λ yes.
     let whole = subst (λ n. n ≤ c.loop-k.k) (sym (length-map list (λ (s : SigId). s.0)))
     c.loop-k-test.false in
     all_taken (design_of c.args.design.now) (numbers list) c.loop-k.left.items c.loop-k.k
-    c.loop-k.invariant whole (λ s. subst (λ ts. IsFalse (is_left ts s)) c.deref-2.ensures.value
+    c.loop-k.invariant whole (λ s. subst (λ ts. IsFalse (is_marked ts s)) c.deref-2.ensures.value
     (c.is_none_left.ensures yes s))

@@ -4,7 +4,7 @@ use std::alloc::Global;
 use std::test::Fail;
 use sv_design::Design;
 use sv_flat::SigId;
-use sv_obl::{OblFault, list_line, obligations};
+use sv_paths::{OblFault, list_line, obligations};
 
 // A register whose selector is secret, held on one path.
 const HELD: &str = "labelmap D [0:0] 0: L; default: H; endlabelmap\n\
@@ -35,7 +35,10 @@ fn lines(alloc: Global, design: &Design) -> Result<Vec<u8>, OblFault> {
 fn lists_obligations(rt: HostRuntime) -> Result<(), Fail> {
     let design = design(&rt, rt.alloc(), HELD)?;
     assert!(rt; design.clock() == Some(SigId(0)));
-    assert!(rt; design.signals().len() == 4, "the signals are clk, i, s and q");
+    assert!(rt;
+        design.signals().len() == 4,
+        "the signals are clk, i, s and q"
+    );
     assert!(rt; design.is_clock(SigId(0)) && !design.is_clock(SigId(1)));
     let lines = lines(rt.alloc(), &design)?;
     assert!(rt; lines.as_slice() == HELD_LINES);

@@ -70,7 +70,10 @@ fn runs_in_any_order(rt: HostRuntime) -> Result<(), Fail> {
     assert!(rt; leaves_each(alloc, &design)?);
     assert!(rt; rounds(alloc, &design, 0)? == 2 && rounds(alloc, &design, 1)? == 1);
     let event = Event::new(alloc, &design)?;
-    assert!(rt; event.is_order(&[]) && !event.is_order(&[0]), "no process is clocked");
+    assert!(rt;
+        event.is_order(&[]) && !event.is_order(&[0]),
+        "no process is clocked"
+    );
     Ok(())
 }
 

@@ -27,7 +27,10 @@ fn sees_what_labels_show(rt: HostRuntime) -> Result<(), Fail> {
     assert!(rt; sim.fits(&[], &[0, 1, 0]), "the inputs fit");
     sim.settle(&[0, 1, 0]);
     let again = view(rt.alloc(), &sim, Point(0))?;
-    assert!(rt; same_view(&public, &again), "the other secret does not show");
+    assert!(rt;
+        same_view(&public, &again),
+        "the other secret does not show"
+    );
     let secret = view(rt.alloc(), &sim, Point(1))?;
     assert!(rt; !same_view(&public, &secret), "H sees it");
     Ok(())

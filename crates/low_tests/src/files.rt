@@ -34,7 +34,9 @@ fn is_long<C: Cabinet>(alloc: Global, cabinet: &mut C) -> bool {
 // Whether memory that already holds something keeps what is stored.
 fn holds(alloc: Global) -> bool {
     let mut sure = SureCabinet::new(alloc);
-    sure.hold(NAME, b"held").is_ok() && keeps(alloc, &mut sure)
+    sure.hold(NAME, b"held").is_ok()
+        && sure.bytes(NAME).unwrap_or(b"") == b"held".as_slice()
+        && keeps(alloc, &mut sure)
 }
 
 // Whether a source in memory hands out its bytes, which a sink in memory then has.

@@ -48,30 +48,30 @@ module _ (flat : Flat) (s : ℕ) (checked : IsChecked (design_of flat)) where
       IsTrue (assigns p.body s) → followed_in table ≡ followed (design_of flat) p s)
       (driven : IsTrue (is_register (design_of flat) s || is_combinational (design_of flat) s))
     where
-    pub call_target : IsTarget (design_of flat) s x.now self
-    call_target =
-        driven_target (design_of flat) is_design s x body self (ap signal_forms signals) reads
-        (λ p at own. ap followed_in marks ∙ follows p at own) driven
+      pub call_target : IsTarget (design_of flat) s x.now self
+      call_target =
+          driven_target (design_of flat) is_design s x body self (ap signal_forms signals) reads
+          (λ p at own. ap followed_in marks ∙ follows p at own) driven
 
-    module _ (words read own : Words)
-        (same : (t : ℕ) → Contains (numbers self.reads.now) t → read t ≡ words t)
-        (others : (t : ℕ) → t < length self.signals.now → own t ≡ read t)
-        (clear : (u : ℕ) → Contains (follows_in self) u →
-        own (copy_of (forms_in self) u)
-        ≡ replicate (signal_width (forms_in self) u) false_literal) where
-      others_below : (t : ℕ) → t < length (design_of flat).signals → own t ≡ read t
-      others_below t low =
-          others t (subst (λ n. t < n) (as_many flat ∙ sym (ap length signals)) low)
+      module _ (words read own : Words)
+          (same : (t : ℕ) → Contains (numbers self.reads.now) t → read t ≡ words t)
+          (others : (t : ℕ) → t < length self.signals.now → own t ≡ read t)
+          (clear : (u : ℕ) → Contains (follows_in self) u →
+          own (copy_of (forms_in self) u)
+          ≡ replicate (signal_width (forms_in self) u) false_literal) where
+        others_below : (t : ℕ) → t < length (design_of flat).signals → own t ≡ read t
+        others_below t low =
+            others t (subst (λ n. t < n) (as_many flat ∙ sym (ap length signals)) low)
 
-      pub call_stand : (n : ℕ) → 1 ≤ n → StandForReads (design_of flat) n words s →
-          AllStand (forms_in self) (IsAtHand self) n own
-      call_stand =
-          target_stand (design_of flat) s x.now self call_target words read own same others_below
-          clear
+        pub call_stand : (n : ℕ) → 1 ≤ n → StandForReads (design_of flat) n words s →
+            AllStand (forms_in self) (IsAtHand self) n own
+        call_stand =
+            target_stand (design_of flat) s x.now self call_target words read own same others_below
+            clear
 
-      pub call_made : (f : Formula) → settled_word (design_of flat) words s f
-          ≡ (let made = words_after (forms_in self) (follows_in self) (marked_statement x.now) own f
-          in (made.0, made.1 (copy_of (forms_in self) s)))
-      call_made =
-          target_made (design_of flat) s x.now self call_target words read own same others_below
-          clear
+        pub call_made : (f : Formula) → settled_word (design_of flat) words s f
+            ≡ (let made = words_after (forms_in self) (follows_in self) (marked_statement x.now) own f
+            in (made.0, made.1 (copy_of (forms_in self) s)))
+        call_made =
+            target_made (design_of flat) s x.now self call_target words read own same others_below
+            clear

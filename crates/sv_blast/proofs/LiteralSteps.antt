@@ -66,28 +66,28 @@ module _ (design : FlatDesign) (o : Obligation) (now next : Words)
   module _ (old : Formula) (old_is : old ≡ (after_conditions design o).0) (one : Formula)
       (target : LabelForm) (target_is : target_label design now next o.goal old ≡ (one, target))
     where
-    target_made : after_target design o ≡ (one, target)
-    target_made = sym (target_path old old_is) ∙ target_is
+      target_made : after_target design o ≡ (one, target)
+      target_made = sym (target_path old old_is) ∙ target_is
 
-    pub target_gates : one ≡ (after_target design o).0
-    target_gates = sym (ap (λ (z : Formula × LabelForm). z.0) target_made)
+      pub target_gates : one ≡ (after_target design o).0
+      target_gates = sym (ap (λ (z : Formula × LabelForm). z.0) target_made)
 
-    module _ (reads : List ℕ) (listed : reads ≡ o.reads) where
-      pub reads_from : signal_labels design now reads one ≡ after_reads design o
-      reads_from = reads_path reads one listed target_gates
+      module _ (reads : List ℕ) (listed : reads ≡ o.reads) where
+        pub reads_from : signal_labels design now reads one ≡ after_reads design o
+        reads_from = reads_path reads one listed target_gates
 
-      module _ (two : Formula) (labels : List LabelForm)
-          (labels_are : signal_labels design now reads one ≡ (two, labels)) where
-        reads_made : after_reads design o ≡ (two, labels)
-        reads_made = sym reads_from ∙ labels_are
+        module _ (two : Formula) (labels : List LabelForm)
+            (labels_are : signal_labels design now reads one ≡ (two, labels)) where
+          reads_made : after_reads design o ≡ (two, labels)
+          reads_made = sym reads_from ∙ labels_are
 
-        pub reads_gates : two ≡ (after_reads design o).0
-        reads_gates = sym (ap (λ (z : Formula × List LabelForm). z.0) reads_made)
+          pub reads_gates : two ≡ (after_reads design o).0
+          reads_gates = sym (ap (λ (z : Formula × List LabelForm). z.0) reads_made)
 
-        pub violation_from : (seen : LabelForm) → seen ≡ target → (shown : List LabelForm) →
-            shown ≡ labels → violation design now next seen shown o.goal two ≡ after_violation
-            design o
-        violation_from seen seen_is shown shown_are =
-            violation_path seen shown two
-            (seen_is ∙ sym (ap (λ (z : Formula × LabelForm). z.1) target_made))
-            (shown_are ∙ sym (ap (λ (z : Formula × List LabelForm). z.1) reads_made)) reads_gates
+          pub violation_from : (seen : LabelForm) → seen ≡ target → (shown : List LabelForm) →
+              shown ≡ labels → violation design now next seen shown o.goal two ≡ after_violation
+              design o
+          violation_from seen seen_is shown shown_are =
+              violation_path seen shown two
+              (seen_is ∙ sym (ap (λ (z : Formula × LabelForm). z.1) target_made))
+              (shown_are ∙ sym (ap (λ (z : Formula × List LabelForm). z.1) reads_made)) reads_gates

@@ -13,7 +13,7 @@ use Rattle.sv_flat.specs.Design.{mend}
 use Rattle.sv_flat.specs.Soundness.{well_formed, node_well_formed, is_signal, is_part_of, has_type}
 use Rattle.sv_flat.specs.Soundness.{binary_typed}
 use Rattle.sv_flat.specs.Values.{expression_signed, expression_width, signal_width, number_of}
-use Rattle.sv_flat.proofs.Constants.{constant_number}
+use Rattle.sv_flat.proofs.ConstantFacts.{constant_number}
 use Rattle.sv_flat.proofs.Depths.{first_of, second_of}
 use Rattle.sv_flat.specs.Readings.{is_constant}
 use Rattle.sv_gates.specs.Formulas.{Formula}

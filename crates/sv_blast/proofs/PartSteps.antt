@@ -303,22 +303,24 @@ module _ (signals : List SignalForm) (words : Words) (expr : FExpr) (items : Vec
     module _ (new : Formula) (word shown done : Word)
         (made : joined_word signals words (trees seen) old ≡ (new, word)) (shown_is : shown ≡ word)
       where
-      parts_made : (change : Word → Word) → done ≡ change shown →
-          ◌≡◌ {A = Formula × Word} ((joined_word signals words parts old).0,
-          change (joined_word signals words parts old).1) (new, done)
-      parts_made change is =
-          changed (joined_word signals words parts old) change new word shown done
-          (ap (λ z. joined_word signals words z old) parts_are ∙ made) shown_is is
+        parts_made : (change : Word → Word) → done ≡ change shown →
+            ◌≡◌ {A = Formula × Word} (
+              (joined_word signals words parts old).0,
+              change (joined_word signals words parts old).1,
+            ) (new, done)
+        parts_made change is =
+            changed (joined_word signals words parts old) change new word shown done
+            (ap (λ z. joined_word signals words z old) parts_are ∙ made) shown_is is
 
-      pub join_made : node_tree expr.node ≡ join parts → done ≡ zero_filled expr.width shown →
-          expression_word signals words (typed_tree expr) old ≡ (new, done)
-      join_made is done_is =
-          ap (λ z. node_word signals words expr.width expr.signed z old) is
-          ∙ parts_made (zero_filled expr.width) done_is
+        pub join_made : node_tree expr.node ≡ join parts → done ≡ zero_filled expr.width shown →
+            expression_word signals words (typed_tree expr) old ≡ (new, done)
+        join_made is done_is =
+            ap (λ z. node_word signals words expr.width expr.signed z old) is
+            ∙ parts_made (zero_filled expr.width) done_is
 
-      pub repeat_made : (count : ℕ) → node_tree expr.node ≡ replication count parts →
-          done ≡ zero_filled expr.width (repeated_word count shown) →
-          expression_word signals words (typed_tree expr) old ≡ (new, done)
-      repeat_made count is done_is =
-          ap (λ z. node_word signals words expr.width expr.signed z old) is
-          ∙ parts_made (λ z. zero_filled expr.width (repeated_word count z)) done_is
+        pub repeat_made : (count : ℕ) → node_tree expr.node ≡ replication count parts →
+            done ≡ zero_filled expr.width (repeated_word count shown) →
+            expression_word signals words (typed_tree expr) old ≡ (new, done)
+        repeat_made count is done_is =
+            ap (λ z. node_word signals words expr.width expr.signed z old) is
+            ∙ parts_made (λ z. zero_filled expr.width (repeated_word count z)) done_is

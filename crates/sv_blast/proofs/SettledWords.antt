@@ -12,7 +12,7 @@ use Rattle.sv_flat.specs.Soundness.{well_formed}
 use Rattle.sv_flat.specs.Readings.{is_constant}
 use Rattle.sv_flat.proofs.Depths.{first_of, second_of}
 use Rattle.sv_flat.proofs.ReadSignals.{reads_signals}
-use Rattle.sv_flat.proofs.Constants.{constant_number}
+use Rattle.sv_flat.proofs.ConstantFacts.{constant_number}
 use Rattle.sv_obl.specs.Wanted.{with_copies}
 use Rattle.sv_obl.proofs.PutFacts.{width_settled}
 use Rattle.sv_obl.proofs.TreeFacts.{held_below, node_held_below, parts_held_below, well_held}

@@ -88,16 +88,16 @@ fn add_reads(
     graph: &mut BitGraph,
     sought: Sought,
     expr: &FExpr,
-    served: Served,
+    served: &Served,
 ) -> Result<(), AllocError>
     requires sound { IsTrue (sound (design_of flat.now)) }
     requires formed { IsTrue (well_formed (design_of flat.now).signals (typed_tree expr.now)) }
     requires over { IsOver (length flat.now.signals.items) graph.old }
-    requires targets { HasTargetsBelow (length flat.now.signals.items) served.targets.now }
+    requires targets { HasTargetsBelow (length flat.now.signals.items) served.now.targets.now }
     ensures over { IsOver (length flat.now.signals.items) graph.new }
     ensures gains { OnOk result (GainsEdges graph.old graph.new (λ a b.
-        names_sought (design_of flat.now).signals sought (in_scope served.later.now)
-        (typed_tree expr.now) a && has_some served.targets.now b)) }
+        names_sought (design_of flat.now).signals sought (in_scope served.now.later.now)
+        (typed_tree expr.now) a && has_some served.now.targets.now b)) }
 {
     let names = names_in(alloc, flat.signals.as_slice(), expr)?;
     let row = row_of(alloc, flat.signals.len(), served.targets)?;
@@ -139,7 +139,7 @@ fn follow(
                 targets: &bits,
                 later: &inside,
             };
-            add_reads(alloc, flat, graph, sought, value, served)?;
+            add_reads(alloc, flat, graph, sought, value, &served)?;
             Ok(bits)
         }
         FStmt::Block(stmts) => follow_all(alloc, flat, graph, sought, stmts, later),
@@ -152,7 +152,7 @@ fn follow(
                 targets: &bits,
                 later: &inside,
             };
-            add_reads(alloc, flat, graph, sought, cond, served)?;
+            add_reads(alloc, flat, graph, sought, cond, &served)?;
             Ok(bits)
         }
     }

@@ -304,9 +304,7 @@ fn add_item(
         Item::Always { place, clock, body } => {
             add_always(alloc, *place, clock.as_ref(), body, inside.scope, built)
         }
-        Item::Instance(instance) => {
-            add_instance(shared, nest, inside, instance, built, levels)
-        }
+        Item::Instance(instance) => add_instance(shared, nest, inside, instance, built, levels),
         Item::Param(_) | Item::Memory(_) | Item::Release { .. } | Item::Invariant(..) => Ok(()),
     }
 }

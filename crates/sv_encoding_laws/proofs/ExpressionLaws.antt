@@ -23,7 +23,7 @@ use Rattle.sv_flat.specs.Values.{value, node_value, joined, number_of, cut_value
 use Rattle.sv_flat.specs.Soundness.{is_one_to, is_signal, has_type, is_part_of, unary_typed}
 use Rattle.sv_flat.specs.Soundness.{binary_typed, well_formed, node_well_formed, parts_well_formed}
 use Rattle.sv_flat.specs.Readings.{is_constant}
-use Rattle.sv_flat.proofs.Constants.{constant_number}
+use Rattle.sv_flat.proofs.ConstantFacts.{constant_number}
 use Rattle.sv_flat.proofs.Depths.{first_of, second_of}
 use Rattle.sv_clause.specs.Literals.{literal_true}
 use Rattle.sv_gates.specs.Formulas.{Formula, IsLiteral}

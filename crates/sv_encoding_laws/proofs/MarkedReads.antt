@@ -1,6 +1,6 @@
 -- The names in an expression of a process whose earlier reads are marked: each is of a signal or of
 -- its copy, of the width of what is read.
-use Rattle.std.proofs.Common.{◌≡◌, ℕ, ◌+◌, ◌<◌, ◌&&◌, ◌⊎◌, inl, inr, Bool, true, false, cond, List, ◌++◌}
+use Rattle.std.proofs.Common.{◌≡◌, ℕ, ◌+◌, ◌<◌, ◌&&◌, ◌⊎◌, inl, inr, Bool, true, false, cond, List}
 use Rattle.std.proofs.Common.{length, sym, arith, ltb-true, length-append}
 use Rattle.std.specs.Prelude.{Contains, IsTrue, IsFalse}
 use Rattle.std.proofs.lemmas.Bool.{false≢true, lt-ltb}

@@ -16,7 +16,7 @@ pub mod Members
 pub mod SameValues
 pub mod SameRuns
 pub mod AdmittedFacts
-pub mod Constants
+pub mod ConstantFacts
 pub mod ReadSignals
 pub mod ClockFacts
 pub mod RunReads

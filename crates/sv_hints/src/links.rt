@@ -313,11 +313,16 @@ fn local_parameter(
          `module {} #(parameter {} = ..)`",
         &[
             Hole::Words(name.as_str()),
-            Hole::Place(place),
+            hole_at(place),
             Hole::Words(module),
             Hole::Words(name.as_str()),
         ],
     )
+}
+
+// A place in a hole.
+fn hole_at(place: Place) -> Hole<'static> {
+    Hole::Place(place)
 }
 
 // Of a name that is no parameter of a module.

@@ -35,7 +35,6 @@ mod marking;
 mod names;
 mod pieces;
 mod queries;
-mod read_bits;
 mod valuations;
 
 pub use body_slices::{Bodies, BodySlice, slice_for};

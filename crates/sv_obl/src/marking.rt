@@ -74,11 +74,7 @@ fn marked_node(
             *place,
         )),
         FNode::Bit(signal, place, index) => Ok(FNode::Bit(
-            named(
-                signals,
-                later,
-                indexed(signals, *signal, *place, index),
-            ),
+            named(signals, later, indexed(signals, *signal, *place, index)),
             *place,
             marked_box(index, alloc, signals, later)?,
         )),

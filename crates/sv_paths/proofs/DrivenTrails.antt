@@ -17,7 +17,7 @@ use Rattle.sv_flat.specs.declared.designs.Process.{Process}
 use Rattle.sv_flat.specs.declared.signals.Signal.{Signal}
 use Rattle.sv_flat.proofs.AdmittedFacts.{body_is_sound}
 use Rattle.sv_design.specs.Designs.{IsDesign}
-use Rattle.sv_design.proofs.Sound.{few_bits}
+use Rattle.sv_rules.proofs.Sound.{few_bits}
 use Rattle.sv_obl.specs.declared.marked.Marked.{Marked}
 use Rattle.sv_paths.specs.declared.targets.Paths.{Paths}
 use Rattle.sv_paths.specs.declared.targets.Paths.TheVariants.{Routes, Trails}

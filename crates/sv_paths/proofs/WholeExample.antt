@@ -6,6 +6,7 @@ use Rattle.std.specs.Prelude.{IsTrue, IsFalse}
 use Rattle.std.proofs.lemmas.Bool.{false≢true}
 use Rattle.std.proofs.lemmas.List.Elements.{All-nil, All-cons}
 use Rattle.sv_num.specs.Vectors.{is_true}
+use Rattle.sv_lattice.specs.declared.points.Point.{Point}
 use Rattle.sv_lattice.specs.Flows.{EachPair, IsApart, HasJoin, HasMeet}
 use Rattle.sv_lattice.specs.Maps.{MapRows, IsMap, row_of}
 use Rattle.sv_lattice.specs.Labels.{map_of}
@@ -176,16 +177,16 @@ turn_is truth read v f =
 abbrev Stays : ℕ → ℕ → Type 0
 Stays point turn = IsFalse (flow_test table point (row_of (map_of maps 0) turn).0)
 
--- the other way round
+-- or does
 abbrev Goes : ℕ → ℕ → Type 0
 Goes point turn = IsTrue (flow_test table point (row_of (map_of maps 0) turn).0)
 
 -- at a value of the turn at which the turn and a name of a point flow to H
-valid_at : (truth : Bool) (read point value : ℕ) →
+valid_at : (truth : Bool) (read : ℕ) (label : Point) (value : ℕ) →
     ((x : ℕ) → x < 2 → is_true (x % 2) ≡ truth → x ≡ value) →
-    ((e : Environment ℕ) → (flat_system turns).label read e ≡ point) →
-    Goes 0 value → Goes point value → IsValid turns (obligation truth read)
-valid_at truth read point value value_of labelled own other v f =
+    ((e : Environment ℕ) → (flat_system turns).label read e ≡ label) →
+    Goes 0 value → Goes label.0 value → IsValid turns (obligation truth read)
+valid_at truth read label value value_of labelled own other v f =
     let is = ap (λ (e : Environment ℕ). e 0) f.in_frame
     ∙ value_of (f.now 0) (turn_fits (obligation truth read) v f) (turn_is truth read v f) in
     let stays = f.fails in
@@ -195,7 +196,7 @@ valid_at truth read point value value_of labelled own other v f =
     (subst (λ t. IsFalse ((flat_system turns).flows ((flat_system turns).label t f.now)
     ((flat_system turns).label 3 f.there))) (sym first) stays.2)) ∙ own))
     (λ later.
-    false≢true (sym (subst (Stays point) is
+    false≢true (sym (subst (Stays label.0) is
     (subst (λ p. IsFalse ((flat_system turns).flows p ((flat_system turns).label 3 f.there)))
     (ap (λ t. (flat_system turns).label t f.now) (sym (only read stays.0 later))
     ∙ labelled f.now) stays.2)) ∙ other))
@@ -203,11 +204,11 @@ valid_at truth read point value value_of labelled own other v f =
 
 -- where the turn is 1, turn and b flow to H
 first_valid : IsValid turns (obligation true 2)
-first_valid = valid_at true 2 1 1 one_bit (λ e. refl) refl refl
+first_valid = valid_at true 2 (point 1) 1 one_bit (λ e. refl) refl refl
 
 -- where it is 0, turn and a flow to L
 second_valid : IsValid turns (obligation false 1)
-second_valid = valid_at false 1 0 0 no_bit (λ e. refl) refl refl
+second_valid = valid_at false 1 (point 0) 0 no_bit (λ e. refl) refl refl
 
 turns_valid : AllValid [] turns
 turns_valid = All-cons (IsValid turns) (obligation true 2) (obligation false 1 ∷ []) first_valid

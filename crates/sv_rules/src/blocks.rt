@@ -268,11 +268,7 @@ pub struct BlockFaults {
 }
 
 // What is wrong with a block.
-fn block_faults(
-    alloc: Global,
-    flat: &Flat,
-    process: &Process,
-) -> Result<BlockFaults, AllocError>
+fn block_faults(alloc: Global, flat: &Flat, process: &Process) -> Result<BlockFaults, AllocError>
     requires sound { IsTrue (sound (design_of flat.now)) }
     requires body { IsTrue
         (statement_sound (design_of flat.now).signals (flat_statement process.now.body)) }
@@ -290,11 +286,7 @@ fn block_faults(
 }
 
 // What is wrong with a process, where it is a block.
-fn process_faults(
-    alloc: Global,
-    flat: &Flat,
-    process: &Process,
-) -> Result<BlockFaults, AllocError>
+fn process_faults(alloc: Global, flat: &Flat, process: &Process) -> Result<BlockFaults, AllocError>
     requires sound { IsTrue (sound (design_of flat.now)) }
     requires body { IsTrue
         (statement_sound (design_of flat.now).signals (flat_statement process.now.body)) }

@@ -20,11 +20,7 @@ use sv_flat::{Flat, SigId, SigKind, Signal};
 use sv_lattice::{Label, Lattice};
 
 // Marks what is used as something else than a clock.
-fn mark_used(
-    alloc: Global,
-    flat: &Flat,
-    table: &mut [bool],
-) -> Result<(), AllocError>
+fn mark_used(alloc: Global, flat: &Flat, table: &mut [bool]) -> Result<(), AllocError>
     requires sound { IsTrue (sound (design_of flat.now)) }
     requires size { length table.old ≡ length flat.now.signals.items }
     ensures { OnOk result (Marks table.old table.new (is_used (design_of flat.now))) }
@@ -68,11 +64,7 @@ pub struct ClockTables {
 }
 
 // What rule 602 asks of each signal.
-fn clock_tables(
-    alloc: Global,
-    flat: &Flat,
-    clocks: &[bool],
-) -> Result<ClockTables, AllocError>
+fn clock_tables(alloc: Global, flat: &Flat, clocks: &[bool]) -> Result<ClockTables, AllocError>
     requires sound { IsTrue (sound (design_of flat.now)) }
     requires clocks { AreClocks (design_of flat.now) clocks.now }
     ensures { IfOk result (AreClockTables (design_of flat.now)) }

@@ -120,11 +120,7 @@ pub fn bits_read(width: u8, read: &Read) -> u64
 
 /// Adds the names in an expression, in textual order.
 #[cycle(add_names)]
-pub fn add_names(
-    signals: &[Signal],
-    expr: &FExpr,
-    names: &mut Vec<Read>,
-) -> Result<(), AllocError>
+pub fn add_names(signals: &[Signal], expr: &FExpr, names: &mut Vec<Read>) -> Result<(), AllocError>
     requires { IsTrue (well_formed (signal_forms signals.now) (typed_tree expr.now)) }
     ensures { OnOk result (read_forms names.new.items ≡
         read_forms names.old.items ++ reads (signal_forms signals.now) (typed_tree expr.now)) }
@@ -183,11 +179,7 @@ fn add_all_names(
 }
 
 /// The names in an expression, in textual order.
-pub fn names_in(
-    alloc: Global,
-    signals: &[Signal],
-    expr: &FExpr,
-) -> Result<Vec<Read>, AllocError>
+pub fn names_in(alloc: Global, signals: &[Signal], expr: &FExpr) -> Result<Vec<Read>, AllocError>
     requires { IsTrue (well_formed (signal_forms signals.now) (typed_tree expr.now)) }
     ensures { IfOk result (λ names.
         read_forms names.items ≡ reads (signal_forms signals.now) (typed_tree expr.now)) }

@@ -41,11 +41,7 @@ fn mark_uses(
 
 /// Marks what processes read or drive otherwise than in links by whole names to input ports. It
 /// fails where memory runs out.
-pub fn mark_process_uses(
-    alloc: Global,
-    flat: &Flat,
-    table: &mut [bool],
-) -> Result<(), AllocError>
+pub fn mark_process_uses(alloc: Global, flat: &Flat, table: &mut [bool]) -> Result<(), AllocError>
     requires sound { IsTrue (sound (design_of flat.now)) }
     requires size { length table.old ≡ length flat.now.signals.items }
     ensures { OnOk result (Marks table.old table.new (λ s.
@@ -115,11 +111,7 @@ pub fn mark_linked(flat: &Flat, table: &mut [bool])
 }
 
 /// Marks what the declared invariants name. It fails where memory runs out.
-pub fn mark_invariant_uses(
-    alloc: Global,
-    flat: &Flat,
-    table: &mut [bool],
-) -> Result<(), AllocError>
+pub fn mark_invariant_uses(alloc: Global, flat: &Flat, table: &mut [bool]) -> Result<(), AllocError>
     requires sound { IsTrue (sound (design_of flat.now)) }
     requires size { length table.old ≡ length flat.now.signals.items }
     ensures { OnOk result (Marks table.old table.new (λ s. list_any (λ (i : InvariantForm).

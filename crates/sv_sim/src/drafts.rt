@@ -1,6 +1,6 @@
 // Drafts of a plan: a process is taken once all that it reads is settled (A. B. Kahn, Topological
 // sorting of large networks, 1962). Where the processes that are left wait for each other, the
-// lowest signal that is left is taken alone. A process stands here as its head, the first of its
+// lowest signal that is left is taken alone. A process stands here as its head, the last of its
 // signals in the order by depth. No proof speaks of a draft, so each index is asked about: whether
 // it is a plan is asked of it.
 use std::alloc::{AllocError, Global};
@@ -49,6 +49,23 @@ impl Draft {
         Ok(())
     }
 
+    // Lets each head wait for what is read for the signals of its process, and for nothing else.
+    fn add_all_reads(
+        &mut self,
+        design: &Design,
+        heads: &[Option<SigId>],
+    ) -> Result<(), AllocError> {
+        for signal in design.order() {
+            self.add_reads(design, heads, *signal)?;
+        }
+        for head in heads {
+            if let Some(head) = *head {
+                settle(head, &mut self.queue)?;
+            }
+        }
+        Ok(())
+    }
+
     // Lets the head of a signal's process wait for what is read for the signal.
     fn add_reads(
         &mut self,
@@ -82,43 +99,54 @@ impl Draft {
         }
         Ok(())
     }
+
+    // Takes all signals of the order, in so many steps: each takes a process, which is ready once,
+    // or goes on by a signal of the order.
+    fn take_by_order(
+        &mut self,
+        order: &[SigId],
+        targets: &Graph,
+        steps: usize,
+    ) -> Result<(), AllocError> {
+        let mut taken: usize = 0;
+        let mut next: usize = 0;
+        for _ in 0..steps {
+            if taken < self.queue.order.len() {
+                let head = self.queue.order[taken];
+                self.take_all(row_of(head, targets))?;
+                taken += 1;
+            } else if next < order.len() {
+                // What is read for the lowest signal that is left is lower, and so it is taken.
+                self.take(order[next])?;
+                next += 1;
+            }
+        }
+        Ok(())
+    }
 }
 
 /// A list of the combinational signals in which those of one process stand together, where no
 /// processes wait for each other. It fails where memory runs out.
 pub fn draft_of(alloc: Global, design: &Design) -> Result<Vec<SigId>, AllocError> {
-    let order = design.order();
     let heads = heads_of(alloc, design)?;
     let targets = targets_of(alloc, design, &heads)?;
-    let mut draft = first_draft(alloc, design, &heads)?;
-    // Each step takes a process, which is ready once, or goes on by a signal of the order.
-    let steps = order.len().saturating_add(heads.len());
-    let mut taken: usize = 0;
-    let mut next: usize = 0;
-    for _ in 0..steps {
-        if taken < draft.queue.order.len() {
-            let head = draft.queue.order[taken];
-            draft.take_all(row_of(head, &targets))?;
-            taken += 1;
-        } else if next < order.len() {
-            // What is read for the lowest signal that is left is lower, and so it is taken.
-            draft.take(order[next])?;
-            next += 1;
-        }
-    }
+    let mut draft = Draft::new(alloc, design.signals().len())?;
+    draft.add_all_reads(design, &heads)?;
+    let order = design.order();
+    draft.take_by_order(order, &targets, order.len().saturating_add(heads.len()))?;
     Ok(draft.plan)
 }
 
 // For each process its head; none where it assigns no combinational signal.
 fn heads_of(alloc: Global, design: &Design) -> Result<Vec<Option<SigId>>, AllocError> {
     let mut heads = vec![in alloc; None; design.processes().len()]?;
-    for signal in design.order().iter().rev() {
+    for signal in design.order() {
         put_head(design, *signal, &mut heads);
     }
     Ok(heads)
 }
 
-// Makes a signal the head of its process.
+// Makes a signal the head of its process, in place of the one before.
 fn put_head(design: &Design, signal: SigId, heads: &mut [Option<SigId>]) {
     if let Some(process) = driver_of(design, signal) {
         if process < heads.len() {
@@ -164,24 +192,6 @@ fn targets_of(
         }
     }
     Ok(targets)
-}
-
-// A draft in which nothing is taken.
-fn first_draft(
-    alloc: Global,
-    design: &Design,
-    heads: &[Option<SigId>],
-) -> Result<Draft, AllocError> {
-    let mut draft = Draft::new(alloc, design.signals().len())?;
-    for signal in design.order() {
-        draft.add_reads(design, heads, *signal)?;
-    }
-    for head in heads {
-        if let Some(head) = *head {
-            settle(head, &mut draft.queue)?;
-        }
-    }
-    Ok(draft)
 }
 
 // Adds an edge to a graph that has the signal that it leads from.

@@ -67,17 +67,17 @@ module _ {tells : Bool} {g0 g1 l0 l1 : List ℕ} {left : ℕ} {before accepted :
 
     module _ (ended : Bool) (shown : count ≡ 0 → IsTrue ended) (later : List ℕ) (new : Simulation)
       where
-      pub turn_open : (ends : Ending) (found : Option Ending) → found ≡ Some ends →
-          PieceReads way.0 (take count now) (left - count) before later (Ok found) s new →
-          WhateverFollows ended g0 g2 (λ bytes. HasReached bytes ends before later new)
-      turn_open ends found is reads =
-          piece_open g0 g2 way.0 (take count now) (left - count) before later ended ends s new
-          turn_takes.given (piece_shown ended count left buffer now same within shown)
-          (found_so later new found (Some ends) is reads)
+        pub turn_open : (ends : Ending) (found : Option Ending) → found ≡ Some ends →
+            PieceReads way.0 (take count now) (left - count) before later (Ok found) s new →
+            WhateverFollows ended g0 g2 (λ bytes. HasReached bytes ends before later new)
+        turn_open ends found is reads =
+            piece_open g0 g2 way.0 (take count now) (left - count) before later ended ends s new
+            turn_takes.given (piece_shown ended count left buffer now same within shown)
+            (found_so later new found (Some ends) is reads)
 
-      pub turn_stops_open : (fault : SimFault) →
-          PieceReads way.0 (take count now) (left - count) before later (Err fault) s new →
-          WhateverFollows ended g0 g2 (λ bytes. StopsAt bytes before later s)
-      turn_stops_open fault =
-          piece_stops_open g0 g2 way.0 (take count now) (left - count) before later ended fault s
-          new turn_takes.given (piece_shown ended count left buffer now same within shown)
+        pub turn_stops_open : (fault : SimFault) →
+            PieceReads way.0 (take count now) (left - count) before later (Err fault) s new →
+            WhateverFollows ended g0 g2 (λ bytes. StopsAt bytes before later s)
+        turn_stops_open fault =
+            piece_stops_open g0 g2 way.0 (take count now) (left - count) before later ended fault s
+            new turn_takes.given (piece_shown ended count left buffer now same within shown)

@@ -22,13 +22,13 @@ pub loop-name-init : goal.loop-name-init
 loop-name-init c =
     let tree = typed_tree c.args.expr.now in
     let signals = (design_of c.args.flat.now).signals in
-    let later = in_scope c.args.served.later.now in
+    let later = in_scope c.args.served.now.later.now in
     let test = λ (a : ℕ) (r : ReadForm). (r.signal == a) && is_sought signals c.args.sought later r in
     let same : read_forms c.deref-name-items.result.now ≡ reads signals tree =
     ap read_forms c.deref-name-items.ensures.value ∙ c.in_ok-names.ensures
     ∙ ap (λ ss. reads (signal_forms ss) tree) c.as_slice.ensures.value in (
       c.requires.over,
-      λ a b. ap (λ t. has_edge c.args.graph.now a b || t && has_some c.args.served.targets.now b)
+      λ a b. ap (λ t. has_edge c.args.graph.now a b || t && has_some c.args.served.now.targets.now b)
           (sym (any_map (test a) read_form c.deref-name-items.result.now)
           ∙ ap (list_any (test a)) same),
     )
@@ -57,9 +57,9 @@ pub loop-name-preserved : goal.loop-name-preserved
 loop-name-preserved c =
     let items = c.deref-name-items.result.now in
     let i = c.loop-name.name-index in
-    let set = c.args.served.targets.now in
+    let set = c.args.served.now.targets.now in
     let signals = (design_of c.args.flat.now).signals in
-    let later = in_scope c.args.served.later.now in
+    let later = in_scope c.args.served.now.later.now in
     let test = λ (a : ℕ) (r : Read).
     (r.signal.0 == a) && is_sought signals c.args.sought later (read_form r) in
     let this = get_or items i no_read in (
@@ -83,9 +83,9 @@ loop-name-preserved c =
 pub returns-clause-gains : goal.returns-clause-gains
 returns-clause-gains c =
     let items = c.deref-name-items.result.now in
-    let set = c.args.served.targets.now in
+    let set = c.args.served.now.targets.now in
     let signals = (design_of c.args.flat.now).signals in
-    let later = in_scope c.args.served.later.now in
+    let later = in_scope c.args.served.now.later.now in
     let test = λ (a : ℕ) (r : Read).
     (r.signal.0 == a) && is_sought signals c.args.sought later (read_form r) in
     edges_end (has_edge c.args.graph.now) (has_edge c.loop-name.graph)

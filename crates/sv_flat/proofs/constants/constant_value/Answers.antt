@@ -2,7 +2,7 @@ use Rattle.std.proofs.Common.{◌≡◌, true, [], sym, ◌∙◌}
 use Rattle.sv_flat.specs.ByNumber.{by_number}
 use Rattle.sv_flat.specs.Readings.{is_constant}
 use Rattle.sv_flat.specs.Views.{typed_tree}
-use Rattle.sv_flat.proofs.Constants.{constant_formed, constant_value}
+use Rattle.sv_flat.proofs.ConstantFacts.{constant_formed, constant_value}
 use Rattle.sv_flat.proofs.constants.constant_value.Goals as goal
 
 pub value_of-requires-clause-formed : goal.value_of-requires-clause-formed

@@ -1,9 +1,9 @@
-use Rattle.std.proofs.Common.{◌++◌, ◌∙◌, true, false, sym, ap, subst, rules, arith}
+use Rattle.std.proofs.Common.{[], ◌++◌, ◌∙◌, true, false, sym, ap, subst, rules, arith}
 use Rattle.std.specs.Result.{IsErrOf}
 use Rattle.sv_flat.specs.ByNumber.{signal_forms}
 use Rattle.sv_flat.specs.declared.expressions.FNode.{the_lemmas}
 use Rattle.sv_flat.specs.Views.{typed_tree, node_tree}
-use Rattle.sv_flat.proofs.Constants.{constant_formed}
+use Rattle.sv_flat.proofs.ConstantFacts.{constant_formed}
 use Rattle.sv_flat.proofs.Parts.{parts_at, formed_at}
 use Rattle.sv_gates.specs.Formulas.{most_variables}
 use Rattle.sv_gates.specs.declared.gates.GateFault.TheVariants.{Full}

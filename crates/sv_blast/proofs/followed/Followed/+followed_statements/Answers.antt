@@ -112,7 +112,7 @@ after_plain-after-requires-in-Chain t c =
           subst TellsTargets (sym there) tells.2,
           (
             subst (λ z. AreFit (forms_in self) (follows_in self) (IsAtHand self)
-            (marked_statement z))
+                (marked_statement z))
                 (sym there) fit.1,
             c.in_ok-after-in-Chain.ensures.stand,
           ),

@@ -4,8 +4,8 @@ use Rattle.sv_flat.specs.Assigned.{has_bit}
 use Rattle.sv_flat.specs.Views.{piece_form}
 use Rattle.sv_obl.specs.Later.{in_bits}
 use Rattle.sv_obl.specs.Views.{piece_forms}
-use Rattle.sv_design.proofs.PieceFacts.{ordered_first, ordered_rest, piece_added}
-use Rattle.sv_design.proofs.Sound.{no_piece, piece_at}
+use Rattle.sv_rules.proofs.PieceFacts.{ordered_first, ordered_rest, piece_added}
+use Rattle.sv_rules.proofs.Sound.{no_piece, piece_at}
 use Rattle.sv_obl.proofs.later.Bits.add_pieces.Goals as goal
 
 pub mask-requires-clause-ordered : goal.mask-requires-clause-ordered

@@ -3,11 +3,16 @@
 use Rattle.std.proofs.Common.{◌≡◌, ℕ, ◌*◌, ◌+◌, ◌^◌, Bool, cond, ◌&&◌, not, List, refl, ap, ap₂, ◌∙◌}
 use Rattle.std.specs.Prelude.{IsTrue, nat_le}
 use Rattle.std.proofs.lemmas.Bool.{false≢true}
-use Rattle.sv_num.specs.BinaryValues.{class_of, is_division}
+use Rattle.sv_num.specs.Vectors.{as_number, is_true}
+use Rattle.sv_num.specs.Parts.{repeated, bits_between}
+use Rattle.sv_num.specs.UnaryValues.{unary_value}
+use Rattle.sv_num.specs.BinaryValues.{binary_value, class_of, is_division}
+use Rattle.sv_system.specs.System.{Environment}
 use Rattle.sv_flat.specs.Design.{SignalForm, TypedTree, typed, NodeTree, constant, read, read_bit}
 use Rattle.sv_flat.specs.Design.{read_part, unary, binary, choice, join, replication, held}
 use Rattle.sv_flat.specs.Design.{held_bit, held_part, mend, slice, TypedTrees, no_parts, more_parts}
-use Rattle.sv_flat.specs.Values.{expression_width, parts_width}
+use Rattle.sv_flat.specs.Values.{expression_width, expression_signed, parts_width, value, node_value}
+use Rattle.sv_flat.specs.Values.{joined, number_of}
 use Rattle.sv_flat.specs.Soundness.{is_one_to, has_type, is_part_of, unary_typed, binary_typed}
 use Rattle.sv_flat.specs.Soundness.{well_formed, node_well_formed, parts_well_formed}
 use Rattle.sv_flat.specs.Readings.{is_constant, is_constant_node, are_constant}

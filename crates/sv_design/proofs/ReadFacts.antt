@@ -19,13 +19,13 @@ use Rattle.sv_design.specs.Feeds.{names_sought, feeds}
 use Rattle.sv_graph.specs.BitGraphs.{has_edge, GainsEdges}
 use Rattle.sv_rules.specs.Phases.{SameBits}
 use Rattle.sv_rules.proofs.BlockPasses.{targets_are}
-use Rattle.sv_rules.specs.Scopes.{in_scope}
+use Rattle.sv_rules.specs.Surroundings.{in_surrounding}
 use Rattle.sv_design.specs.declared.reads.Sought.{Sought}
-use Rattle.sv_rules.specs.declared.scopes.Scope.{Scope, Inside}
+use Rattle.sv_rules.specs.declared.surroundings.Surrounding.{Surrounding, Inside}
 use Rattle.sv_graph.proofs.EntryFacts.{nothing_in}
 use Rattle.sv_graph.proofs.MarkFacts.{or_no, or_three}
 use Rattle.sv_rules.proofs.Passes.{or_turned}
-use Rattle.sv_rules.proofs.PieceFacts.{in_scope-inside}
+use Rattle.sv_rules.proofs.PieceFacts.{in_surrounding-inside}
 use Rattle.sv_rules.proofs.Sound.{process_is_sound}
 
 -- ---- names
@@ -74,21 +74,21 @@ body_of_process design is_sound p at =
 
 -- the names that are sought in what has its own bits around it
 pub gains_inside : (signals : List SignalForm) (sought : Sought) (e : TypedTree)
-    (whole : FlatStatement) (set : Bits) (old new : BitGraph) (h : Bor Bits) (r : Bor Scope)
+    (whole : FlatStatement) (set : Bits) (old new : BitGraph) (h : Bor Bits) (r : Bor Surrounding)
     → SameBits (in_bits h.now) (can_assign whole)
     → ((b : ℕ) → has_some set b ≡ assigns whole b)
     → GainsEdges old new (λ a b.
-    names_sought signals sought (in_scope (Inside h r)) e a && has_some set b)
+    names_sought signals sought (in_surrounding (Inside h r)) e a && has_some set b)
     → GainsEdges old new (λ a b.
-    names_sought signals sought (either (can_assign whole) (in_scope r.now)) e a
+    names_sought signals sought (either (can_assign whole) (in_surrounding r.now)) e a
     && assigns whole b)
 gains_inside signals sought e whole set old new h r bits targets gains =
-    let around : in_scope (Inside h r) ≡ either (can_assign whole) (in_scope r.now) =
-    in_scope-inside h r
-    ∙ ap (λ (z : BitSet). either z (in_scope r.now)) (fun_ext (λ s. fun_ext (λ b. bits s b))) in
+    let around : in_surrounding (Inside h r) ≡ either (can_assign whole) (in_surrounding r.now) =
+    in_surrounding-inside h r
+    ∙ ap (λ (z : BitSet). either z (in_surrounding r.now)) (fun_ext (λ s. fun_ext (λ b. bits s b))) in
     same_edges old new
-    (λ a b. names_sought signals sought (in_scope (Inside h r)) e a && has_some set b)
-    (λ a b. names_sought signals sought (either (can_assign whole) (in_scope r.now)) e a
+    (λ a b. names_sought signals sought (in_surrounding (Inside h r)) e a && has_some set b)
+    (λ a b. names_sought signals sought (either (can_assign whole) (in_surrounding r.now)) e a
     && assigns whole b)
     (λ a b. ap₂ (λ z t. names_sought signals sought z e a && t) around (targets b))
     gains
@@ -118,22 +118,22 @@ bits_before left first rest splits here bits more same can gains s b =
     ∙ ap (λ z. can_assign z s b) (sym splits)
 
 pub feeds_before : (signals : List SignalForm) (sought : Sought) (left first rest : FlatStatement)
-    → left ≡ after first rest → (h : Bor Bits) (r : Bor Scope) (old now next : BitGraph)
+    → left ≡ after first rest → (h : Bor Bits) (r : Bor Surrounding) (old now next : BitGraph)
     → SameBits (in_bits h.now) (can_assign rest)
-    → GainsEdges old now (feeds signals sought rest (in_scope r.now))
-    → GainsEdges now next (feeds signals sought first (in_scope (Inside h r)))
-    → GainsEdges old next (feeds signals sought left (in_scope r.now))
+    → GainsEdges old now (feeds signals sought rest (in_surrounding r.now))
+    → GainsEdges now next (feeds signals sought first (in_surrounding (Inside h r)))
+    → GainsEdges old next (feeds signals sought left (in_surrounding r.now))
 feeds_before signals sought left first rest splits h r old now next same so_far gains =
-    let around : in_scope (Inside h r) ≡ either (can_assign rest) (in_scope r.now) =
-    in_scope-inside h r
-    ∙ ap (λ (z : BitSet). either z (in_scope r.now)) (fun_ext (λ s. fun_ext (λ b. same s b))) in
-    subst (λ z. GainsEdges old next (feeds signals sought z (in_scope r.now))) (sym splits)
+    let around : in_surrounding (Inside h r) ≡ either (can_assign rest) (in_surrounding r.now) =
+    in_surrounding-inside h r
+    ∙ ap (λ (z : BitSet). either z (in_surrounding r.now)) (fun_ext (λ s. fun_ext (λ b. same s b))) in
+    subst (λ z. GainsEdges old next (feeds signals sought z (in_surrounding r.now))) (sym splits)
     (same_edges old next
-    (λ a b. feeds signals sought rest (in_scope r.now) a b
-    || feeds signals sought first (either (can_assign rest) (in_scope r.now)) a b)
-    (feeds signals sought (after first rest) (in_scope r.now))
-    (λ a b. or_turned (feeds signals sought rest (in_scope r.now) a b)
-    (feeds signals sought first (either (can_assign rest) (in_scope r.now)) a b))
-    (both_edges old now next (feeds signals sought rest (in_scope r.now))
-    (feeds signals sought first (either (can_assign rest) (in_scope r.now))) so_far
+    (λ a b. feeds signals sought rest (in_surrounding r.now) a b
+    || feeds signals sought first (either (can_assign rest) (in_surrounding r.now)) a b)
+    (feeds signals sought (after first rest) (in_surrounding r.now))
+    (λ a b. or_turned (feeds signals sought rest (in_surrounding r.now) a b)
+    (feeds signals sought first (either (can_assign rest) (in_surrounding r.now)) a b))
+    (both_edges old now next (feeds signals sought rest (in_surrounding r.now))
+    (feeds signals sought first (either (can_assign rest) (in_surrounding r.now))) so_far
     (subst (λ z. GainsEdges now next (feeds signals sought first z)) around gains)))

@@ -19,12 +19,12 @@ ghost use Rattle.sv_graph.specs.Graphs.{rows_of};
 ghost use Rattle.sv_graph.specs.Marks.{is_marked, IsTable};
 ghost use Rattle.sv_rules.specs.Phases.{SameBits};
 ghost use Rattle.sv_rules.specs.ReadForms.{read_form};
-ghost use Rattle.sv_rules.specs.Scopes.{in_scope};
+ghost use Rattle.sv_rules.specs.Surroundings.{in_surrounding};
 
 use std::alloc::{AllocError, Global};
 use sv_flat::{FExpr, FStmt, Flat, ProcKind, Process, SigId};
 use sv_graph::{BitGraph, BitSet, Graph, row_of, share};
-use sv_rules::{Read, Scope, add_pieces, bits_read, names_in};
+use sv_rules::{Read, Surrounding, add_pieces, bits_read, names_in};
 
 /// Which reads of a process are sought: the earlier ones of an `always @*`, where an assignment to
 /// a bit that is read can follow the read, or all others.
@@ -35,10 +35,10 @@ pub struct Sought {
 }
 
 // Whether a read is sought, where some bits can be assigned after it.
-fn is_sought(flat: &Flat, sought: Sought, read: &Read, later: &Scope) -> bool
+fn is_sought(flat: &Flat, sought: Sought, read: &Read, later: &Surrounding) -> bool
     requires sound { IsTrue (sound (design_of flat.now)) }
     requires known { read.now.signal.0 < length flat.now.signals.items }
-    ensures { result ≡ is_sought (design_of flat.now).signals sought (in_scope later.now)
+    ensures { result ≡ is_sought (design_of flat.now).signals sought (in_surrounding later.now)
         (read_form read.now) }
 {
     let bits = bits_read(flat.signals[read.signal.0 as usize].width, read);
@@ -56,7 +56,7 @@ fn add_name(
     graph: &mut BitGraph,
     sought: Sought,
     name: &Read,
-    later: &Scope,
+    later: &Surrounding,
     targets: &[u64],
 )
     requires sound { IsTrue (sound (design_of flat.now)) }
@@ -66,7 +66,7 @@ fn add_name(
     ensures over { IsOver (length flat.now.signals.items) graph.new }
     ensures gains { GainsEdges graph.old graph.new (λ a b.
         ((name.now.signal.0 == a) && is_sought (design_of flat.now).signals sought
-        (in_scope later.now) (read_form name.now)) && in_row targets.now b) }
+        (in_surrounding later.now) (read_form name.now)) && in_row targets.now b) }
 {
     if is_sought(flat, sought, name, later) {
         graph.add_row(name.signal, targets);
@@ -78,7 +78,7 @@ fn add_name(
 #[derive(Clone, Copy)]
 struct Served<'a> {
     targets: &'a BitSet,
-    later: &'a Scope<'a>,
+    later: &'a Surrounding<'a>,
 }
 
 // Adds edges from the names in an expression that are sought to each signal that it is read for.
@@ -96,7 +96,7 @@ fn add_reads(
     requires targets { HasTargetsBelow (length flat.now.signals.items) served.now.targets.now }
     ensures over { IsOver (length flat.now.signals.items) graph.new }
     ensures gains { OnOk result (GainsEdges graph.old graph.new (λ a b.
-        names_sought (design_of flat.now).signals sought (in_scope served.now.later.now)
+        names_sought (design_of flat.now).signals sought (in_surrounding served.now.later.now)
         (typed_tree expr.now) a && has_some served.now.targets.now b)) }
 {
     let names = names_in(alloc, flat.signals.as_slice(), expr)?;
@@ -116,7 +116,7 @@ fn follow(
     graph: &mut BitGraph,
     sought: Sought,
     stmt: &FStmt,
-    later: &Scope,
+    later: &Surrounding,
 ) -> Result<BitSet, AllocError>
     requires sound { IsTrue (sound (design_of flat.now)) }
     requires body { IsTrue
@@ -128,13 +128,13 @@ fn follow(
     ensures gains { OnOk result
         (GainsEdges graph.old graph.new
         (feeds (design_of flat.now).signals sought (flat_statement stmt.now)
-        (in_scope later.now))) }
+        (in_surrounding later.now))) }
 {
     match stmt {
         FStmt::Assign { pieces, value, .. } => {
             let mut bits = BitSet::new(alloc);
             add_pieces(&mut bits, pieces)?;
-            let inside = Scope::Inside(&bits, &*later);
+            let inside = Surrounding::Inside(&bits, &*later);
             let served = Served {
                 targets: &bits,
                 later: &inside,
@@ -147,7 +147,7 @@ fn follow(
             let by_yes = follow(alloc, flat, graph, sought, yes, later)?;
             let mut bits = follow(alloc, flat, graph, sought, no, later)?;
             bits.add_all(&by_yes)?;
-            let inside = Scope::Inside(&bits, &*later);
+            let inside = Surrounding::Inside(&bits, &*later);
             let served = Served {
                 targets: &bits,
                 later: &inside,
@@ -166,7 +166,7 @@ fn follow_all(
     graph: &mut BitGraph,
     sought: Sought,
     stmts: &[FStmt],
-    later: &Scope,
+    later: &Surrounding,
 ) -> Result<BitSet, AllocError>
     requires sound { IsTrue (sound (design_of flat.now)) }
     requires body { IsTrue
@@ -178,12 +178,12 @@ fn follow_all(
     ensures gains { OnOk result
         (GainsEdges graph.old graph.new
         (feeds (design_of flat.now).signals sought (chain_of (flat_statements stmts.now))
-        (in_scope later.now))) }
+        (in_surrounding later.now))) }
 {
     let mut here = BitSet::new(alloc);
     for i in 0..stmts.len() {
         let stmt = &stmts[stmts.len() - 1 - i];
-        let inside = Scope::Inside(&here, &*later);
+        let inside = Surrounding::Inside(&here, &*later);
         let bits = follow(alloc, flat, graph, sought, stmt, &inside)?;
         here.add_all(&bits)?;
     }
@@ -234,7 +234,7 @@ fn follow_process(
     if has_none {
         return Ok(());
     }
-    let nothing = Scope::Nothing;
+    let nothing = Surrounding::Nothing;
     let sought = Sought { in_block, earlier };
     follow(alloc, flat, graph, sought, &process.body, &nothing)?;
     Ok(())

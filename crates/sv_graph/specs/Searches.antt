@@ -6,15 +6,15 @@ use Rattle.std.specs.Prelude.{slice_index}
 use Rattle.sv_flat.specs.Sets.{holds, least_set}
 use Rattle.sv_graph.specs.declared.graphs.Graph.{Graph}
 use Rattle.sv_graph.specs.declared.searches.Search.{Search}
-use Rattle.sv_graph.specs.declared.searches.Step.{Step}
+use Rattle.sv_graph.specs.declared.searches.Visit.{Visit}
 use Rattle.sv_graph.specs.Graphs.{size, has_edge}
 
 -- what was found, in order, and the places that led to it
 abbrev pub found_by : Search → List ℕ
-found_by search = map (λ (step : Step). step.signal.0) search.steps.items
+found_by search = map (λ (visit : Visit). visit.signal.0) search.visits.items
 
 abbrev pub led_by : Search → List ℕ
-led_by search = map (λ (step : Step). step.from) search.steps.items
+led_by search = map (λ (visit : Visit). visit.from) search.visits.items
 
 -- the place of a signal among what was found
 abbrev pub place_of : Search → ℕ → Option ℕ

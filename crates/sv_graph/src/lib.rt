@@ -35,5 +35,5 @@ pub use graphs::Graph;
 pub use lists::{listed, push_if};
 pub use marks::{has_mark, mark};
 pub use queues::Queue;
-pub use searches::{Search, Step, reached, search_from};
+pub use searches::{Search, Visit, reached, search_from};
 pub use std::alloc::AllocError as OutOfMemory;

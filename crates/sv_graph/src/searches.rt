@@ -14,7 +14,7 @@ use sv_flat::SigId;
 
 /// A signal that a search found, and the place, among what was found, of the signal that led to it.
 #[derive(Clone, Copy)]
-pub struct Step {
+pub struct Visit {
     pub signal: SigId,
     pub from: usize,
 }
@@ -22,7 +22,7 @@ pub struct Step {
 /// What a search found, in the order in which it was found; and for each signal its place there.
 #[derive(Drop)]
 pub struct Search {
-    pub steps: Vec<Step>,
+    pub visits: Vec<Visit>,
     pub places: Vec<Option<usize>>,
 }
 
@@ -33,7 +33,7 @@ impl Search {
             SearchesBy count brings starts 0 search) }
     {
         Ok(Search {
-            steps: Vec::new(alloc),
+            visits: Vec::new(alloc),
             places: vec![in alloc; None; count]?,
         })
     }
@@ -49,8 +49,8 @@ impl Search {
         if passed {
             return Ok(());
         }
-        self.places[s] = Some(self.steps.len());
-        self.steps.push(Step { signal, from })?;
+        self.places[s] = Some(self.visits.len());
+        self.visits.push(Visit { signal, from })?;
         Ok(())
     }
 
@@ -63,7 +63,7 @@ impl Search {
             slice_index (found_by self.old) k < size graph.now }
         ensures { OnOk result (LeadsOn graph.now least place self.old self.new) }
     {
-        let signal = self.steps[place].signal;
+        let signal = self.visits[place].signal;
         let row = graph.rows[signal.0 as usize].as_slice();
         for next in row {
             self.visit(least, *next, place)?;
@@ -99,9 +99,9 @@ impl Search {
     {
         let mut at = place;
         while at > 0 {
-            let step = self.steps[at];
-            way.push(step.signal)?;
-            at = step.from;
+            let visit = self.visits[at];
+            way.push(visit.signal)?;
+            at = visit.from;
         }
         Ok(())
     }
@@ -125,7 +125,7 @@ pub fn search_from(
         search.visit(0, *start, 0)?;
     }
     let mut place = 0;
-    while place < search.steps.len() {
+    while place < search.visits.len() {
         search.expand(graph, least, place)?;
         place += 1;
     }

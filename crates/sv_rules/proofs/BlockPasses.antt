@@ -29,8 +29,8 @@ use Rattle.sv_flat.proofs.LeastSets.{in_those, those_pass}
 use Rattle.sv_flat.proofs.Members.{Contains-left, Contains-right, Contains-either}
 use Rattle.sv_graph.specs.declared.bit_sets.BitSet.{BitSet}
 use Rattle.sv_rules.specs.declared.found.Found.{Found}
-use Rattle.sv_rules.specs.declared.scopes.Scope.{Nothing, the_lemmas}
-use Rattle.sv_rules.specs.Scopes.{in_scope}
+use Rattle.sv_rules.specs.declared.surroundings.Surrounding.{Nothing, the_lemmas}
+use Rattle.sv_rules.specs.Surroundings.{in_surrounding}
 use Rattle.sv_graph.specs.BitSets.{is_set, mask_in, in_bits, has_some, LacksBit}
 use Rattle.sv_rules.specs.First.{breach_of, FindsFirst, first_found}
 use Rattle.sv_rules.specs.Phases.{SameBits, latches_of}
@@ -262,8 +262,8 @@ module _ (design : FlatDesign) (place : Place) (body : FlatStatement)
 
 -- ---- blocks one after the other
 
-pub in_scope-nothing : in_scope Nothing ≡ (λ s b. false)
-in_scope-nothing = search (rules, the_lemmas)
+pub in_surrounding-nothing : in_surrounding Nothing ≡ (λ s b. false)
+in_surrounding-nothing = search (rules, the_lemmas)
 
 module _ (test : ProcessForm → Bool) (f : ProcessForm → List Breach) where
   one_kept : (b : Bool) (p : ProcessForm) (ps : List ProcessForm) →

@@ -15,16 +15,16 @@ use Rattle.sv_flat.specs.declared.statements.FStmt.{FStmt}
 use Rattle.sv_flat.specs.declared.statements.Piece.{Piece}
 use Rattle.sv_graph.specs.declared.bit_sets.BitSet.{BitSet as Bits}
 use Rattle.sv_rules.specs.declared.found.Found.{Found}
-use Rattle.sv_rules.specs.declared.scopes.Scope.{Scope, Inside}
+use Rattle.sv_rules.specs.declared.surroundings.Surrounding.{Surrounding, Inside}
 use Rattle.sv_graph.specs.BitSets.{in_bits, mask_in}
 use Rattle.sv_rules.specs.Pieces.{piece_forms}
 use Rattle.sv_rules.specs.First.{FindsFirst, first_found}
 use Rattle.sv_rules.specs.Phases.{wrong_reads, SameBits, HasTargets, AddsAssigned, FindsReads}
-use Rattle.sv_rules.specs.Scopes.{in_scope}
+use Rattle.sv_rules.specs.Surroundings.{in_surrounding}
 use Rattle.sv_graph.proofs.EntryFacts.{nothing_in}
 use Rattle.sv_rules.proofs.Firsts.{finds_both}
 use Rattle.sv_rules.proofs.PhaseFacts.{wrong_reads-append}
-use Rattle.sv_rules.proofs.PieceFacts.{in_scope-inside}
+use Rattle.sv_rules.proofs.PieceFacts.{in_surrounding-inside}
 use Rattle.sv_rules.proofs.Sound.{next_statement, sound_first, sound_rest}
 
 -- ---- soundness
@@ -81,12 +81,12 @@ or_nothing true = refl
 or_nothing false = refl
 
 -- the bits of a block inside of others
-pub bits_inside : (here : Bor Bits) (around : Bor Scope) (first second : BitSet)
-    → SameBits (in_bits here.now) first → SameBits second (in_scope around.now)
-    → SameBits (either first second) (in_scope (Inside here around))
+pub bits_inside : (here : Bor Bits) (around : Bor Surrounding) (first second : BitSet)
+    → SameBits (in_bits here.now) first → SameBits second (in_surrounding around.now)
+    → SameBits (either first second) (in_surrounding (Inside here around))
 bits_inside here around first second same_first same_second s b =
     ap₂ ◌||◌ (sym (same_first s b)) (same_second s b)
-    ∙ sym (ap (λ (z : BitSet). z s b) (in_scope-inside here around))
+    ∙ sym (ap (λ (z : BitSet). z s b) (in_surrounding-inside here around))
 
 -- ---- what statements can assign
 
@@ -151,10 +151,10 @@ module _ (signals : List SignalForm) (assigned : Bits) (around : BitSet) where
         λ s b. ap (λ t. t || always_assigns all s b) (nothing_in (mask_in none s) b (empty s));
   }
 
-  pub forward_more : (h : Bor Bits) (r : Bor Scope) (all left first rest : FlatStatement)
+  pub forward_more : (h : Bor Bits) (r : Bor Surrounding) (all left first rest : FlatStatement)
       (bits more : Bits) (found other next : Option Found) → left ≡ after first rest
-      → SameBits (in_scope r.now) around
-      → FindsReads signals assigned (in_scope (Inside h r)) (readings signals first)
+      → SameBits (in_surrounding r.now) around
+      → FindsReads signals assigned (in_surrounding (Inside h r)) (readings signals first)
       other → SameBits (in_bits bits) (always_assigns first)
       → ((s b : ℕ) → in_bits more s b ≡ (in_bits h.now s b || in_bits bits s b))
       → next ≡ first_found found other

@@ -8,15 +8,15 @@ use Rattle.sv_flat.specs.Assigned.{has_bit}
 use Rattle.sv_flat.specs.Design.{PieceForm}
 use Rattle.sv_flat.specs.Views.{piece_form}
 use Rattle.sv_graph.specs.declared.bit_sets.BitSet.{BitSet}
-use Rattle.sv_rules.specs.declared.scopes.Scope.{Scope, Inside, the_lemmas}
+use Rattle.sv_rules.specs.declared.surroundings.Surrounding.{Surrounding, Inside, the_lemmas}
 use Rattle.sv_graph.specs.BitSets.{in_bits}
 use Rattle.sv_rules.specs.Pieces.{piece_forms, AreOrdered}
-use Rattle.sv_rules.specs.Scopes.{in_scope}
+use Rattle.sv_rules.specs.Surroundings.{in_surrounding}
 use Rattle.sv_rules.proofs.Sound.{piece_at}
 
-pub in_scope-inside : (bits : Bor BitSet) (around : Bor Scope) →
-    in_scope (Inside bits around) ≡ (λ s b. in_bits bits.now s b || in_scope around.now s b)
-in_scope-inside bits around = search (rules, the_lemmas)
+pub in_surrounding-inside : (bits : Bor BitSet) (around : Bor Surrounding) →
+    in_surrounding (Inside bits around) ≡ (λ s b. in_bits bits.now s b || in_surrounding around.now s b)
+in_surrounding-inside bits around = search (rules, the_lemmas)
 
 module _ (pieces : List Piece) (i : ℕ) (d : Piece) (inside : i < length pieces)
     (ordered : AreOrdered (piece_forms (drop i pieces))) where

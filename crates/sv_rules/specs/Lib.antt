@@ -1,5 +1,5 @@
 pub mod ReadForms
-pub mod Scopes
+pub mod Surroundings
 pub mod Phases
 pub mod Arms
 pub mod Faults

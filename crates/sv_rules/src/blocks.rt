@@ -15,24 +15,24 @@ ghost use Rattle.sv_rules.specs.First.{FindsFirst};
 ghost use Rattle.sv_rules.specs.Phases.{SameBits, HasTargets, FindsReads, AddsAssigned};
 ghost use Rattle.sv_rules.specs.Phases.{latches_of, latches_in, phase_faults_of, phase_faults_in};
 ghost use Rattle.sv_rules.specs.ReadForms.{read_form};
-ghost use Rattle.sv_rules.specs.Scopes.{in_scope};
+ghost use Rattle.sv_rules.specs.Surroundings.{in_surrounding};
 
 use crate::found::{Found, first_of, found_if};
 use crate::names::{Read, bits_read, names_in};
 use crate::pieces::add_pieces;
-use crate::scopes::Scope;
+use crate::surroundings::Surrounding;
 use std::alloc::{AllocError, Global};
 use sv_flat::{FExpr, FStmt, Flat, ProcKind, Process, SigId};
 use sv_graph::{BitSet, lacks, mask};
 use sv_num::Place;
 
 // Whether a read of a signal with a bit in `targets` has a bit that is not assigned yet.
-fn is_wrong(flat: &Flat, targets: &BitSet, read: &Read, assigned: &Scope) -> bool
+fn is_wrong(flat: &Flat, targets: &BitSet, read: &Read, assigned: &Surrounding) -> bool
     requires sound { IsTrue (sound (design_of flat.now)) }
     requires known { read.now.signal.0 < length flat.now.signals.items }
     ensures { (body : FlatStatement) (reading : Reading) → HasTargets body targets.now
         → reading.name ≡ read_form read.now
-        → SameBits reading.assigned (in_scope assigned.now)
+        → SameBits reading.assigned (in_surrounding assigned.now)
         → result ≡ is_out_of_phase (design_of flat.now).signals body reading }
 {
     let bits = bits_read(flat.signals[read.signal.0 as usize].width, read);
@@ -45,12 +45,12 @@ fn wrong_in(
     flat: &Flat,
     targets: &BitSet,
     expr: &FExpr,
-    assigned: &Scope,
+    assigned: &Surrounding,
 ) -> Result<Option<Found>, AllocError>
     requires sound { IsTrue (sound (design_of flat.now)) }
     requires formed { IsTrue (well_formed (design_of flat.now).signals (typed_tree expr.now)) }
     ensures { IfOk result (λ found. (serves : ℕ → Bool)
-        → FindsReads (design_of flat.now).signals targets.now (in_scope assigned.now)
+        → FindsReads (design_of flat.now).signals targets.now (in_surrounding assigned.now)
         (readings_of (design_of flat.now).signals (typed_tree expr.now) serves) found) }
 {
     let names = names_in(alloc, flat.signals.as_slice(), expr)?;
@@ -82,13 +82,13 @@ fn forward(
     flat: &Flat,
     targets: &BitSet,
     stmt: &FStmt,
-    assigned: &Scope,
+    assigned: &Surrounding,
 ) -> Result<(Option<Found>, BitSet), AllocError>
     requires sound { IsTrue (sound (design_of flat.now)) }
     requires stmt { IsTrue
         (statement_sound (design_of flat.now).signals (flat_statement stmt.now)) }
     ensures { IfOk result (λ both.
-        FindsReads (design_of flat.now).signals targets.now (in_scope assigned.now)
+        FindsReads (design_of flat.now).signals targets.now (in_surrounding assigned.now)
         (readings (design_of flat.now).signals (flat_statement stmt.now)) both.0
         × SameBits (in_bits both.1) (always_assigns (flat_statement stmt.now))) }
 {
@@ -116,14 +116,14 @@ fn forward_plain(
     flat: &Flat,
     targets: &BitSet,
     stmt: &FStmt,
-    assigned: &Scope,
+    assigned: &Surrounding,
 ) -> Result<(Option<Found>, BitSet), AllocError>
     requires plain { IsFalse (is_branch (flat_statement stmt.now)) }
     requires sound { IsTrue (sound (design_of flat.now)) }
     requires stmt { IsTrue
         (statement_sound (design_of flat.now).signals (flat_statement stmt.now)) }
     ensures { IfOk result (λ both.
-        FindsReads (design_of flat.now).signals targets.now (in_scope assigned.now)
+        FindsReads (design_of flat.now).signals targets.now (in_surrounding assigned.now)
         (readings (design_of flat.now).signals (flat_statement stmt.now)) both.0
         × SameBits (in_bits both.1) (always_assigns (flat_statement stmt.now))) }
 {
@@ -146,20 +146,20 @@ fn forward_all(
     flat: &Flat,
     targets: &BitSet,
     stmts: &[FStmt],
-    assigned: &Scope,
+    assigned: &Surrounding,
 ) -> Result<(Option<Found>, BitSet), AllocError>
     requires sound { IsTrue (sound (design_of flat.now)) }
     requires stmts { IsTrue
         (statement_sound (design_of flat.now).signals (chain_of (flat_statements stmts.now))) }
     ensures { IfOk result (λ both.
-        FindsReads (design_of flat.now).signals targets.now (in_scope assigned.now)
+        FindsReads (design_of flat.now).signals targets.now (in_surrounding assigned.now)
         (readings (design_of flat.now).signals (chain_of (flat_statements stmts.now))) both.0
         × SameBits (in_bits both.1) (always_assigns (chain_of (flat_statements stmts.now)))) }
 {
     let mut found = None;
     let mut here = BitSet::new(alloc);
     for stmt in stmts {
-        let before = Scope::Inside(&here, &*assigned);
+        let before = Surrounding::Inside(&here, &*assigned);
         let (other, bits) = forward(alloc, flat, targets, stmt, &before)?;
         found = first_of(found, other);
         here.add_all(&bits)?;
@@ -278,7 +278,7 @@ fn block_faults(alloc: Global, flat: &Flat, process: &Process) -> Result<BlockFa
         × FindsFirst 606 (phase_faults_of (design_of flat.now) (flat_statement process.now.body))
         faults.phase) }
 {
-    let nothing = Scope::Nothing;
+    let nothing = Surrounding::Nothing;
     let assigned = assigned_bits(alloc, flat, &process.body)?;
     let (phase, always) = forward(alloc, flat, &assigned, &process.body, &nothing)?;
     let latch = first_latch(flat, process.place, &assigned, &always);

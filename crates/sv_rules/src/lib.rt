@@ -12,7 +12,7 @@
 //! number, then place, then signal (here `specs/First.antt`, `Faults.antt`).
 //!
 //! `Arms.antt`, `ClockTables.antt`, `DriverTables.antt`, `Links.antt`, `Phases.antt`,
-//! `Pieces.antt`, `ReadForms.antt`, `ReadMarks.antt`, `Refusals.antt`, `Scopes.antt`,
+//! `Pieces.antt`, `ReadForms.antt`, `ReadMarks.antt`, `Refusals.antt`, `Surroundings.antt`,
 //! `Selectors.antt`, `Tops.antt` and `WrongAssigns.antt` are private: they say how the code goes;
 //! the meaning stands in the files before. Graphs, searches and sets of bits are those of
 //! `sv_graph`.
@@ -30,7 +30,7 @@ mod marks;
 mod names;
 mod pieces;
 mod refusals;
-mod scopes;
+mod surroundings;
 mod tops;
 mod uses;
 
@@ -42,5 +42,5 @@ pub use marks::{mark_targets, unmarked};
 pub use names::{Read, bits_read, indexed, names_in, part, whole};
 pub use pieces::add_pieces;
 pub use refusals::refusal;
-pub use scopes::Scope;
 pub use std::alloc::AllocError as OutOfMemory;
+pub use surroundings::Surrounding;

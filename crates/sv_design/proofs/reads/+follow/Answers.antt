@@ -17,7 +17,7 @@ use Rattle.sv_rules.specs.Pieces.{piece_forms}
 use Rattle.sv_design.specs.Feeds.{names_sought, feeds}
 use Rattle.sv_graph.specs.BitGraphs.{GainsEdges}
 use Rattle.sv_rules.specs.Phases.{SameBits}
-use Rattle.sv_rules.specs.Scopes.{in_scope}
+use Rattle.sv_rules.specs.Surroundings.{in_surrounding}
 use Rattle.sv_rules.proofs.BlockPasses.{targets_are}
 use Rattle.sv_rules.proofs.Passes.{sound_at, or_turned, only_pieces}
 use Rattle.sv_design.proofs.ReadFacts.{both_edges, targets_below, gains_inside, bits_begin}
@@ -73,7 +73,7 @@ follow-returns-in_ok-add_reads-in-Assign-clause-gains t c =
     let bits = only_pieces c.new-bits.result c.add_pieces.new.set _ _ c.deref.ensures.value
     c.new-bits.ensures c.in_ok-add_pieces-in-Assign.ensures in
     subst (λ b. GainsEdges c.args.graph.now c.add_reads.new.graph
-    (feeds signals c.args.sought b (in_scope c.args.later.now))) (sym is)
+    (feeds signals c.args.sought b (in_surrounding c.args.later.now))) (sym is)
     (gains_inside signals c.args.sought (typed_tree c.in-Assign.value) whole c.add_pieces.new.set
     c.args.graph.now c.add_reads.new.graph _ _ bits
     (targets_are signals whole c.add_pieces.new.set
@@ -105,7 +105,7 @@ pub follow-returns-in-Block-clause-gains : goal.follow-returns-in-Block-clause-g
 follow-returns-in-Block-clause-gains t c =
     subst (λ b. OnOk c.follow_all.result
     (GainsEdges c.args.graph.now c.follow_all.new.graph
-    (feeds (design_of c.args.flat.now).signals c.args.sought b (in_scope c.args.later.now))))
+    (feeds (design_of c.args.flat.now).signals c.args.sought b (in_surrounding c.args.later.now))))
     (sym (block_is _ c.in-Block.stmts _ c.in-Block.is c.deref-in-Block.ensures.value))
     c.follow_all.ensures.gains
 
@@ -144,7 +144,7 @@ follow-returns-in_ok-add_reads-in-If-clause-gains t c =
     ∙ or_turned (can_assign second s b) (can_assign first s b) in
     let sound = subst (λ b. IsTrue (statement_sound signals b)) is c.requires.body in
     let sought = c.args.sought in
-    let later = in_scope c.args.later.now in
+    let later = in_surrounding c.args.later.now in
     let old = c.args.graph.now in
     let new = c.add_reads-in-If.new.graph in
     subst (λ b. GainsEdges old new (feeds signals sought b later)) (sym is)
@@ -167,7 +167,7 @@ follow_all-loop-i-init t c =
     (drop_all (length stmts - 0) stmts (omega arith)) in (
       c.requires.over,
       bits_begin c.new-here.result last none c.new-here.ensures,
-      feeds_begin signals c.args.sought c.args.graph.now last (in_scope c.args.later.now) none,
+      feeds_begin signals c.args.sought c.args.graph.now last (in_surrounding c.args.later.now) none,
     )
 
 pub follow_all-follow-requires : goal.follow_all-follow-requires
@@ -191,7 +191,7 @@ follow_all-loop-i-preserved t c =
     let stmts = c.args.stmts.now in
     let signals = (design_of c.args.flat.now).signals in
     let sought = c.args.sought in
-    let later = in_scope c.args.later.now in
+    let later = in_surrounding c.args.later.now in
     let i = c.loop-i.i in
     let j = length stmts - (i + 1) in
     let stmt = c.index-stmts-stmts.result in
@@ -228,5 +228,5 @@ follow_all-returns-clause-gains t c =
     let none : length stmts - c.loop-i.i ≡ 0 = omega (arith, c.loop-i-test.false) in
     subst (λ k. GainsEdges c.args.graph.now c.loop-i.graph
     (feeds (design_of c.args.flat.now).signals c.args.sought
-    (chain_of (flat_statements (drop k stmts))) (in_scope c.args.later.now))) none
+    (chain_of (flat_statements (drop k stmts))) (in_surrounding c.args.later.now))) none
     c.loop-i.invariant.2

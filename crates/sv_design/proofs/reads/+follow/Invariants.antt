@@ -5,7 +5,7 @@ use Rattle.sv_graph.specs.BitSets.{in_bits}
 use Rattle.sv_design.specs.Feeds.{feeds}
 use Rattle.sv_graph.specs.BitGraphs.{IsOver, GainsEdges}
 use Rattle.sv_rules.specs.Phases.{SameBits}
-use Rattle.sv_rules.specs.Scopes.{in_scope}
+use Rattle.sv_rules.specs.Surroundings.{in_surrounding}
 use Rattle.sv_design.proofs.reads.+follow.Given as goal
 
 -- the last statements, with the bits that they can assign
@@ -15,4 +15,4 @@ invariant-follow_all-loop-i l =
     let last = chain_of (flat_statements (drop (length l.stmts - l.i) l.stmts)) in
     IsOver (length l.flat.signals.items) l.graph
     × SameBits (in_bits l.here) (can_assign last)
-    × GainsEdges l.initial.graph l.graph (feeds signals l.sought last (in_scope l.later))
+    × GainsEdges l.initial.graph l.graph (feeds signals l.sought last (in_surrounding l.later))

@@ -11,7 +11,7 @@ use Rattle.sv_graph.specs.BitGraphs.{in_row, IsRow, has_edge}
 use Rattle.sv_graph.specs.BitSets.{has_some}
 use Rattle.sv_design.specs.Feeds.{is_sought, names_sought}
 use Rattle.sv_rules.specs.ReadForms.{read_form, read_forms}
-use Rattle.sv_rules.specs.Scopes.{in_scope}
+use Rattle.sv_rules.specs.Surroundings.{in_surrounding}
 use Rattle.sv_graph.proofs.GraphFacts.{edges_more, edges_end}
 use Rattle.sv_graph.proofs.MarkFacts.{any_map}
 use Rattle.sv_rules.proofs.PhaseFacts.{no_read, name_is_signal}
@@ -22,7 +22,7 @@ pub loop-name-init : goal.loop-name-init
 loop-name-init c =
     let tree = typed_tree c.args.expr.now in
     let signals = (design_of c.args.flat.now).signals in
-    let later = in_scope c.args.served.now.later.now in
+    let later = in_surrounding c.args.served.now.later.now in
     let test = λ (a : ℕ) (r : ReadForm). (r.signal == a) && is_sought signals c.args.sought later r in
     let same : read_forms c.deref-name-items.result.now ≡ reads signals tree =
     ap read_forms c.deref-name-items.ensures.value ∙ c.in_ok-names.ensures
@@ -59,7 +59,7 @@ loop-name-preserved c =
     let i = c.loop-name.name-index in
     let set = c.args.served.now.targets.now in
     let signals = (design_of c.args.flat.now).signals in
-    let later = in_scope c.args.served.now.later.now in
+    let later = in_surrounding c.args.served.now.later.now in
     let test = λ (a : ℕ) (r : Read).
     (r.signal.0 == a) && is_sought signals c.args.sought later (read_form r) in
     let this = get_or items i no_read in (
@@ -85,7 +85,7 @@ returns-clause-gains c =
     let items = c.deref-name-items.result.now in
     let set = c.args.served.now.targets.now in
     let signals = (design_of c.args.flat.now).signals in
-    let later = in_scope c.args.served.now.later.now in
+    let later = in_surrounding c.args.served.now.later.now in
     let test = λ (a : ℕ) (r : Read).
     (r.signal.0 == a) && is_sought signals c.args.sought later (read_form r) in
     edges_end (has_edge c.args.graph.now) (has_edge c.loop-name.graph)

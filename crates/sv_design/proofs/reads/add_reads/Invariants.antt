@@ -6,7 +6,7 @@ use Rattle.sv_graph.specs.BitSets.{has_some}
 use Rattle.sv_design.specs.Feeds.{is_sought, names_sought}
 use Rattle.sv_graph.specs.BitGraphs.{has_edge, IsOver}
 use Rattle.sv_rules.specs.ReadForms.{read_form}
-use Rattle.sv_rules.specs.Scopes.{in_scope}
+use Rattle.sv_rules.specs.Surroundings.{in_surrounding}
 use Rattle.sv_graph.proofs.GraphFacts.{EdgesSoFar}
 use Rattle.sv_design.proofs.reads.add_reads.Given as goal
 
@@ -14,7 +14,7 @@ use Rattle.sv_design.proofs.reads.add_reads.Given as goal
 abbrev pub invariant-loop-name : goal.invariant-loop-name
 invariant-loop-name l =
     let signals = (design_of l.flat).signals in
-    let later = in_scope l.served.later.now in
+    let later = in_surrounding l.served.later.now in
     IsOver (length l.flat.signals.items) l.graph
     × EdgesSoFar (has_edge l.initial.graph) (has_edge l.graph) (λ a b.
     names_sought signals l.sought later (typed_tree l.expr) a && has_some l.served.targets.now b)

@@ -5,9 +5,9 @@ use Rattle.sv_flat.specs.Readings.{BitSet, no_bits}
 use Rattle.sv_flat.specs.Views.{design_of, process_form, flat_statement}
 use Rattle.sv_design.specs.Feeds.{feeds, sought_in}
 use Rattle.sv_graph.specs.BitGraphs.{has_edge, GainsEdges}
-use Rattle.sv_rules.specs.Scopes.{in_scope}
-use Rattle.sv_rules.specs.declared.scopes.Scope.{Nothing}
-use Rattle.sv_rules.proofs.BlockPasses.{in_scope-nothing}
+use Rattle.sv_rules.specs.Surroundings.{in_surrounding}
+use Rattle.sv_rules.specs.declared.surroundings.Surrounding.{Nothing}
+use Rattle.sv_rules.proofs.BlockPasses.{in_surrounding-nothing}
 use Rattle.sv_design.proofs.FeedFacts.{fed_by_none}
 use Rattle.sv_graph.proofs.MarkFacts.{or_no}
 use Rattle.sv_design.proofs.reads.follow_process.Goals as goal
@@ -29,7 +29,7 @@ returns-clause-gains c =
     let body = flat_statement c.args.process.now.body in
     let earlier = c.args.earlier in
     subst (λ (z : BitSet). GainsEdges c.args.graph.now c.follow.new.graph
-    (feeds signals (sought_in earlier (process_form c.args.process.now)) body z)) in_scope-nothing
+    (feeds signals (sought_in earlier (process_form c.args.process.now)) body z)) in_surrounding-nothing
     (subst (λ z. GainsEdges c.args.graph.now c.follow.new.graph
-    (feeds signals (record { in_block = z; earlier = earlier }) body (in_scope Nothing)))
+    (feeds signals (record { in_block = z; earlier = earlier }) body (in_surrounding Nothing)))
     c.is_block-in_block.ensures c.in_ok-follow.ensures.gains)

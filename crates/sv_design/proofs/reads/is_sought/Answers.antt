@@ -6,7 +6,7 @@ use Rattle.sv_flat.specs.Values.{signal_width}
 use Rattle.sv_flat.specs.Views.{design_of}
 use Rattle.sv_graph.specs.BitSets.{is_set}
 use Rattle.sv_rules.specs.ReadForms.{read_form}
-use Rattle.sv_rules.specs.Scopes.{in_scope}
+use Rattle.sv_rules.specs.Surroundings.{in_surrounding}
 use Rattle.sv_rules.proofs.DriverFacts.{signal_at, inside_design}
 use Rattle.sv_rules.proofs.PhaseFacts.{read_shares}
 use Rattle.sv_rules.proofs.Sound.{few_bits}
@@ -29,7 +29,7 @@ returns-then-sought c =
     let items = flat.signals.items in
     let signals = (design_of flat).signals in
     let r = read_form c.args.read.now in
-    let later = in_scope c.args.later.now in
+    let later = in_surrounding c.args.later.now in
     let block = c.args.sought.in_block in
     let at_place : c.index.result.now ≡ get_or items r.signal c.index.result.now = search rules in
     let at = signal_at flat items r.signal c.index.result.now refl c.requires.known at_place in
@@ -49,7 +49,7 @@ returns-else-sought c =
     let items = flat.signals.items in
     let signals = (design_of flat).signals in
     let r = read_form c.args.read.now in
-    let later = in_scope c.args.later.now in
+    let later = in_surrounding c.args.later.now in
     let block = c.args.sought.in_block in
     let at_place : c.index.result.now ≡ get_or items r.signal c.index.result.now = search rules in
     let at = signal_at flat items r.signal c.index.result.now refl c.requires.known at_place in

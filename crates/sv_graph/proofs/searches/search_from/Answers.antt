@@ -6,7 +6,7 @@ use Rattle.std.proofs.Math.ListN.{length-map}
 use Rattle.sv_system.proofs.Lists.{Contains-map, Contains-nil}
 use Rattle.sv_flat.specs.declared.signals.SigId.{SigId}
 use Rattle.sv_graph.specs.declared.graphs.Graph.{Graph}
-use Rattle.sv_graph.specs.declared.searches.Step.{Step}
+use Rattle.sv_graph.specs.declared.searches.Visit.{Visit}
 use Rattle.sv_graph.specs.Graphs.{size, has_edge}
 use Rattle.sv_graph.specs.Numbers.{numbers}
 use Rattle.sv_graph.specs.Searches.{SearchesBy}
@@ -70,7 +70,7 @@ loop-place-smaller c =
     let most = not_full (size c.args.graph.now) brings (numbers c.args.starts.now)
     c.loop-place.place search
     (c.loop-place.invariant.1 brings (λ a b. refl)).0 in
-    let count = length-map search.steps.items (λ (step : Step). step.signal.0) in
+    let count = length-map search.visits.items (λ (visit : Visit). visit.signal.0) in
     omega (arith, c.loop-place-test.true)
 
 pub loop-place-preserved : goal.loop-place-preserved
@@ -89,7 +89,7 @@ loop-place-preserved c = (
 pub returns : goal.returns
 returns c = λ brings bring.
     let search = c.loop-place.search in
-    let count = length-map search.steps.items (λ (step : Step). step.signal.0) in
+    let count = length-map search.visits.items (λ (visit : Visit). visit.signal.0) in
     search_end c.args.graph.now brings (numbers c.args.starts.now) (numbers c.args.starts.now)
     c.loop-place.place search
     c.requires.starts refl (omega (arith, c.loop-place-test.false)) c.loop-place.invariant.0

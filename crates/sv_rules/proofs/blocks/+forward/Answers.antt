@@ -15,7 +15,7 @@ use Rattle.sv_rules.specs.declared.found.Found.{Found}
 use Rattle.sv_graph.specs.BitSets.{in_bits}
 use Rattle.sv_rules.specs.Pieces.{piece_forms}
 use Rattle.sv_rules.specs.Phases.{SameBits, FindsReads}
-use Rattle.sv_rules.specs.Scopes.{in_scope}
+use Rattle.sv_rules.specs.Surroundings.{in_surrounding}
 use Rattle.sv_rules.proofs.ArmFacts.{arms_begin, arms_more, arms_end}
 use Rattle.sv_rules.proofs.Passes.{sound_at, only_pieces, forward_begin, forward_more}
 use Rattle.sv_rules.proofs.Passes.{forward_end}
@@ -41,7 +41,7 @@ forward-forward-requires t c =
 
 pub forward-loop-rest-init : goal.forward-loop-rest-init
 forward-loop-rest-init t c = (
-  arms_begin (design_of c.args.flat.now).signals c.args.targets.now (in_scope c.args.assigned.now)
+  arms_begin (design_of c.args.flat.now).signals c.args.targets.now (in_surrounding c.args.assigned.now)
       (flat_statement c.args.stmt.now) c.requires.stmt,
   search (rules, the_lemmas),
 )
@@ -53,7 +53,7 @@ forward-loop-rest-preserved t c =
     let second = c.deref-rest.result.now in
     let is = branch_is c.loop-rest.rest.now first second (ap flat_statement c.in-If.is)
     c.deref.ensures c.deref-rest.ensures in (
-      arms_more signals c.args.targets.now (in_scope c.args.assigned.now)
+      arms_more signals c.args.targets.now (in_surrounding c.args.assigned.now)
           (flat_statement c.args.stmt.now) (flat_statement c.loop-rest.rest.now)
           (flat_statement first) (flat_statement second) c.in-If.place (typed_tree c.in-If.cond)
           c.loop-rest.common c.in_ok-in_yes.by_yes c.in_ok-more.more c.loop-rest.found
@@ -75,7 +75,7 @@ forward-forward_plain-requires t c = (
 
 pub forward-returns : goal.forward-returns
 forward-returns t c =
-    arms_end (design_of c.args.flat.now).signals c.args.targets.now (in_scope c.args.assigned.now)
+    arms_end (design_of c.args.flat.now).signals c.args.targets.now (in_surrounding c.args.assigned.now)
     (flat_statement c.args.stmt.now) (flat_statement c.loop-rest.rest.now) c.loop-rest.common
     c.in_ok-in_last.by_last c.in_ok-always.always c.loop-rest.found c.in_ok-in_last.in_last
     c.first_of.result c.in_ok-in_last.ensures.0 c.in_ok-in_last.ensures.1 c.in_ok-always.ensures
@@ -102,14 +102,14 @@ pub forward_plain-returns-in-Block : goal.forward_plain-returns-in-Block
 forward_plain-returns-in-Block t c =
     let signals = (design_of c.args.flat.now).signals in
     subst (λ b. IfOk c.forward_all.result (λ (both : Option Found × BitSet).
-    FindsReads signals c.args.targets.now (in_scope c.args.assigned.now)
+    FindsReads signals c.args.targets.now (in_surrounding c.args.assigned.now)
     (readings signals b) both.0 × SameBits (in_bits both.1) (always_assigns b)))
     (sym (block_is _ c.in-Block.stmts _ c.in-Block.is c.deref-in-Block.ensures.value))
     c.forward_all.ensures
 
 pub forward_all-loop-stmt-init : goal.forward_all-loop-stmt-init
 forward_all-loop-stmt-init t c =
-    forward_begin (design_of c.args.flat.now).signals c.args.targets.now (in_scope c.args.assigned.now)
+    forward_begin (design_of c.args.flat.now).signals c.args.targets.now (in_surrounding c.args.assigned.now)
     (chain_of (flat_statements c.args.stmts.now))
     c.new-here.result c.new-here.ensures
 
@@ -127,7 +127,7 @@ pub forward_all-loop-stmt-preserved : goal.forward_all-loop-stmt-preserved
 forward_all-loop-stmt-preserved t c =
     let stmts = c.args.stmts.now in
     let i = c.loop-stmt.stmt-index in
-    forward_more (design_of c.args.flat.now).signals c.args.targets.now (in_scope c.args.assigned.now) _
+    forward_more (design_of c.args.flat.now).signals c.args.targets.now (in_surrounding c.args.assigned.now) _
     _ (chain_of (flat_statements stmts))
     (chain_of (flat_statements (drop i stmts))) (flat_statement c.stmt-item.result)
     (chain_of (flat_statements (drop (i + 1) stmts)))
@@ -141,7 +141,7 @@ pub forward_all-returns : goal.forward_all-returns
 forward_all-returns t c =
     let stmts = c.args.stmts.now in
     let i = c.loop-stmt.stmt-index in
-    forward_end (design_of c.args.flat.now).signals c.args.targets.now (in_scope c.args.assigned.now)
+    forward_end (design_of c.args.flat.now).signals c.args.targets.now (in_surrounding c.args.assigned.now)
     (chain_of (flat_statements stmts))
     (chain_of (flat_statements (drop i stmts))) c.loop-stmt.here c.loop-stmt.found
     (at_drop_all (λ ss. chain_of (flat_statements ss)) stmts i c.loop-stmt-test.false)
@@ -154,7 +154,7 @@ forward_plain-returns-in_ok-add_pieces-in-Assign t c =
     let whole = assign pieces c.in-Assign.place c.in-Assign.blocking
     (typed_tree c.in-Assign.value) in
     let is : flat_statement c.args.stmt.now ≡ whole = ap flat_statement c.in-Assign.is in
-    subst (λ b. FindsReads signals c.args.targets.now (in_scope c.args.assigned.now)
+    subst (λ b. FindsReads signals c.args.targets.now (in_surrounding c.args.assigned.now)
     (readings signals b) c.in_ok-found-in-Assign.found
     × SameBits (in_bits c.add_pieces.new.set) (always_assigns b)) (sym is) (
       λ body a f asks same.

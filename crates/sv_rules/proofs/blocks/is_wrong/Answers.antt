@@ -5,7 +5,7 @@ use Rattle.sv_flat.specs.Values.{signal_width}
 use Rattle.sv_flat.specs.Views.{design_of}
 use Rattle.sv_graph.specs.BitSets.{is_set}
 use Rattle.sv_rules.specs.ReadForms.{read_form}
-use Rattle.sv_rules.specs.Scopes.{in_scope}
+use Rattle.sv_rules.specs.Surroundings.{in_surrounding}
 use Rattle.sv_rules.proofs.DriverFacts.{signal_at, inside_design}
 use Rattle.sv_rules.proofs.PhaseFacts.{read_lacks, unassigned_is}
 use Rattle.sv_rules.proofs.Sound.{few_bits}
@@ -35,7 +35,7 @@ returns c = λ body reading targets name same.
     (nat_le r.low b && nat_le b r.high && nat_lt b (signal_width signals r.signal)) =
     λ b. c.bits_read-bits.ensures b ∙ ap (λ (z : SignalForm).
     nat_le r.low b && nat_le b r.high && nat_lt b z.width) (sym at) in
-    unassigned_is signals c.args.targets.now body reading r (in_scope c.args.assigned.now) targets
+    unassigned_is signals c.args.targets.now body reading r (in_surrounding c.args.assigned.now) targets
     name same c.of.result c.of.ensures c.has.result c.lacks.result c.has.ensures
     (λ test is. read_lacks signals r c.bits_read-bits.result is_bits c.of.result test is
     c.lacks.result c.lacks.ensures)

@@ -5,7 +5,7 @@ use Rattle.sv_flat.specs.ByNumber.{signal_forms}
 use Rattle.sv_flat.specs.Readings.{reads, readings_of}
 use Rattle.sv_flat.specs.Views.{design_of, signal_form, typed_tree}
 use Rattle.sv_rules.specs.ReadForms.{read_forms}
-use Rattle.sv_rules.specs.Scopes.{in_scope}
+use Rattle.sv_rules.specs.Surroundings.{in_surrounding}
 use Rattle.sv_rules.proofs.PhaseFacts.{no_read, name_is_signal, name_more, reads_end, reading_of}
 use Rattle.sv_rules.proofs.blocks.wrong_in.Goals as goal
 
@@ -26,7 +26,7 @@ is_wrong-wrong-requires-clause-known c =
 pub loop-read-preserved : goal.loop-read-preserved
 loop-read-preserved c = λ serves.
     let signals = (design_of c.args.flat.now).signals in
-    name_more signals c.args.targets.now (in_scope c.args.assigned.now) serves
+    name_more signals c.args.targets.now (in_surrounding c.args.assigned.now) serves
     (readings_of signals (typed_tree c.args.expr.now) serves)
     c.deref-read-items.result.now c.loop-read.read-index no_read c.loop-read-test.true
     c.loop-read.found c.found_if.result c.first_of-found.result
@@ -37,7 +37,7 @@ pub returns : goal.returns
 returns c = λ serves.
     let signals = (design_of c.args.flat.now).signals in
     let items = c.deref-read-items.result.now in
-    reads_end signals c.args.targets.now (in_scope c.args.assigned.now)
+    reads_end signals c.args.targets.now (in_surrounding c.args.assigned.now)
     (readings_of signals (typed_tree c.args.expr.now) serves)
     _ c.loop-read.found
     (λ a f. at_drop_all (λ rs.

@@ -7,7 +7,7 @@ use Rattle.sv_flat.proofs.LeastSets.{holds-from_Contains}
 use Rattle.sv_flat.specs.Sets.{holds}
 use Rattle.sv_flat.specs.declared.signals.SigId.{SigId}
 use Rattle.sv_graph.specs.declared.searches.Search.{Search}
-use Rattle.sv_graph.specs.declared.searches.Step.{Step}
+use Rattle.sv_graph.specs.declared.searches.Visit.{Visit}
 use Rattle.sv_graph.specs.Graphs.{size, row}
 use Rattle.sv_graph.specs.Numbers.{numbers}
 use Rattle.sv_graph.specs.Searches.{found_by}
@@ -18,14 +18,14 @@ use Rattle.sv_graph.proofs.searches.Search.expand.Goals as goal
 no_signal : SigId
 no_signal = record { 0 = 0 }
 
--- the signal of the step at a place
-signal_at : (search : Search) (place : _) (step : Step) → place < length (found_by search)
-    → step ≡ get_or search.steps.items place step
-    → step.signal.0 ≡ get_or (found_by search) place 0
-signal_at search place step inside is =
-    let f = λ (s : Step). s.signal.0 in
-    ap f is ∙ sym (get_or-map f search.steps.items place step 0
-    (subst (λ n. place < n) (length-map search.steps.items f) inside))
+-- the signal of the visit at a place
+signal_at : (search : Search) (place : _) (visit : Visit) → place < length (found_by search)
+    → visit ≡ get_or search.visits.items place visit
+    → visit.signal.0 ≡ get_or (found_by search) place 0
+signal_at search place visit inside is =
+    let f = λ (s : Visit). s.signal.0 in
+    ap f is ∙ sym (get_or-map f search.visits.items place visit 0
+    (subst (λ n. place < n) (length-map search.visits.items f) inside))
 
 pub index-requires-2 : goal.index-requires-2
 index-requires-2 c =

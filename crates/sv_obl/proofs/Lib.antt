@@ -32,7 +32,6 @@ pub mod RouteNames
 pub mod SameCopies
 pub mod SliceChains
 pub mod SliceFacts
-pub mod StatementFacts
 pub mod TakenPaths
 pub mod TargetReads
 pub mod TargetValues

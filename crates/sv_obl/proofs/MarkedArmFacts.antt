@@ -8,16 +8,17 @@ use Rattle.sv_flat.specs.Design.{SignalForm, TypedTree, FlatStatement, nothing, 
 use Rattle.sv_flat.specs.Readings.{BitSet, either}
 use Rattle.sv_flat.specs.Soundness.{well_formed, statement_sound}
 use Rattle.sv_flat.specs.Views.{typed_tree}
-use Rattle.sv_obl.specs.declared.later.Bits.{Bits}
+use Rattle.sv_graph.specs.declared.bit_sets.BitSet.{BitSet as Bits}
+use Rattle.sv_graph.specs.BitSets.{in_bits}
+use Rattle.sv_rules.proofs.Passes.{or_turned}
 use Rattle.sv_obl.specs.declared.marked.Marked.{Marked}
 use Rattle.sv_obl.specs.declared.marked.MarkedArm.{MarkedArm}
 use Rattle.sv_obl.specs.BodySlices.{in_sequence}
-use Rattle.sv_obl.specs.Later.{in_bits}
 use Rattle.sv_obl.specs.Marked.{IsBranch, IsMarking}
 use Rattle.sv_obl.specs.MarkedBodies.{marked_statement}
 use Rattle.sv_obl.specs.MarkedArms.{IsArm, AreArms, AreConditions}
 use Rattle.sv_obl.specs.Wanted.{marked as marked_as, marked_tree}
-use Rattle.sv_obl.proofs.MarkedFacts.{or_turned, parts_branch}
+use Rattle.sv_obl.proofs.MarkedFacts.{parts_branch}
 
 -- the arms so far, and what is left, which is the second arm of the last one
 pub record OpenArms (signals : List SignalForm) (later : BitSet) (whole rest : FlatStatement)

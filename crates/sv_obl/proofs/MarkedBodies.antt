@@ -1,7 +1,7 @@
 -- Bodies of processes, marked one after the other.
 use Rattle.std.proofs.Common.{◌≡◌, ℕ, ◌+◌, ◌<◌, Bool, false, ◌&&◌, List, [], ◌∷◌}
 use Rattle.std.proofs.Common.{◌++◌, length, map, take, get_or, Option, Some, None, sym, ap}
-use Rattle.std.proofs.Common.{subst, ◌∙◌, rules, true, add-one}
+use Rattle.std.proofs.Common.{subst, ◌∙◌, true, add-one}
 use Rattle.std.specs.List.{AllZip}
 use Rattle.std.proofs.Math.Seq.{take-suc}
 use Rattle.std.proofs.lemmas.List.{map-append}
@@ -10,9 +10,10 @@ use Rattle.sv_flat.specs.Design.{SignalForm, FlatStatement, ProcessForm}
 use Rattle.sv_flat.specs.Processes.{is_block}
 use Rattle.sv_flat.specs.Readings.{no_bits, is_followed}
 use Rattle.sv_flat.specs.Views.{process_form}
+use Rattle.sv_rules.specs.declared.surroundings.Surrounding.{Nothing}
+use Rattle.sv_rules.specs.Surroundings.{in_surrounding}
+use Rattle.sv_rules.proofs.BlockPasses.{in_surrounding-nothing}
 use Rattle.sv_obl.specs.declared.marked.Marked.{Marked}
-use Rattle.sv_obl.specs.declared.later.Scope.{Nothing, the_lemmas}
-use Rattle.sv_obl.specs.Later.{in_scope}
 use Rattle.sv_obl.specs.Marked.{has_copy}
 use Rattle.sv_obl.specs.MarkedBodies.{marked_statement, IsMarkedOf, IsMarkedBody}
 use Rattle.sv_obl.specs.Wanted.{marked as marked_as}
@@ -21,15 +22,12 @@ use Rattle.sv_obl.proofs.Unmarked.{none_earlier}
 
 -- ---- one process
 
-nothing_later : in_scope Nothing ≡ no_bits
-nothing_later = search (rules, the_lemmas)
-
 module _ (signals : List SignalForm) (process : ProcessForm) where
   pub not_marked : is_block process.kind ≡ false → IsMarkedBody signals process None
   not_marked is = λ r at. ap (λ b. b && is_followed signals r) is
 
   module _ (x : Marked) (block : is_block process.kind ≡ true)
-      (is : IsMarkedOf (marked_as signals true process.body (in_scope Nothing)) x) (n : ℕ)
+      (is : IsMarkedOf (marked_as signals true process.body (in_surrounding Nothing)) x) (n : ℕ)
       (many : n ≡ length signals) (found : Bool)
       (tells : found ≡ has_copy n (marked_statement x)) where
     abbrev in_it : FlatStatement
@@ -37,7 +35,8 @@ module _ (signals : List SignalForm) (process : ProcessForm) where
 
     is_it : IsMarkedOf in_it x
     is_it = subst (λ b. IsMarkedOf (marked_as signals b process.body no_bits) x) (sym block)
-        (subst (λ l. IsMarkedOf (marked_as signals true process.body l) x) nothing_later is)
+        (subst (λ l. IsMarkedOf (marked_as signals true process.body l) x)
+        in_surrounding-nothing is)
 
     pub is_marked : IsMarkedBody signals process (Some x)
     is_marked = (is_it, block)

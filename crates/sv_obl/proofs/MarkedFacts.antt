@@ -16,23 +16,19 @@ use Rattle.sv_flat.specs.Readings.{BitSet, either}
 use Rattle.sv_flat.specs.Sets.{holds}
 use Rattle.sv_flat.proofs.LeastSets.{holds-from_Contains, Contains-from_holds}
 use Rattle.sv_graph.proofs.BitFacts.{same_answer}
-use Rattle.sv_obl.specs.declared.later.Bits.{Bits}
+use Rattle.sv_graph.specs.declared.bit_sets.BitSet.{BitSet as Bits}
+use Rattle.sv_graph.specs.BitSets.{in_bits}
+use Rattle.sv_rules.specs.Phases.{SameBits}
+use Rattle.sv_rules.proofs.Passes.{or_turned}
 use Rattle.sv_obl.specs.declared.marked.Marked.{Marked}
 use Rattle.sv_obl.specs.declared.marked.Marked as marked
 use Rattle.sv_obl.specs.BodySlices.{in_sequence, SameParts}
-use Rattle.sv_obl.specs.Later.{in_bits, HasBits}
 use Rattle.sv_obl.specs.Marked.{targets_in, IsChain, IsBranch, IsMarking, stacked, AllTell, EndsIn}
 use Rattle.sv_obl.specs.MarkedBodies.{marked_statement, AreTargets, TellsTargets}
 use Rattle.sv_obl.specs.Views.{piece_forms}
 use Rattle.sv_obl.specs.Wanted.{marked as marked_as, marked_tree}
 use Rattle.sv_obl.proofs.HeldNumbers.{put_held}
 use Rattle.sv_obl.proofs.SliceFacts.{or_none, same_before}
-
-pub or_turned : (a b : Bool) → (a || b) ≡ (b || a)
-or_turned true true = refl
-or_turned true false = refl
-or_turned false true = refl
-or_turned false false = refl
 
 -- ---- the parts of statements
 
@@ -166,7 +162,7 @@ pub record BlockAt (signals : List SignalForm) (later : BitSet) (parts : List Ma
     (statement : FlatStatement) (set : Bits) : Type 0 where
   pub same : SameParts (stacked parts) (marked_as signals true statement later)
   pub tells : AllTell parts
-  pub has_bits : HasBits set (can_assign statement)
+  pub has_bits : SameBits (in_bits set) (can_assign statement)
 
 tells_more : (xs : List Marked) (x : Marked) → AllTell xs → TellsTargets x → AllTell (xs ++ x ∷ [])
 tells_more [] x all one = (one, tt)
@@ -230,7 +226,7 @@ module _ (signals : List SignalForm) (later : BitSet) where
       → marked_statement x ≡ assign pieces place blocking made → TellsTargets x
       → made ≡ marked_tree signals true inside right
       → inside ≡ either (can_assign (assign pieces place blocking right)) later
-      → HasBits set (can_assign (assign pieces place blocking right))
+      → SameBits (in_bits set) (can_assign (assign pieces place blocking right))
       → IsMarking signals later statement x set
   assign_marked pieces place blocking right made statement inside x set is goes tells made_is around
       bits =

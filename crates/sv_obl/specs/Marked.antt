@@ -7,11 +7,12 @@ use Rattle.sv_flat.specs.Assigned.{can_assign}
 use Rattle.sv_flat.specs.Design.{SignalForm, TypedTree, PieceForm, FlatStatement, nothing, after}
 use Rattle.sv_flat.specs.Design.{assign, branch}
 use Rattle.sv_flat.specs.Readings.{BitSet}
-use Rattle.sv_obl.specs.declared.later.Bits.{Bits}
+use Rattle.sv_graph.specs.declared.bit_sets.BitSet.{BitSet as Bits}
+use Rattle.sv_graph.specs.BitSets.{in_bits}
+use Rattle.sv_rules.specs.Phases.{SameBits}
 use Rattle.sv_obl.specs.declared.marked.Marked.{Marked}
 use Rattle.sv_obl.specs.declared.marked.Marked as marked
 use Rattle.sv_obl.specs.BodySlices.{SameParts}
-use Rattle.sv_obl.specs.Later.{HasBits}
 use Rattle.sv_obl.specs.MarkedBodies.{marked_statement, TellsTargets, IsMarkedOf}
 use Rattle.sv_obl.specs.Routes.{names_in}
 use Rattle.sv_obl.specs.Views.{piece_forms}
@@ -56,7 +57,7 @@ has_copy count (branch place condition first second) =
 pub record IsMarking (signals : List SignalForm) (later : BitSet) (statement : FlatStatement)
     (x : Marked) (set : Bits) : Type 0 where
   pub is_marked : IsMarkedOf (marked_as signals true statement later) x
-  pub has_bits : HasBits set (can_assign statement)
+  pub has_bits : SameBits (in_bits set) (can_assign statement)
 
 -- ---- blocks
 

@@ -21,14 +21,14 @@
 //! `MarkedArms.antt` how a chain of branches is. `Routes.antt` tells paths as they are where no
 //! read is an earlier one, and `SliceRoutes.antt` those through a slice, which has those of its
 //! statement: `sv_paths` walks them. These seven are private: they say how the code goes; the
-//! meaning stands in the files before.
+//! meaning stands in the files before. Sets of bits are those of `sv_graph`, and the ones around a
+//! statement those of `sv_rules`.
 #![tactic(auto)]
 
 mod body_slices;
 mod checked;
 mod frames;
 mod indexed;
-mod later;
 mod laws;
 mod marked;
 mod marking;

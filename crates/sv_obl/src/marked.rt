@@ -10,20 +10,21 @@ ghost use Rattle.sv_flat.specs.Soundness.{statement_sound};
 ghost use Rattle.sv_flat.specs.Views.{typed_tree, flat_statement, flat_statements, chain_of};
 ghost use Rattle.sv_flat.specs.Processes.{is_block};
 ghost use Rattle.sv_flat.specs.Views.{process_form, process_kind};
-ghost use Rattle.sv_obl.specs.Later.{in_scope};
+ghost use Rattle.sv_rules.specs.Surroundings.{in_surrounding};
 ghost use Rattle.sv_obl.specs.Marked.{targets_in, IsChain, IsBranch, names_copy, has_copy};
 ghost use Rattle.sv_obl.specs.Marked.{IsMarking, EndsIn};
 ghost use Rattle.sv_obl.specs.MarkedArms.{AreArms, AreConditions};
 ghost use Rattle.sv_obl.specs.MarkedBodies.{marked_statement, IsMarkedBody};
 
 use crate::indexed::{push_pieces, push_set, set_of};
-use crate::later::{Bits, Scope};
 use crate::marking::marked_expr;
 use crate::names::names_of;
 use std::alloc::{AllocError, Global};
 use std::collections::BTreeSet;
 use sv_flat::{FExpr, FStmt, Piece, ProcKind, Process, Signal};
+use sv_graph::BitSet;
 use sv_num::Place;
+use sv_rules::{Surrounding, add_pieces};
 
 /// A statement in which earlier reads are wanted. What has parts tells what these assign, so that a
 /// walk passes over what it does not want. A block is halves of halves, so that what walks through
@@ -148,7 +149,7 @@ pub struct MarkedArm<'a> {
     pub place: Place,
     pub cond: &'a FExpr,
     pub yes: Marked<'a>,
-    pub bits: Bits,
+    pub bits: BitSet,
 }
 
 // The chain of the branches with these first arms, where the last second arm is the one given.
@@ -156,17 +157,18 @@ fn marked_arms<'a>(
     alloc: Global,
     signals: &[Signal],
     arms: Vec<MarkedArm<'a>>,
-    last: (Marked<'a>, Bits),
-    later: &Scope,
-) -> Result<(Marked<'a>, Bits), AllocError>
+    last: (Marked<'a>, BitSet),
+    later: &Surrounding,
+) -> Result<(Marked<'a>, BitSet), AllocError>
     requires few { length signals.now ≤ 2147483647 }
     requires words { AreWords (signal_forms signals.now) }
     requires conds { AreConditions (signal_forms signals.now) arms.items }
     ensures { (rest whole : FlatStatement)
-        → AreArms (signal_forms signals.now) (in_scope later.now) arms.entry.items rest whole
-        → IsMarking (signal_forms signals.now) (in_scope later.now) rest last.entry.0 last.entry.1
+        → AreArms (signal_forms signals.now) (in_surrounding later.now) arms.entry.items rest whole
+        → IsMarking (signal_forms signals.now) (in_surrounding later.now) rest last.entry.0
+        last.entry.1
         → IfOk result (λ both.
-        IsMarking (signal_forms signals.now) (in_scope later.now) whole both.0 both.1) }
+        IsMarking (signal_forms signals.now) (in_surrounding later.now) whole both.0 both.1) }
 {
     let mut arms = arms;
     let (mut rest, mut bits) = last;
@@ -178,7 +180,7 @@ fn marked_arms<'a>(
             bits: own,
         } = arm;
         bits.add_all(&own)?;
-        let inside = Scope::Inside(&bits, &*later);
+        let inside = Surrounding::Inside(&bits, &*later);
         let cond = marked_expr(cond, alloc, signals, &inside)?;
         rest = branched(alloc, place, cond, yes, rest)?;
     }
@@ -193,12 +195,12 @@ fn marked_stmt<'a>(
     stmt: &'a FStmt,
     alloc: Global,
     signals: &[Signal],
-    later: &Scope,
-) -> Result<(Marked<'a>, Bits), AllocError>
+    later: &Surrounding,
+) -> Result<(Marked<'a>, BitSet), AllocError>
     requires few { length signals.now ≤ 2147483647 }
     requires words { AreWords (signal_forms signals.now) }
     requires stmt { IsTrue (statement_sound (signal_forms signals.now) (flat_statement stmt.now)) }
-    ensures { IfOk result (λ both. IsMarking (signal_forms signals.now) (in_scope later.now)
+    ensures { IfOk result (λ both. IsMarking (signal_forms signals.now) (in_surrounding later.now)
         (flat_statement stmt.now) both.0 both.1) }
 {
     let mut arms = Vec::new(alloc);
@@ -230,13 +232,13 @@ fn marked_plain<'a>(
     stmt: &'a FStmt,
     alloc: Global,
     signals: &[Signal],
-    later: &Scope,
-) -> Result<(Marked<'a>, Bits), AllocError>
+    later: &Surrounding,
+) -> Result<(Marked<'a>, BitSet), AllocError>
     requires plain { IsFalse (is_branch (flat_statement stmt.now)) }
     requires few { length signals.now ≤ 2147483647 }
     requires words { AreWords (signal_forms signals.now) }
     requires stmt { IsTrue (statement_sound (signal_forms signals.now) (flat_statement stmt.now)) }
-    ensures { IfOk result (λ both. IsMarking (signal_forms signals.now) (in_scope later.now)
+    ensures { IfOk result (λ both. IsMarking (signal_forms signals.now) (in_surrounding later.now)
         (flat_statement stmt.now) both.0 both.1) }
 {
     match stmt {
@@ -246,9 +248,9 @@ fn marked_plain<'a>(
             blocking,
             value,
         } => {
-            let mut bits = Bits::new(alloc);
-            bits.add_pieces(pieces)?;
-            let inside = Scope::Inside(&bits, &*later);
+            let mut bits = BitSet::new(alloc);
+            add_pieces(&mut bits, pieces)?;
+            let inside = Surrounding::Inside(&bits, &*later);
             let right = marked_expr(value, alloc, signals, &inside)?;
             let marked = Marked::Assign {
                 pieces,
@@ -269,20 +271,20 @@ fn marked_block<'a>(
     stmts: &'a [FStmt],
     alloc: Global,
     signals: &[Signal],
-    later: &Scope,
-) -> Result<(Marked<'a>, Bits), AllocError>
+    later: &Surrounding,
+) -> Result<(Marked<'a>, BitSet), AllocError>
     requires few { length signals.now ≤ 2147483647 }
     requires words { AreWords (signal_forms signals.now) }
     requires stmts { IsTrue
         (statement_sound (signal_forms signals.now) (chain_of (flat_statements stmts.now))) }
-    ensures { IfOk result (λ both. IsMarking (signal_forms signals.now) (in_scope later.now)
+    ensures { IfOk result (λ both. IsMarking (signal_forms signals.now) (in_surrounding later.now)
         (chain_of (flat_statements stmts.now)) both.0 both.1) }
 {
     let mut parts = Vec::new(alloc);
-    let mut here = Bits::new(alloc);
+    let mut here = BitSet::new(alloc);
     for i in 0..stmts.len() {
         let stmt = &stmts[stmts.len() - 1 - i];
-        let inside = Scope::Inside(&here, &*later);
+        let inside = Surrounding::Inside(&here, &*later);
         let (part, bits) = marked_stmt(stmt, alloc, signals, &inside)?;
         parts.push(part)?;
         here.add_all(&bits)?;
@@ -346,7 +348,7 @@ fn marked_body<'a>(
     if !is_block(process.kind) {
         return Ok(None);
     }
-    let (body, _bits) = marked_stmt(&process.body, alloc, signals, &Scope::Nothing)?;
+    let (body, _bits) = marked_stmt(&process.body, alloc, signals, &Surrounding::Nothing)?;
     let found = has_copy(&body, alloc, signals.len() as u32)?;
     if found { Ok(Some(body)) } else { Ok(None) }
 }

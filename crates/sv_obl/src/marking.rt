@@ -4,23 +4,24 @@ ghost use Rattle.sv_flat.specs.ByNumber.{signal_forms, AreWords};
 ghost use Rattle.sv_flat.specs.Soundness.{well_formed, parts_well_formed};
 ghost use Rattle.sv_flat.specs.Views.{typed_tree, typed_trees, node_tree, parts_of};
 ghost use Rattle.sv_rules.specs.ReadForms.{read_form};
+ghost use Rattle.sv_rules.specs.Surroundings.{in_surrounding};
 ghost use Rattle.sv_obl.specs.Exchange.{exchanged_node};
-ghost use Rattle.sv_obl.specs.Later.{in_scope, marked_name};
+ghost use Rattle.sv_obl.specs.Later.{marked_name};
 ghost use Rattle.sv_obl.specs.Wanted.{mark, marked_tree};
 
-use crate::later::{Scope, share};
 use std::alloc::{AllocError, Global};
 use sv_flat::{FExpr, FNode, SigId, Signal};
-use sv_rules::{Read, bits_read, indexed, part, whole};
+use sv_graph::share;
+use sv_rules::{Read, Surrounding, bits_read, indexed, part, whole};
 
 // The name of a signal where some of its bits are read: wanted where one of them can be assigned
 // later.
-fn named(signals: &[Signal], later: &Scope, read: Read) -> SigId
+fn named(signals: &[Signal], later: &Surrounding, read: Read) -> SigId
     requires few { length signals.now ≤ 2147483647 }
     requires words { AreWords (signal_forms signals.now) }
     requires known { read.signal.0 < length signals.now }
     ensures { result.0 ≡
-        marked_name (signal_forms signals.now) (in_scope later.now) (read_form read) }
+        marked_name (signal_forms signals.now) (in_surrounding later.now) (read_form read) }
 {
     let signal = read.signal;
     let bits = bits_read(signals[signal.0 as usize].width, &read);
@@ -37,13 +38,14 @@ pub fn marked_expr(
     expr: &FExpr,
     alloc: Global,
     signals: &[Signal],
-    later: &Scope,
+    later: &Surrounding,
 ) -> Result<FExpr, AllocError>
     requires few { length signals.now ≤ 2147483647 }
     requires words { AreWords (signal_forms signals.now) }
     requires formed { IsTrue (well_formed (signal_forms signals.now) (typed_tree expr.now)) }
     ensures { IfOk result (λ made. typed_tree made ≡
-        marked_tree (signal_forms signals.now) true (in_scope later.now) (typed_tree expr.now)) }
+        marked_tree (signal_forms signals.now) true (in_surrounding later.now)
+        (typed_tree expr.now)) }
 {
     Ok(FExpr {
         width: expr.width,
@@ -57,14 +59,14 @@ fn marked_node(
     expr: &FExpr,
     alloc: Global,
     signals: &[Signal],
-    later: &Scope,
+    later: &Surrounding,
 ) -> Result<FNode, AllocError>
     requires few { length signals.now ≤ 2147483647 }
     requires words { AreWords (signal_forms signals.now) }
     requires formed { IsTrue (well_formed (signal_forms signals.now) (typed_tree expr.now)) }
     ensures { let signals = signal_forms signals.now in
         IfOk result (λ made. node_tree made ≡
-        exchanged_node signals (mark signals true (in_scope later.now))
+        exchanged_node signals (mark signals true (in_surrounding later.now))
         (node_tree expr.now.node)) }
 {
     match &expr.node {
@@ -141,13 +143,14 @@ fn marked_box(
     expr: &FExpr,
     alloc: Global,
     signals: &[Signal],
-    later: &Scope,
+    later: &Surrounding,
 ) -> Result<Box<FExpr>, AllocError>
     requires few { length signals.now ≤ 2147483647 }
     requires words { AreWords (signal_forms signals.now) }
     requires formed { IsTrue (well_formed (signal_forms signals.now) (typed_tree expr.now)) }
     ensures { IfOk result (λ made. typed_tree made.value ≡
-        marked_tree (signal_forms signals.now) true (in_scope later.now) (typed_tree expr.now)) }
+        marked_tree (signal_forms signals.now) true (in_surrounding later.now)
+        (typed_tree expr.now)) }
 {
     Ok(Box::new(alloc, marked_expr(expr, alloc, signals, later)?)?)
 }
@@ -157,14 +160,14 @@ fn marked_parts(
     exprs: &[FExpr],
     alloc: Global,
     signals: &[Signal],
-    later: &Scope,
+    later: &Surrounding,
 ) -> Result<Vec<FExpr>, AllocError>
     requires few { length signals.now ≤ 2147483647 }
     requires words { AreWords (signal_forms signals.now) }
     requires formed { IsTrue
         (parts_well_formed (signal_forms signals.now) (parts_of (typed_trees exprs.now))) }
     ensures { IfOk result (λ made. typed_trees made.items ≡ map
-        (marked_tree (signal_forms signals.now) true (in_scope later.now))
+        (marked_tree (signal_forms signals.now) true (in_surrounding later.now))
         (typed_trees exprs.now)) }
 {
     let mut parts = Vec::with_capacity(alloc, exprs.len())?;

@@ -3,13 +3,13 @@ use Rattle.sv_flat.specs.declared.statements.FStmt.{the_lemmas}
 use Rattle.sv_flat.specs.Design.{assign, branch}
 use Rattle.sv_flat.specs.Views.{typed_tree, flat_statement, flat_statements, chain_of}
 use Rattle.sv_flat.proofs.NumberedRuns.{no_branch}
+use Rattle.sv_rules.proofs.Sound.{block_is, next_statement}
 use Rattle.sv_obl.specs.declared.indexed.Indexed.TheViews as view
 use Rattle.sv_obl.specs.IndexedArms.{AreArms}
 use Rattle.sv_obl.specs.IndexedStatements.{statement_of, IsMarked, Tells, IsMadeOf, SoFar}
 use Rattle.sv_obl.specs.Views.{piece_forms}
 use Rattle.sv_obl.proofs.IndexedArmFacts.{arm_opened}
 use Rattle.sv_obl.proofs.IndexedFacts.{none_so_far, one_so_far, block_indexed}
-use Rattle.sv_obl.proofs.StatementFacts.{block_is, next_statement}
 use Rattle.sv_obl.proofs.indexed.+indexed.Goals as goal
 
 pub indexed_of-loop-rest-init : goal.indexed_of-loop-rest-init

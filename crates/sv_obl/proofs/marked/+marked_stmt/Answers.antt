@@ -10,18 +10,18 @@ use Rattle.sv_flat.specs.Soundness.{statement_sound}
 use Rattle.sv_flat.specs.Views.{typed_tree, flat_statement, flat_statements, chain_of}
 use Rattle.sv_flat.specs.declared.statements.FStmt.{the_lemmas}
 use Rattle.sv_flat.proofs.NumberedRuns.{no_branch}
+use Rattle.sv_graph.specs.declared.bit_sets.BitSet.{BitSet}
+use Rattle.sv_graph.specs.BitSets.{mask_in}
 use Rattle.sv_graph.proofs.EntryFacts.{nothing_in}
-use Rattle.sv_rules.proofs.Passes.{sound_at}
-use Rattle.sv_rules.proofs.Sound.{branch_is, sound_as}
-use Rattle.sv_obl.specs.declared.later.Bits.{Bits}
+use Rattle.sv_rules.specs.Surroundings.{in_surrounding}
+use Rattle.sv_rules.proofs.Passes.{sound_at, only_pieces}
+use Rattle.sv_rules.proofs.Sound.{branch_is, sound_as, block_is, next_statement}
 use Rattle.sv_obl.specs.declared.marked.Marked.{Marked}
-use Rattle.sv_obl.specs.Later.{mask_in, in_scope}
 use Rattle.sv_obl.specs.Marked.{IsMarking}
 use Rattle.sv_obl.specs.Views.{piece_forms}
-use Rattle.sv_obl.proofs.LaterFacts.{bits_inside, only_pieces}
+use Rattle.sv_obl.proofs.LaterFacts.{set_inside}
 use Rattle.sv_obl.proofs.MarkedArmFacts.{open_begin, open_more}
 use Rattle.sv_obl.proofs.MarkedFacts.{BlockAt, block_begin, block_more, block_end, assign_marked}
-use Rattle.sv_obl.proofs.StatementFacts.{block_is, next_statement}
 use Rattle.sv_obl.proofs.marked.+marked_stmt.Goals as goal
 
 pub marked_stmt-marked_stmt-requires : goal.marked_stmt-marked_stmt-requires
@@ -41,7 +41,7 @@ marked_stmt-marked_stmt-requires t c =
 
 pub marked_stmt-loop-rest-init : goal.marked_stmt-loop-rest-init
 marked_stmt-loop-rest-init t c = (
-  open_begin (signal_forms c.args.signals.now) (in_scope c.args.later.now) _
+  open_begin (signal_forms c.args.signals.now) (in_surrounding c.args.later.now) _
       (flat_statement c.args.stmt.now) c.new-arms.ensures.items c.requires.stmt,
   search (rules, the_lemmas),
 )
@@ -53,9 +53,10 @@ marked_stmt-loop-rest-preserved t c =
     let second = c.deref-rest.result.now in
     let is = branch_is c.loop-rest.rest.now first second (ap flat_statement c.in-If.is)
     c.deref.ensures c.deref-rest.ensures in (
-      open_more signals (in_scope c.args.later.now) c.loop-rest.arms.items c.push.new.self.items _
-          (flat_statement c.args.stmt.now) (flat_statement c.loop-rest.rest.now)
-          (flat_statement first) (flat_statement second) c.in_ok-push.ensures.items is
+      open_more signals (in_surrounding c.args.later.now) c.loop-rest.arms.items
+          c.push.new.self.items _ (flat_statement c.args.stmt.now)
+          (flat_statement c.loop-rest.rest.now) (flat_statement first) (flat_statement second)
+          c.in_ok-push.ensures.items is
           c.in_ok-yes.ensures c.loop-rest.invariant.0,
       search (rules, the_lemmas),
     )
@@ -100,8 +101,8 @@ marked_plain-marked_block-requires t c =
 pub marked_plain-returns-in-Block : goal.marked_plain-returns-in-Block
 marked_plain-returns-in-Block t c =
     let signals = signal_forms c.args.signals.now in
-    subst (λ b. IfOk c.marked_block.result (λ (both : Marked × Bits).
-    IsMarking signals (in_scope c.args.later.now) b both.0 both.1))
+    subst (λ b. IfOk c.marked_block.result (λ (both : Marked × BitSet).
+    IsMarking signals (in_surrounding c.args.later.now) b both.0 both.1))
     (sym (block_is _ c.in-Block.stmts _ c.in-Block.is c.deref-in-Block.ensures.value))
     c.marked_block.ensures
 
@@ -123,7 +124,7 @@ marked_block-marked_stmt-requires t c =
 
 pub marked_block-loop-i-init : goal.marked_block-loop-i-init
 marked_block-loop-i-init t c =
-    block_begin (signal_forms c.args.signals.now) (in_scope c.args.later.now) _ _ _
+    block_begin (signal_forms c.args.signals.now) (in_surrounding c.args.later.now) _ _ _
     c.new-parts.ensures.items
     (ap (λ ss. chain_of (flat_statements ss)) (drop_all _ c.args.stmts.now (omega arith)))
     (λ s b. nothing_in (mask_in c.new-here.result s) b (c.new-here.ensures s))
@@ -132,7 +133,7 @@ pub marked_block-loop-i-preserved : goal.marked_block-loop-i-preserved
 marked_block-loop-i-preserved t c =
     let stmts = c.args.stmts.now in
     let signals = signal_forms c.args.signals.now in
-    let later = in_scope c.args.later.now in
+    let later = in_surrounding c.args.later.now in
     let i = c.loop-i.i in
     let j = length stmts - (i + 1) in
     let stmt = c.index-stmts-stmts.result in
@@ -147,14 +148,14 @@ marked_block-loop-i-preserved t c =
     c.add_all.new.self c.in_ok-push.ensures.items
     (next_statement stmts j stmt inside
     (subst (λ k. stmt ≡ get_or stmts k stmt) same c.index-stmts-stmts.is))
-    (bits_inside _ _ (can_assign (chain_of (flat_statements (drop (j + 1) stmts)))) so.has_bits)
+    (set_inside _ _ (can_assign (chain_of (flat_statements (drop (j + 1) stmts)))) so.has_bits)
     c.in_ok-part.ensures c.in_ok-add_all.ensures so
 
 pub marked_block-returns : goal.marked_block-returns
 marked_block-returns t c =
     let stmts = c.args.stmts.now in
     let signals = signal_forms c.args.signals.now in
-    let later = in_scope c.args.later.now in
+    let later = in_surrounding c.args.later.now in
     let none : length stmts - c.loop-i.i ≡ 0 = omega (arith, c.loop-i-test.false) in
     block_end signals later c.loop-i.parts.items c.together.new.parts.items c.in_ok-whole.whole
     (chain_of (flat_statements stmts)) c.loop-i.here
@@ -167,15 +168,15 @@ marked_block-returns t c =
 pub marked_plain-returns-in_ok-right-in-Assign : goal.marked_plain-returns-in_ok-right-in-Assign
 marked_plain-returns-in_ok-right-in-Assign t c =
     let signals = signal_forms c.args.signals.now in
-    let later = in_scope c.args.later.now in
+    let later = in_surrounding c.args.later.now in
     let pieces = piece_forms c.in-Assign.pieces.items in
     let whole = assign pieces c.in-Assign.place c.in-Assign.blocking
     (typed_tree c.in-Assign.value) in
-    let bits = only_pieces c.new-bits.result c.add_pieces.new.self _ _ c.deref.ensures.value
+    let bits = only_pieces c.new-bits.result c.add_pieces.new.set _ _ c.deref.ensures.value
     c.new-bits.ensures c.in_ok-add_pieces-in-Assign.ensures in
     assign_marked signals later pieces c.in-Assign.place c.in-Assign.blocking
     (typed_tree c.in-Assign.value) (typed_tree c.in_ok-right-in-Assign.right)
-    (flat_statement c.args.stmt.now) _ _ c.add_pieces.new.self (ap flat_statement c.in-Assign.is)
+    (flat_statement c.args.stmt.now) _ _ c.add_pieces.new.set (ap flat_statement c.in-Assign.is)
     (ap (λ ps. assign (piece_forms ps) c.in-Assign.place c.in-Assign.blocking
     (typed_tree c.in_ok-right-in-Assign.right)) c.deref-in-Assign.ensures.value)
-    tt c.in_ok-right-in-Assign.ensures (bits_inside _ _ (can_assign whole) bits) bits
+    tt c.in_ok-right-in-Assign.ensures (set_inside _ _ (can_assign whole) bits) bits

@@ -2,7 +2,7 @@ use Rattle.std.proofs.Common.{◌+◌, ◌*◌, ◌-◌, ◌≤◌, length, drop
 use Rattle.sv_flat.specs.ByNumber.{signal_forms}
 use Rattle.sv_flat.specs.Views.{flat_statement, flat_statements, chain_of}
 use Rattle.sv_flat.specs.declared.statements.FStmt.{size-FStmt}
-use Rattle.sv_obl.specs.Later.{in_scope}
+use Rattle.sv_rules.specs.Surroundings.{in_surrounding}
 use Rattle.sv_obl.proofs.MarkedArmFacts.{OpenArms}
 use Rattle.sv_obl.proofs.MarkedFacts.{BlockAt}
 use Rattle.sv_obl.proofs.marked.+marked_stmt.Given as goal
@@ -19,12 +19,12 @@ decreases-marked_block l = 3 * goal.size-marked_block l + 2
 -- what is left of the statement, which is no deeper, and the arms so far come to the whole
 abbrev pub invariant-marked_stmt-loop-rest : goal.invariant-marked_stmt-loop-rest
 invariant-marked_stmt-loop-rest l =
-    OpenArms (signal_forms l.signals) (in_scope l.later) (flat_statement l.fn.stmt)
+    OpenArms (signal_forms l.signals) (in_surrounding l.later) (flat_statement l.fn.stmt)
     (flat_statement l.rest) l.arms.items
     × (size-FStmt l.rest ≤ size-FStmt l.fn.stmt)
 
 -- the last statements, with the bits that they can assign
 abbrev pub invariant-marked_block-loop-i : goal.invariant-marked_block-loop-i
 invariant-marked_block-loop-i l =
-    BlockAt (signal_forms l.signals) (in_scope l.later) l.parts.items
+    BlockAt (signal_forms l.signals) (in_surrounding l.later) l.parts.items
     (chain_of (flat_statements (drop (length l.stmts - l.i) l.stmts))) l.here

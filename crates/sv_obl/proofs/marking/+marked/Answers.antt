@@ -7,8 +7,8 @@ use Rattle.sv_flat.specs.Views.{node_tree}
 use Rattle.sv_flat.proofs.Depths.{second_of}
 use Rattle.sv_flat.proofs.NodeForms.{join_few, repeat_few}
 use Rattle.sv_flat.proofs.Parts.{formed_at}
+use Rattle.sv_rules.specs.Surroundings.{in_surrounding}
 use Rattle.sv_obl.specs.Exchange.{exchanged_node}
-use Rattle.sv_obl.specs.Later.{in_scope}
 use Rattle.sv_obl.specs.Wanted.{mark}
 use Rattle.sv_obl.proofs.MarkingFacts.{row_exchanged}
 use Rattle.sv_obl.proofs.marking.+marked.Goals as goal
@@ -65,7 +65,7 @@ marked_node-marked_parts-requires-in-Repeat t c =
 pub marked_node-returns-in_ok-marked_parts-in-Join : goal.marked_node-returns-in_ok-marked_parts-in-Join
 marked_node-returns-in_ok-marked_parts-in-Join t c =
     let signals = signal_forms c.args.signals.now in
-    let instead = mark signals true (in_scope c.args.later.now) in
+    let instead = mark signals true (in_surrounding c.args.later.now) in
     ap join (row_exchanged signals instead c.in_ok-marked_parts-in-Join.field-0 c.in-Join.parts
     c.deref-in-Join.result.now c.deref-in-Join.ensures.value c.in_ok-marked_parts-in-Join.ensures)
     ∙ ap (exchanged_node signals instead) (ap node_tree (sym c.in-Join.is))
@@ -73,7 +73,7 @@ marked_node-returns-in_ok-marked_parts-in-Join t c =
 pub marked_node-returns-in_ok-marked_parts-in-Repeat : goal.marked_node-returns-in_ok-marked_parts-in-Repeat
 marked_node-returns-in_ok-marked_parts-in-Repeat t c =
     let signals = signal_forms c.args.signals.now in
-    let instead = mark signals true (in_scope c.args.later.now) in
+    let instead = mark signals true (in_surrounding c.args.later.now) in
     ap (replication c.in-Repeat.count)
     (row_exchanged signals instead c.in_ok-marked_parts-in-Repeat.field-0 c.in-Repeat.parts
     c.deref-in-Repeat.result.now c.deref-in-Repeat.ensures.value

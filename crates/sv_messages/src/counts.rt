@@ -10,38 +10,39 @@ use sv_flat::{FExpr, FNode, Piece, SigId, Signal};
 use sv_lattice::{Label, LabelMap, Point};
 use sv_obl::{Bodies, BodySlice};
 
-/// Paths: how many, and how many nodes are put into the one into which most are put.
+/// What is counted of paths: how many they are, and how many nodes are put into the one into which
+/// most are put.
 #[derive(Clone, Copy)]
-pub struct Paths {
+pub struct PathCounts {
     pub count: u64,
     pub nodes: u64,
 }
 
-const NONE: Paths = Paths { count: 0, nodes: 0 };
+const NONE: PathCounts = PathCounts { count: 0, nodes: 0 };
 
-impl Paths {
+impl PathCounts {
     // These and others.
-    fn with(self, others: Paths) -> Paths {
-        Paths {
+    fn with(self, others: PathCounts) -> PathCounts {
+        PathCounts {
             count: self.count.saturating_add(others.count),
             nodes: self.nodes.max(others.nodes),
         }
     }
 
     // These, with so many nodes put into each.
-    fn put(self, nodes: u64) -> Paths {
+    fn put(self, nodes: u64) -> PathCounts {
         if self.count == 0 {
             return NONE;
         }
-        Paths {
+        PathCounts {
             count: self.count,
             nodes: self.nodes.saturating_add(nodes),
         }
     }
 
     // So many in place of each.
-    fn split(self, ways: u64) -> Paths {
-        Paths {
+    fn split(self, ways: u64) -> PathCounts {
+        PathCounts {
             count: self.count.saturating_mul(ways),
             nodes: self.nodes,
         }
@@ -52,9 +53,9 @@ impl Paths {
 // part and take what stands before, and those that take nothing before.
 #[derive(Clone, Copy)]
 struct Fronts {
-    bare: Paths,
-    partial: Paths,
-    whole: Paths,
+    bare: PathCounts,
+    partial: PathCounts,
+    whole: PathCounts,
 }
 
 const NO_FRONTS: Fronts = Fronts {
@@ -64,7 +65,7 @@ const NO_FRONTS: Fronts = Fronts {
 };
 
 impl Fronts {
-    fn all(self) -> Paths {
+    fn all(self) -> PathCounts {
         self.bare.with(self.partial).with(self.whole)
     }
 
@@ -204,9 +205,9 @@ fn with_slice(slice: &BodySlice, signals: &[Signal], target: SigId, behind: Fron
 }
 
 // The paths to a target.
-fn paths_in(slice: &BodySlice, signals: &[Signal], target: SigId) -> Paths {
+fn paths_in(slice: &BodySlice, signals: &[Signal], target: SigId) -> PathCounts {
     let end = Fronts {
-        bare: Paths { count: 1, nodes: 0 },
+        bare: PathCounts { count: 1, nodes: 0 },
         partial: NONE,
         whole: NONE,
     };
@@ -220,7 +221,7 @@ fn paths_by(
     design: &Design,
     bodies: &Bodies,
     target: SigId,
-) -> Result<Option<Paths>, AllocError>
+) -> Result<Option<PathCounts>, AllocError>
     requires known { target.0 < length design.now.signals.items }
     requires bodies { AreBodiesOf (design_of design.now) bodies.now }
 {
@@ -235,7 +236,11 @@ fn paths_by(
 }
 
 /// The paths to the signal of a name, where they are known.
-pub fn paths_to(alloc: Global, design: &Design, name: &[u8]) -> Result<Option<Paths>, AllocError> {
+pub fn paths_to(
+    alloc: Global,
+    design: &Design,
+    name: &[u8],
+) -> Result<Option<PathCounts>, AllocError> {
     let bodies = Bodies::new(alloc, design)?;
     for s in 0..number_of(design) {
         if is_named(design, s, name) {

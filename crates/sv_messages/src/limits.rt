@@ -1,5 +1,5 @@
 // What is said of limits.
-use crate::counts::{Paths, obligations_of, paths_to};
+use crate::counts::{PathCounts, obligations_of, paths_to};
 use crate::designs::admitted_design;
 use crate::said::Said;
 use std::alloc::{AllocError, Global};
@@ -70,7 +70,10 @@ fn declared_at(design: &Design, name: &[u8]) -> Option<Place> {
 }
 
 // Where the signal that is named is declared, and the paths to it.
-fn signal_of(alloc: Global, case: &Case) -> Result<(Option<Place>, Option<Paths>), AllocError> {
+fn signal_of(
+    alloc: Global,
+    case: &Case,
+) -> Result<(Option<Place>, Option<PathCounts>), AllocError> {
     match admitted_design(alloc, &case.origin) {
         Some(design) => {
             let paths = paths_to(alloc, &design, case.name())?;

@@ -14,7 +14,7 @@ use Rattle.sv_flat.specs.Readings.{reads, names_signal}
 use Rattle.sv_flat.proofs.LeastSets.{from_some, some_from, range_has, holds-from_Contains}
 use Rattle.sv_flat.proofs.LeastSets.{Contains-from_holds}
 use Rattle.sv_flat.proofs.Depths.{first_of, second_of}
-use Rattle.sv_paths.specs.declared.list_lines.Mark.{Mark}
+use Rattle.sv_paths.specs.declared.list_lines.StepMark.{StepMark}
 use Rattle.sv_obl.specs.Paths.{StepForm, Path, open_path, under, path_names, is_taken}
 use Rattle.sv_obl.specs.Routes.{names_in}
 use Rattle.sv_paths.specs.Trails.{TrailForm, open_trail, own_name, wanted_signals, takes, chosen}
@@ -32,7 +32,7 @@ turned : (a b c : ℕ) → a + b + c ≡ c + a + b
 turned a b c = omega arith
 
 -- a condition as a line shows it
-abbrev pub mark_of : StepForm → Mark
+abbrev pub mark_of : StepForm → StepMark
 mark_of step = record { truth = step.truth; place = step.place }
 
 module _ (signals : List SignalForm) (s : ℕ) where

@@ -3,7 +3,7 @@ use Rattle.std.proofs.Common.{◌≡◌, ℕ, ◌+◌, List, [], ◌∷◌, ◌+
 use Rattle.std.proofs.Common.{◌∙◌, append-nil}
 use Rattle.std.specs.Prelude.{codes, decimal}
 use Rattle.sv_flat.specs.Design.{SignalForm, ProcessForm, FlatStatement}
-use Rattle.sv_paths.specs.declared.list_texts.Lines.{Lines}
+use Rattle.sv_paths.specs.declared.list_texts.NumberedLines.{NumberedLines}
 use Rattle.sv_paths.specs.Alongs.{conditions_along, trail_obligation}
 use Rattle.sv_paths.specs.ListLines.{blanked, frame_word, step_word, right_word, list_line}
 use Rattle.sv_obl.specs.SignalNames.{name_of}
@@ -25,7 +25,7 @@ module _ (signals : List SignalForm) (process : ProcessForm) (s : ℕ) (body : F
       ∷ codes "reads" ∷ map (name_of signals) trail.names.settled)
       ++ codes "\n") (sym marks)
 
-  pub trail_written : (old new : Lines)
+  pub trail_written : (old new : NumberedLines)
       → new.text.items ≡ old.text.items
       ++ trail_line signals (old.count + 1) process s trail
       → new.count ≡ old.count + 1

@@ -11,13 +11,13 @@ use Rattle.sv_flat.specs.Processes.{is_clocked, signal_numbers}
 use Rattle.sv_flat.specs.Sets.{holds, those}
 use Rattle.sv_flat.proofs.LeastSets.{those_below}
 use Rattle.sv_paths.specs.declared.faults.OblFault.{OblFault}
-use Rattle.sv_paths.specs.declared.list_texts.Lines.{Lines}
+use Rattle.sv_paths.specs.declared.list_texts.NumberedLines.{NumberedLines}
 use Rattle.sv_paths.specs.declared.routes.Route.{Route}
 use Rattle.sv_paths.specs.declared.trails.Trail.{Trail}
 use Rattle.sv_paths.specs.Answers.{Told, excess_at}
 use Rattle.sv_obl.specs.DesignQueries.{IsQueryOf}
 use Rattle.sv_paths.specs.Driven.{ArePaths, how_many, HasPaths}
-use Rattle.sv_paths.specs.declared.targets.Driven.{Driven}
+use Rattle.sv_paths.specs.declared.targets.DrivenPaths.{DrivenPaths}
 use Rattle.sv_paths.specs.declared.targets.Paths.{Paths}
 use Rattle.sv_paths.specs.declared.targets.Paths.TheVariants.{Routes, Trails}
 use Rattle.sv_flat.specs.declared.designs.Process.{Process}
@@ -87,14 +87,14 @@ module _ (signals : List SignalForm) where
       next : (n k : ℕ) → n + 1 + k ≡ n + suc k
       next n k = omega arith
 
-  pub none_written : (lines : Lines) → Writes signals [] lines lines
+  pub none_written : (lines : NumberedLines) → Writes signals [] lines lines
   none_written lines =
       record { text = sym (append-nil lines.text.items); count = plain lines.count }
     where
       plain : (n : ℕ) → n ≡ n + 0
       plain n = omega arith
 
-  pub then_written : (os ps : List Obligation) (a b c : Lines) → Writes signals os a b
+  pub then_written : (os ps : List Obligation) (a b c : NumberedLines) → Writes signals os a b
       → Writes signals ps b c → Writes signals (os ++ ps) a c
   then_written os ps a b c first second =
       let start = a.text.items in
@@ -121,14 +121,14 @@ module _ (signals : List SignalForm) where
       grouped n k m = omega arith
 
   -- one more line
-  pub one_written : (os more : List Obligation) (o : Obligation) (a b c : Lines)
+  pub one_written : (os more : List Obligation) (o : Obligation) (a b c : NumberedLines)
       → more ≡ os ++ o ∷ [] → Writes signals os a b → Writes signals (o ∷ []) b c
       → Writes signals more a c
   one_written os more o a b c is first second =
       subst (λ xs. Writes signals xs a c) (sym is) (then_written os (o ∷ []) a b c first second)
 
   -- so far there are fewer than with all
-  pub fewer : {X : Type 0} (f : X → Obligation) (xs : List X) (i most : ℕ) (a b : Lines)
+  pub fewer : {X : Type 0} (f : X → Obligation) (xs : List X) (i most : ℕ) (a b : NumberedLines)
       → i < length xs → a.count + length xs ≤ most
       → Writes signals (map f (take i xs)) a b → b.count < most
   fewer f xs i most a b inside few w =
@@ -138,7 +138,7 @@ module _ (signals : List SignalForm) where
       omega arith
 
   pub fewer_formed : {F X : Type 0} (form : X → F) (become : F → Obligation) (xs : List X)
-      (i most : ℕ) (a b : Lines) → i < length xs → a.count + length xs ≤ most
+      (i most : ℕ) (a b : NumberedLines) → i < length xs → a.count + length xs ≤ most
       → Writes signals (map become (map form (take i xs))) a b → b.count < most
   fewer_formed form become xs i most a b inside few w =
       let counted = w.count in
@@ -232,7 +232,7 @@ module _ (design : FlatDesign) where
       ∙ sym (length_mapped become (trail_forms trails.items))
       ∙ ap length are.listed
 
-  pub paths_many : (i total : ℕ) (driven : Driven) → HasPaths design i total driven
+  pub paths_many : (i total : ℕ) (driven : DrivenPaths) → HasPaths design i total driven
       → total + how_many driven.paths ≡ total + length (target_obligations [] design i)
   paths_many i total driven has =
       ap (λ n. total + n) (as_many i driven.process.now driven.paths has.are)

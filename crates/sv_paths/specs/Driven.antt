@@ -8,7 +8,7 @@ use Rattle.sv_flat.specs.Views.{process_form}
 use Rattle.sv_flat.specs.declared.designs.Process.{Process}
 use Rattle.sv_obl.specs.declared.marked.Marked.{Marked}
 use Rattle.sv_paths.specs.declared.routes.Route.{Route}
-use Rattle.sv_paths.specs.declared.targets.Driven.{Driven}
+use Rattle.sv_paths.specs.declared.targets.DrivenPaths.{DrivenPaths}
 use Rattle.sv_paths.specs.declared.targets.Paths.{Paths}
 use Rattle.sv_paths.specs.declared.targets.Paths.TheVariants.{Routes, Trails}
 use Rattle.sv_paths.specs.declared.trails.Trail.{Trail}
@@ -63,12 +63,12 @@ how_many (Routes routes) = length routes.items
 how_many (Trails body trails) = length trails.items
 
 -- the obligations of the target are those of its paths, which are few enough after so many
-pub record HasPaths (design : FlatDesign) (target total : ℕ) (driven : Driven) : Type 0 where
+pub record HasPaths (design : FlatDesign) (target total : ℕ) (driven : DrivenPaths) : Type 0 where
   pub are : ArePaths design target driven.process.now driven.paths
   pub few : total + how_many driven.paths ≤ 65536
 
 -- no process drives the target, or one does and these are its paths
-abbrev pub IsDriven : FlatDesign → (target total : ℕ) → Option Driven → Type 0
+abbrev pub IsDriven : FlatDesign → (target total : ℕ) → Option DrivenPaths → Type 0
 IsDriven design s total None = target_obligations [] design s ≡ []
 IsDriven design s total (Some driven) = HasPaths design s total driven
 

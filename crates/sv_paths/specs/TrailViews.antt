@@ -4,11 +4,11 @@ use Rattle.std.specs.Prelude.{◌≡◌, ◌<◌, ◌≤◌, List, map, length, 
 use Rattle.std.specs.Global.{Vec}
 use Rattle.sv_paths.specs.declared.faults.WalkFault.{WalkFault}
 use Rattle.sv_paths.specs.declared.faults.WalkFault.TheVariants.{TooMany, OutOfMemory}
-use Rattle.sv_paths.specs.declared.path_names.Names.{Names}
+use Rattle.sv_paths.specs.declared.path_names.PathNames.{PathNames}
 use Rattle.sv_paths.specs.declared.trails.Trail.{Trail}
 use Rattle.sv_paths.specs.Trails.{NamesForm, TrailForm}
 
-abbrev pub names_form : Names → NamesForm
+abbrev pub names_form : PathNames → NamesForm
 names_form t = record { settled = t.settled.keys; wanted = t.wanted.entries }
 
 abbrev pub trail_form : Trail → TrailForm

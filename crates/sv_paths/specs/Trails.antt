@@ -16,7 +16,7 @@ use Rattle.sv_flat.specs.Design.{SignalForm, TypedTree, typed, read, choice, hel
 use Rattle.sv_flat.specs.Design.{FlatStatement, nothing, after, assign, branch}
 use Rattle.sv_flat.specs.Soundness.{is_whole}
 use Rattle.sv_flat.specs.Assigned.{assigns}
-use Rattle.sv_paths.specs.declared.list_lines.Mark.{Mark}
+use Rattle.sv_paths.specs.declared.list_lines.StepMark.{StepMark}
 use Rattle.sv_obl.specs.Paths.{pieces_of, covers, later_place}
 use Rattle.sv_obl.specs.Routes.{names_in, first_place, with_nodes}
 
@@ -84,7 +84,7 @@ times_put names pieces = fold (with_times names) 0 pieces
 -- which is then not among the names; the nodes that were put in, up to one over the limit; and the
 -- place of the last assignment to the target.
 pub record TrailForm : Type 0 where
-  pub marks : List Mark
+  pub marks : List StepMark
   pub choices : List Bool
   pub names : NamesForm
   pub own : Option ℕ
@@ -122,7 +122,7 @@ chosen truth trail = record {
 }
 
 -- the trail with a condition before it, where there are so many signals
-abbrev pub marked_by : (count : ℕ) → Mark → (condition : TypedTree) → TrailForm → TrailForm
+abbrev pub marked_by : (count : ℕ) → StepMark → (condition : TypedTree) → TrailForm → TrailForm
 marked_by count mark condition trail = record {
   marks = trail.marks ++ mark ∷ [];
   choices = trail.choices;

@@ -101,22 +101,29 @@ fn with_piece(
     Ok(of_signal(signals, signal, node))
 }
 
+// The wanted name of a signal, where it stands.
+#[derive(Clone, Copy)]
+struct WantedName {
+    signal: SigId,
+    name: SigId,
+    place: Place,
+}
+
 // What the pieces put for a signal's wanted name.
 fn put_value(
     alloc: Global,
     signals: &[Signal],
     pieces: &[Piece],
     right: &FExpr,
-    signal: SigId,
-    wanted: SigId,
-    place: Place,
+    wanted: WantedName,
 ) -> Result<FExpr, AllocError>
     requires pieces { AreInWords (piece_forms pieces.now) }
-    requires wanted { wanted.0 ≡ length signals.now + signal.0 }
+    requires wanted { wanted.name.0 ≡ length signals.now + wanted.signal.0 }
     ensures { IfOk result (λ value. typed_tree value ≡ put_value (signal_forms signals.now)
-        (piece_forms pieces.now) (typed_tree right.now) signal.0 place) }
+        (piece_forms pieces.now) (typed_tree right.now) wanted.signal.0 wanted.place) }
 {
-    let mut value = of_signal(signals, signal, FNode::Signal(wanted, place));
+    let signal = wanted.signal;
+    let mut value = of_signal(signals, signal, FNode::Signal(wanted.name, wanted.place));
     for piece in pieces {
         value = with_piece(alloc, signals, right, signal, value, piece)?;
     }
@@ -146,20 +153,16 @@ impl<'p> Put<'p> {
         self,
         alloc: Global,
         signals: &[Signal],
-        signal: SigId,
-        wanted: SigId,
-        place: Place,
+        wanted: WantedName,
     ) -> Result<FExpr, AllocError>
         requires put { CanBePut self }
-        requires wanted { wanted.0 ≡ length signals.now + signal.0 }
+        requires wanted { wanted.name.0 ≡ length signals.now + wanted.signal.0 }
         ensures { IfOk result (λ value. typed_tree value ≡
-            value_put (signal_forms signals.now) self.entry signal.0 place) }
+            value_put (signal_forms signals.now) self.entry wanted.signal.0 wanted.place) }
     {
         match self {
-            Put::Pieces(pieces, right) => {
-                put_value(alloc, signals, pieces, right, signal, wanted, place)
-            }
-            Put::Zero => Ok(of_signal(signals, signal, FNode::Number(0))),
+            Put::Pieces(pieces, right) => put_value(alloc, signals, pieces, right, wanted),
+            Put::Zero => Ok(of_signal(signals, wanted.signal, FNode::Number(0))),
         }
     }
 
@@ -185,7 +188,12 @@ impl<'p> Put<'p> {
         if !self.has(signal) {
             return Ok(None);
         }
-        let value = self.value(alloc, signals, signal, name, place)?;
+        let wanted = WantedName {
+            signal,
+            name,
+            place,
+        };
+        let value = self.value(alloc, signals, wanted)?;
         Ok(Some(Content {
             signal,
             value: Box::new(alloc, value)?,

@@ -13,16 +13,35 @@ ghost use Rattle.sv_paths.specs.Written.{mark_word};
 
 use std::alloc::{AllocError, Global};
 use sv_design::Design;
-use sv_flat::{SigId, Signal};
+use sv_flat::{Process, SigId, Signal};
 use sv_num::Place;
 use sv_obl::{Frame, Goal, Query, Step};
 use sv_texts::push_place;
 
 /// A condition as a line shows it: whether it holds, and its place.
 #[derive(Clone, Copy, Debug)]
-pub struct Mark {
+pub struct StepMark {
     pub truth: bool,
     pub place: Place,
+}
+
+/// The obligation of a path as its line shows it: the target and its frame, the conditions, where
+/// the path ends in an assignment, and the reads.
+#[derive(Clone, Copy)]
+pub struct FlowLine<'a> {
+    pub target: SigId,
+    pub frame: Frame,
+    pub marks: &'a [StepMark],
+    pub right: Option<Place>,
+    pub reads: &'a [SigId],
+}
+
+/// A target among the signals of a design, with the process that drives it.
+#[derive(Clone, Copy)]
+pub struct DrivenTarget<'a> {
+    pub signals: &'a [Signal],
+    pub process: &'a Process,
+    pub target: SigId,
 }
 
 /// The line of an obligation of a design, with its number, as `secv list` prints it; an error where
@@ -97,25 +116,24 @@ fn push_query_path(
         (flow target.0 frame))) }
 {
     let marks = marks_of(alloc, query.path.as_slice())?;
-    push_flow(
-        line,
-        signals,
+    let flow = FlowLine {
         target,
         frame,
-        &marks,
-        query.right,
-        query.reads.as_slice(),
-    )
+        marks: &marks,
+        right: query.right,
+        reads: query.reads.as_slice(),
+    };
+    push_flow(line, signals, flow)
 }
 
 // The conditions as a line shows them.
-fn marks_of(alloc: Global, steps: &[Step]) -> Result<Vec<Mark>, AllocError>
+fn marks_of(alloc: Global, steps: &[Step]) -> Result<Vec<StepMark>, AllocError>
     ensures { IfOk result (λ marks.
         map mark_word marks.items ≡ map step_word (map step_form steps.now)) }
 {
     let mut marks = Vec::with_capacity(alloc, steps.len())?;
     for step in steps {
-        marks.push(Mark {
+        marks.push(StepMark {
             truth: step.truth,
             place: step.place,
         })?;
@@ -125,27 +143,21 @@ fn marks_of(alloc: Global, steps: &[Step]) -> Result<Vec<Mark>, AllocError>
 
 /// Adds what stands after the number in the line of a path's obligation.
 #[tactic(auto, using(crate::proofs::ListLineFacts::flow_words))]
-pub fn push_flow(
-    line: &mut Vec<u8>,
-    signals: &[Signal],
-    target: SigId,
-    frame: Frame,
-    marks: &[Mark],
-    right: Option<Place>,
-    reads: &[SigId],
-) -> Result<(), AllocError>
-    requires target { target.0 < length signals.now }
-    requires reads { All (λ s. s < length signals.now) (map number_of reads.now) }
+pub fn push_flow(line: &mut Vec<u8>, signals: &[Signal], flow: FlowLine) -> Result<(), AllocError>
+    requires target { flow.target.0 < length signals.now }
+    requires reads { All (λ s. s < length signals.now) (map number_of flow.reads.now) }
     ensures { OnOk result (line.new.items ≡ line.old.items
-        ++ blanked (name_of (signal_forms signals.now) target.0 ∷ frame_word frame
-        ∷ map mark_word marks.now ++ right_word right
-        ∷ codes "reads" ∷ map (name_of (signal_forms signals.now)) (map number_of reads.now))) }
+        ++ blanked (name_of (signal_forms signals.now) flow.entry.target.0
+        ∷ frame_word flow.entry.frame
+        ∷ map mark_word flow.entry.marks.now ++ right_word flow.entry.right
+        ∷ codes "reads" ∷ map (name_of (signal_forms signals.now))
+        (map number_of flow.entry.reads.now))) }
 {
-    push_name(line, signals, target)?;
-    push_word(line, frame_bytes(frame))?;
-    push_marks(line, marks)?;
-    push_right(line, right)?;
-    push_reads(line, signals, reads)
+    push_name(line, signals, flow.target)?;
+    push_word(line, frame_bytes(flow.frame))?;
+    push_marks(line, flow.marks)?;
+    push_right(line, flow.right)?;
+    push_reads(line, signals, flow.reads)
 }
 
 fn push_holds(line: &mut Vec<u8>, frame: Frame, right: Option<Place>) -> Result<(), AllocError>
@@ -212,7 +224,7 @@ fn push_name(line: &mut Vec<u8>, signals: &[Signal], signal: SigId) -> Result<()
     push_word(line, signals[signal.0 as usize].name.bytes())
 }
 
-fn push_mark(line: &mut Vec<u8>, mark: Mark) -> Result<(), AllocError>
+fn push_mark(line: &mut Vec<u8>, mark: StepMark) -> Result<(), AllocError>
     ensures { OnOk result (line.new.items ≡ line.old.items ++ codes " " ++ mark_word mark) }
 {
     let sign: &[u8] = if mark.truth { b"+" } else { b"-" };
@@ -221,7 +233,7 @@ fn push_mark(line: &mut Vec<u8>, mark: Mark) -> Result<(), AllocError>
     Ok(())
 }
 
-fn push_marks(line: &mut Vec<u8>, marks: &[Mark]) -> Result<(), AllocError>
+fn push_marks(line: &mut Vec<u8>, marks: &[StepMark]) -> Result<(), AllocError>
     ensures { OnOk result
         (line.new.items ≡ line.old.items ++ blanked (map mark_word marks.now)) }
 {

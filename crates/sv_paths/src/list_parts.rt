@@ -15,10 +15,10 @@ ghost use Rattle.sv_obl.specs.Obligations.{selector_obligations};
 ghost use Rattle.sv_obl.specs.Views.{obligation_of};
 
 use crate::faults::{MOST_OBLIGATIONS, OblFault};
-use crate::list_texts::{Lines, push_paths, push_queries};
+use crate::list_texts::{NumberedLines, push_paths, push_queries};
 use crate::selectors::all_selectors;
 use crate::target_paths::TargetPaths;
-use crate::targets::{Driven, driven_paths};
+use crate::targets::{DrivenPaths, driven_paths};
 use std::alloc::Global;
 use sv_design::Design;
 use sv_flat::SigId;
@@ -38,7 +38,7 @@ pub struct Listing<'b, 'a> {
 // are with those of this target.
 #[derive(Drop)]
 struct Next<'d, 'b, 'a> {
-    paths: Option<Driven<'d, 'b, 'a>>,
+    paths: Option<DrivenPaths<'d, 'b, 'a>>,
     count: u32,
 }
 
@@ -141,7 +141,7 @@ impl<'b, 'a> Listing<'b, 'a> {
         ensures stays { OnErr result (self.new ≡ self.old) }
         ensures told { IfErr result (Told (excess (design_of design.now))) }
     {
-        let mut lines = Lines::after(alloc, self.count);
+        let mut lines = NumberedLines::after(alloc, self.count);
         let next = self.next_paths(alloc, design, target)?;
         push_paths(alloc, &mut lines, design, target, &next.paths)?;
         let count = next.count;
@@ -178,7 +178,7 @@ impl<'b, 'a> Listing<'b, 'a> {
             ≡ lines_left (design_of design.now) (length design.now.signals.items)) }
         ensures excess { Answers (excess (design_of design.now)) result }
     {
-        let mut lines = Lines::after(alloc, self.count);
+        let mut lines = NumberedLines::after(alloc, self.count);
         let queries = self.selector_queries(alloc, design)?;
         push_queries(alloc, &mut lines, design.signals(), &queries)?;
         Ok(lines.text)

@@ -17,31 +17,31 @@ ghost use Rattle.sv_paths.specs.TrailViews.{trail_form, trail_forms};
 ghost use Rattle.sv_obl.specs.Views.{obligation_of, IsAmong};
 ghost use Rattle.sv_paths.specs.Written.{mark_word, Writes};
 
-use crate::list_lines::push_line;
+use crate::list_lines::{DrivenTarget, push_line};
 use crate::path_lines::push_path;
 use crate::routes::Route;
-use crate::targets::{Driven, Paths};
+use crate::targets::{DrivenPaths, Paths};
 use crate::trail_lines::push_trail;
 use crate::trails::Trail;
 use std::alloc::{AllocError, Global};
 use sv_design::Design;
-use sv_flat::{Process, SigId, Signal};
+use sv_flat::{SigId, Signal};
 use sv_obl::Query;
 
 /// Lines, and how many they are.
 #[derive(Debug, Drop)]
-pub struct Lines {
+pub struct NumberedLines {
     pub text: Vec<u8>,
     pub count: u32,
 }
 
-impl Lines {
+impl NumberedLines {
     /// No lines, behind so many.
-    pub fn after(alloc: Global, count: u32) -> Lines
+    pub fn after(alloc: Global, count: u32) -> NumberedLines
         ensures text { result.text.items ≡ [] }
         ensures count { result.count ≡ count }
     {
-        Lines {
+        NumberedLines {
             text: Vec::new(alloc),
             count,
         }
@@ -51,7 +51,7 @@ impl Lines {
 // Adds the line of an obligation.
 fn push_query(
     alloc: Global,
-    lines: &mut Lines,
+    lines: &mut NumberedLines,
     signals: &[Signal],
     query: &Query,
 ) -> Result<(), AllocError>
@@ -69,7 +69,7 @@ fn push_query(
 /// Adds those of some obligations.
 pub fn push_queries(
     alloc: Global,
-    lines: &mut Lines,
+    lines: &mut NumberedLines,
     signals: &[Signal],
     queries: &[Query],
 ) -> Result<(), AllocError>
@@ -87,30 +87,21 @@ pub fn push_queries(
 // Adds the line of a path of the target through the process.
 fn push_route(
     alloc: Global,
-    lines: &mut Lines,
-    signals: &[Signal],
-    process: &Process,
-    target: SigId,
+    lines: &mut NumberedLines,
+    driven: DrivenTarget,
     route: &Route,
 ) -> Result<(), AllocError>
-    requires known { target.0 < length signals.now }
-    requires names { All (λ t. t < length signals.now)
-        (names_on (is_clocked (process_kind process.now.kind)) target.0 (route_form route.now)) }
+    requires known { driven.target.0 < length driven.signals.now }
+    requires names { All (λ t. t < length driven.signals.now)
+        (names_on (is_clocked (process_kind driven.process.now.kind)) driven.target.0
+        (route_form route.now)) }
     requires few { lines.old.count < 65536 }
-    ensures { OnOk result (Writes (signal_forms signals.now)
-        (route_obligation (length signals.now) (process_form process.now) target.0
-        (route_form route.now) ∷ []) lines.old lines.new) }
+    ensures { OnOk result (Writes (signal_forms driven.entry.signals.now)
+        (route_obligation (length driven.entry.signals.now) (process_form driven.entry.process.now)
+        driven.entry.target.0 (route_form route.now) ∷ []) lines.old lines.new) }
 {
     let number = lines.count + 1;
-    push_path(
-        alloc,
-        &mut lines.text,
-        signals,
-        number,
-        process,
-        target,
-        route,
-    )?;
+    push_path(alloc, &mut lines.text, driven, number, route)?;
     lines.count = number;
     Ok(())
 }
@@ -118,23 +109,22 @@ fn push_route(
 // Adds those of paths of the target through the process.
 fn push_routes(
     alloc: Global,
-    lines: &mut Lines,
-    signals: &[Signal],
-    process: &Process,
-    target: SigId,
+    lines: &mut NumberedLines,
+    driven: DrivenTarget,
     routes: &[Route],
 ) -> Result<(), AllocError>
-    requires known { target.0 < length signals.now }
+    requires known { driven.target.0 < length driven.signals.now }
     requires names { (route : RouteForm) → Contains (route_forms routes.now) route
-        → All (λ t. t < length signals.now)
-        (names_on (is_clocked (process_kind process.now.kind)) target.0 route) }
+        → All (λ t. t < length driven.signals.now)
+        (names_on (is_clocked (process_kind driven.process.now.kind)) driven.target.0 route) }
     requires few { lines.old.count + length routes.now ≤ 65536 }
-    ensures { OnOk result (Writes (signal_forms signals.now)
-        (map (route_obligation (length signals.now) (process_form process.now) target.0)
-        (route_forms routes.now)) lines.old lines.new) }
+    ensures { OnOk result (Writes (signal_forms driven.entry.signals.now)
+        (map (route_obligation (length driven.entry.signals.now)
+        (process_form driven.entry.process.now)
+        driven.entry.target.0) (route_forms routes.now)) lines.old lines.new) }
 {
     for route in routes {
-        push_route(alloc, lines, signals, process, target, route)?;
+        push_route(alloc, lines, driven, route)?;
     }
     Ok(())
 }
@@ -142,33 +132,25 @@ fn push_routes(
 // Adds the line of a path through a body with earlier reads.
 fn push_trail_line(
     alloc: Global,
-    lines: &mut Lines,
-    signals: &[Signal],
-    process: &Process,
-    target: SigId,
+    lines: &mut NumberedLines,
+    driven: DrivenTarget,
     trail: &Trail,
 ) -> Result<(), AllocError>
-    requires known { target.0 < length signals.now }
-    requires names { All (λ t. t < length signals.now) trail.now.names.settled.keys }
+    requires known { driven.target.0 < length driven.signals.now }
+    requires names { All (λ t. t < length driven.signals.now) trail.now.names.settled.keys }
     requires few { lines.old.count < 65536 }
     ensures line { (body : FlatStatement)
-        → map step_word (conditions_along (signal_forms signals.now) target.0 body
+        → map step_word (conditions_along
+        (signal_forms driven.entry.signals.now) driven.entry.target.0 body
         (trail_form trail.now)) ≡ map mark_word (reverse trail.now.marks.items)
-        → OnOk result (Writes (signal_forms signals.now) (trail_obligation
-        (signal_forms signals.now) (process_form process.now) target.0 body
+        → OnOk result (Writes (signal_forms driven.entry.signals.now) (trail_obligation
+        (signal_forms driven.entry.signals.now)
+        (process_form driven.entry.process.now) driven.entry.target.0 body
         (trail_form trail.now) ∷ []) lines.old lines.new) }
     ensures count { OnOk result (lines.new.count ≡ lines.old.count + 1) }
 {
     let number = lines.count + 1;
-    push_trail(
-        alloc,
-        &mut lines.text,
-        signals,
-        number,
-        process,
-        target,
-        trail,
-    )?;
+    push_trail(alloc, &mut lines.text, driven, number, trail)?;
     lines.count = number;
     Ok(())
 }
@@ -176,25 +158,26 @@ fn push_trail_line(
 // Adds those of paths through such a body.
 fn push_trails(
     alloc: Global,
-    lines: &mut Lines,
-    signals: &[Signal],
-    process: &Process,
-    target: SigId,
+    lines: &mut NumberedLines,
+    driven: DrivenTarget,
     trails: &[Trail],
 ) -> Result<(), AllocError>
-    requires known { target.0 < length signals.now }
+    requires known { driven.target.0 < length driven.signals.now }
     requires names { (trail : TrailForm) → Contains (trail_forms trails.now) trail
-        → All (λ t. t < length signals.now) trail.names.settled }
+        → All (λ t. t < length driven.signals.now) trail.names.settled }
     requires few { lines.old.count + length trails.now ≤ 65536 }
     ensures { (body : FlatStatement) → ((trail : TrailForm)
         → Contains (trail_forms trails.now) trail
-        → map step_word (conditions_along (signal_forms signals.now) target.0 body trail)
-        ≡ map mark_word (reverse trail.marks)) → OnOk result (Writes (signal_forms signals.now)
-        (map (trail_obligation (signal_forms signals.now) (process_form process.now) target.0 body)
+        → map step_word (conditions_along
+        (signal_forms driven.entry.signals.now) driven.entry.target.0 body
+        trail) ≡ map mark_word (reverse trail.marks))
+        → OnOk result (Writes (signal_forms driven.entry.signals.now) (map (trail_obligation
+        (signal_forms driven.entry.signals.now)
+        (process_form driven.entry.process.now) driven.entry.target.0 body)
         (trail_forms trails.now)) lines.old lines.new) }
 {
     for trail in trails {
-        push_trail_line(alloc, lines, signals, process, target, trail)?;
+        push_trail_line(alloc, lines, driven, trail)?;
     }
     Ok(())
 }
@@ -202,10 +185,10 @@ fn push_trails(
 /// Adds those of a target of a design with these signals, given its paths if a process drives it.
 pub fn push_paths(
     alloc: Global,
-    lines: &mut Lines,
+    lines: &mut NumberedLines,
     design: &Design,
     target: SigId,
-    found: &Option<Driven>,
+    found: &Option<DrivenPaths>,
 ) -> Result<(), AllocError>
     requires known { target.0 < length design.now.signals.items }
     requires driven { IsDriven (design_of design.now) target.0 lines.old.count found.now }
@@ -214,14 +197,14 @@ pub fn push_paths(
 {
     match found {
         Some(driven) => {
-            let signals = design.signals();
+            let at = DrivenTarget {
+                signals: design.signals(),
+                process: driven.process,
+                target,
+            };
             match &driven.paths {
-                Paths::Routes(routes) => {
-                    push_routes(alloc, lines, signals, driven.process, target, routes)
-                }
-                Paths::Trails(_, trails) => {
-                    push_trails(alloc, lines, signals, driven.process, target, trails)
-                }
+                Paths::Routes(routes) => push_routes(alloc, lines, at, routes),
+                Paths::Trails(_, trails) => push_trails(alloc, lines, at, trails),
             }
         }
         None => Ok(()),

@@ -8,22 +8,21 @@ ghost use Rattle.sv_paths.specs.RouteObligations.{names_on, route_obligation};
 ghost use Rattle.sv_paths.specs.RouteViews.{step_ref_form, route_form};
 ghost use Rattle.sv_paths.specs.Written.{mark_word};
 
-use crate::list_lines::{Mark, push_flow, push_number};
+use crate::list_lines::{DrivenTarget, FlowLine, StepMark, push_flow, push_number};
 use crate::path_queries::{frame_of, is_clocked, place_of};
 use crate::reads::reads_of;
 use crate::routes::{Route, StepRef};
 use std::alloc::{AllocError, Global};
-use sv_flat::{Process, SigId, Signal};
 
 // The conditions as a line shows them, in textual order.
-fn marks_on(alloc: Global, refs: &[StepRef]) -> Result<Vec<Mark>, AllocError>
+fn marks_on(alloc: Global, refs: &[StepRef]) -> Result<Vec<StepMark>, AllocError>
     ensures { IfOk result (λ marks.
         map mark_word marks.items ≡ map step_word (reverse (map step_ref_form refs.now))) }
 {
     let mut marks = Vec::with_capacity(alloc, refs.len())?;
     for i in 0..refs.len() {
         let step = refs[refs.len() - 1 - i];
-        marks.push(Mark {
+        marks.push(StepMark {
             truth: step.truth,
             place: step.place,
         })?;
@@ -35,32 +34,32 @@ fn marks_on(alloc: Global, refs: &[StepRef]) -> Result<Vec<Mark>, AllocError>
 pub fn push_path(
     alloc: Global,
     text: &mut Vec<u8>,
-    signals: &[Signal],
+    driven: DrivenTarget,
     number: u32,
-    process: &Process,
-    target: SigId,
     route: &Route,
 ) -> Result<(), AllocError>
-    requires known { target.0 < length signals.now }
-    requires names { All (λ t. t < length signals.now)
-        (names_on (is_clocked (process_kind process.now.kind)) target.0 (route_form route.now)) }
+    requires known { driven.target.0 < length driven.signals.now }
+    requires names { All (λ t. t < length driven.signals.now)
+        (names_on (is_clocked (process_kind driven.process.now.kind)) driven.target.0
+        (route_form route.now)) }
     ensures { OnOk result (text.new.items ≡ text.old.items
-        ++ line_of (signal_forms signals.now) number (route_obligation (length signals.now)
-        (process_form process.now) target.0 (route_form route.now))) }
+        ++ line_of (signal_forms driven.entry.signals.now) number
+        (route_obligation (length driven.entry.signals.now) (process_form driven.entry.process.now)
+        driven.entry.target.0 (route_form route.now))) }
 {
-    let reads = reads_of(alloc, is_clocked(process.kind), target, route)?;
+    let process = driven.process;
+    let reads = reads_of(alloc, is_clocked(process.kind), driven.target, route)?;
     let marks = marks_on(alloc, &route.steps)?;
     let right = place_of(process, route.place);
-    push_number(text, number)?;
-    push_flow(
-        text,
-        signals,
-        target,
-        frame_of(process.kind),
-        &marks,
+    let flow = FlowLine {
+        target: driven.target,
+        frame: frame_of(process.kind),
+        marks: &marks,
         right,
-        &reads,
-    )?;
+        reads: &reads,
+    };
+    push_number(text, number)?;
+    push_flow(text, driven.signals, flow)?;
     text.push(b'\n')?;
     Ok(())
 }

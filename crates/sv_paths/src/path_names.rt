@@ -22,27 +22,27 @@ use sv_obl::names_of;
 /// The names on a path: the numbers of the signals that are named and not wanted, and how often
 /// each signal is wanted, up to one over the limit on nodes.
 #[derive(Debug, Drop)]
-pub struct Names {
+pub struct PathNames {
     pub settled: BTreeSet<u32>,
     pub wanted: BTreeMap<u32, u32>,
 }
 
-impl Names {
+impl PathNames {
     /// No names.
-    pub fn new(alloc: Global) -> Names
+    pub fn new(alloc: Global) -> PathNames
         ensures { names_form result ≡ no_names }
     {
-        Names {
+        PathNames {
             settled: BTreeSet::new(alloc),
             wanted: BTreeMap::new(alloc),
         }
     }
 
     /// Second names that are equal. It fails where memory runs out.
-    pub fn copy(&self) -> Result<Names, AllocError>
+    pub fn copy(&self) -> Result<PathNames, AllocError>
         ensures { IfOk result (λ copy. names_form copy ≡ names_form self.now) }
     {
-        Ok(Names {
+        Ok(PathNames {
             settled: self.settled.clone()?,
             wanted: self.wanted.clone()?,
         })

@@ -6,7 +6,7 @@ ghost use Rattle.sv_obl.specs.DesignQueries.{IsQueryOf, IsPlaced};
 ghost use Rattle.sv_paths.specs.ListParts.{ArePathsOf, obligations_on};
 ghost use Rattle.sv_obl.specs.Views.{obligation_of};
 
-use crate::targets::{Driven, query_at};
+use crate::targets::{DrivenPaths, query_at};
 use std::alloc::{AllocError, Global};
 use sv_design::Design;
 use sv_flat::SigId;
@@ -18,7 +18,7 @@ use sv_obl::Query;
 #[derive(Drop)]
 pub struct TargetPaths<'d, 'b, 'a> {
     pub target: SigId,
-    pub(crate) paths: Option<Driven<'d, 'b, 'a>>,
+    pub(crate) paths: Option<DrivenPaths<'d, 'b, 'a>>,
 }
 
 impl<'d, 'b, 'a> TargetPaths<'d, 'b, 'a> {

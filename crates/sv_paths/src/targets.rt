@@ -60,7 +60,7 @@ impl<'m, 'a> Paths<'m, 'a> {
 
 /// The paths of a target through the process that drives it.
 #[derive(Drop)]
-pub struct Driven<'d, 'm, 'a> {
+pub struct DrivenPaths<'d, 'm, 'a> {
     pub process: &'d Process,
     pub paths: Paths<'m, 'a>,
 }
@@ -150,7 +150,7 @@ pub fn driven_paths<'d, 'm, 'a>(
     bodies: &'m Bodies<'a>,
     target: SigId,
     total: usize,
-) -> Result<Option<Driven<'d, 'm, 'a>>, OblFault>
+) -> Result<Option<DrivenPaths<'d, 'm, 'a>>, OblFault>
     requires known { target.0 < length design.now.signals.items }
     requires bodies { AreBodiesOf (design_of design.now) bodies.now }
     requires few { total ≤ 65536 }
@@ -164,7 +164,7 @@ pub fn driven_paths<'d, 'm, 'a>(
             match &bodies.marked[place] {
                 Some(body) => {
                     let trails = trails_within(alloc, design.signals(), body, target, total)?;
-                    Ok(Some(Driven {
+                    Ok(Some(DrivenPaths {
                         process,
                         paths: Paths::Trails(body, trails),
                     }))
@@ -172,7 +172,7 @@ pub fn driven_paths<'d, 'm, 'a>(
                 None => {
                     let indexed = &bodies.indexed[place];
                     let routes = paths_within(alloc, design.signals(), indexed, target, total)?;
-                    Ok(Some(Driven {
+                    Ok(Some(DrivenPaths {
                         process,
                         paths: Paths::Routes(routes),
                     }))
@@ -188,7 +188,7 @@ pub fn query_at(
     alloc: Global,
     signals: &[Signal],
     target: SigId,
-    driven: &Driven,
+    driven: &DrivenPaths,
     place: usize,
 ) -> Result<Query, AllocError>
     requires known { target.0 < length signals.now }

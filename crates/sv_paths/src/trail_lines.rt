@@ -6,15 +6,14 @@ ghost use Rattle.sv_paths.specs.TrailLines.{trail_line};
 ghost use Rattle.sv_paths.specs.TrailViews.{trail_form};
 ghost use Rattle.sv_paths.specs.Written.{mark_word};
 
-use crate::list_lines::{Mark, push_flow, push_number};
+use crate::list_lines::{DrivenTarget, FlowLine, StepMark, push_flow, push_number};
 use crate::path_queries::{frame_of, place_of};
 use crate::reads::signals_of;
 use crate::trails::Trail;
 use std::alloc::{AllocError, Global};
-use sv_flat::{Process, SigId, Signal};
 
 // The conditions in textual order.
-fn marks_on(alloc: Global, marks: &[Mark]) -> Result<Vec<Mark>, AllocError>
+fn marks_on(alloc: Global, marks: &[StepMark]) -> Result<Vec<StepMark>, AllocError>
     ensures { IfOk result (λ turned.
         map mark_word turned.items ≡ map mark_word (reverse marks.now)) }
 {
@@ -29,31 +28,30 @@ fn marks_on(alloc: Global, marks: &[Mark]) -> Result<Vec<Mark>, AllocError>
 pub fn push_trail(
     alloc: Global,
     text: &mut Vec<u8>,
-    signals: &[Signal],
+    driven: DrivenTarget,
     number: u32,
-    process: &Process,
-    target: SigId,
     trail: &Trail,
 ) -> Result<(), AllocError>
-    requires known { target.0 < length signals.now }
-    requires names { All (λ t. t < length signals.now) trail.now.names.settled.keys }
+    requires known { driven.target.0 < length driven.signals.now }
+    requires names { All (λ t. t < length driven.signals.now) trail.now.names.settled.keys }
     ensures { OnOk result (text.new.items ≡ text.old.items
-        ++ trail_line (signal_forms signals.now) number (process_form process.now) target.0
-        (trail_form trail.now)) }
+        ++ trail_line (signal_forms driven.entry.signals.now) number
+        (process_form driven.entry.process.now)
+        driven.entry.target.0 (trail_form trail.now)) }
 {
+    let process = driven.process;
     let reads = signals_of(alloc, &trail.names.settled)?;
     let marks = marks_on(alloc, &trail.marks)?;
     let right = place_of(process, trail.place);
-    push_number(text, number)?;
-    push_flow(
-        text,
-        signals,
-        target,
-        frame_of(process.kind),
-        &marks,
+    let flow = FlowLine {
+        target: driven.target,
+        frame: frame_of(process.kind),
+        marks: &marks,
         right,
-        &reads,
-    )?;
+        reads: &reads,
+    };
+    push_number(text, number)?;
+    push_flow(text, driven.signals, flow)?;
     text.push(b'\n')?;
     Ok(())
 }

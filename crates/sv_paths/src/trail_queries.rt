@@ -12,21 +12,22 @@ ghost use Rattle.sv_obl.specs.MarkedBodies.{marked_statement, TellsTargets};
 ghost use Rattle.sv_obl.specs.Paths.{step_with};
 ghost use Rattle.sv_paths.specs.PutIn.{put_for, CanBePut, AreInWords, HasWords};
 ghost use Rattle.sv_obl.specs.Views.{piece_forms};
+ghost use Rattle.sv_paths.specs.RouteViews.{step_ref_form};
 ghost use Rattle.sv_paths.specs.TrailViews.{trail_form};
 ghost use Rattle.sv_obl.specs.Views.{step_form, obligation_of};
 ghost use Rattle.sv_obl.specs.Wanted.{with_copies, closed_tree};
 
 use crate::conditions::Condition;
 use crate::exchange::{Put, with_put};
-use crate::list_lines::Mark;
+use crate::list_lines::StepMark;
 use crate::path_queries::{frame_of, place_of};
 use crate::reads::signals_of;
-use crate::trail_walks::is_taken;
+use crate::routes::StepRef;
+use crate::trail_walks::{Splice, TrailWalk, is_taken};
 use crate::trails::Trail;
 use std::alloc::{AllocError, Global};
 use std::mem;
 use sv_flat::{FExpr, FNode, Piece, Process, SigId, Signal};
-use sv_num::Place;
 use sv_obl::{Goal, Marked, Query, Step};
 
 // A path on the way: what it wants, and its conditions, the last in the text first.
@@ -55,28 +56,21 @@ impl<'c> Making<'c> {
     }
 
     // Adds a condition.
-    fn add(
-        &mut self,
-        alloc: Global,
-        count: u32,
-        place: Place,
-        cond: &FExpr,
-        truth: bool,
-    ) -> Result<(), AllocError>
-        ensures { OnOk result (way_form self.new ≡ with_step count (record {
-          place = place;
-          condition = typed_tree cond.now;
-          truth = truth;
-        }) (way_form self.old)) }
+    fn add(&mut self, alloc: Global, count: u32, step: StepRef) -> Result<(), AllocError>
+        ensures { OnOk result (way_form self.new
+            ≡ with_step count (step_ref_form step.entry) (way_form self.old)) }
     {
-        self.trail
-            .add_mark(alloc, count, Mark { truth, place }, cond)?;
-        let step = Step {
-            place,
-            cond: cond.copy(alloc)?,
-            truth,
+        let mark = StepMark {
+            truth: step.truth,
+            place: step.place,
         };
-        self.conditions.push(Condition::new(alloc, count, step)?)?;
+        self.trail.add_mark(alloc, count, mark, step.cond)?;
+        let copy = Step {
+            place: step.place,
+            cond: step.cond.copy(alloc)?,
+            truth: step.truth,
+        };
+        self.conditions.push(Condition::new(alloc, count, copy)?)?;
         Ok(())
     }
 }
@@ -103,25 +97,21 @@ fn put_in_conditions(
 
 // Takes the way of a right side that was taken for the result's own name.
 #[cycle(along_ways)]
-fn along_ways<'c>(
-    right: &FExpr,
-    alloc: Global,
-    count: u32,
-    from: u8,
-    making: &mut Making<'c>,
-) -> Result<(), AllocError>
+fn along_ways<'c>(right: &FExpr, splice: Splice, making: &mut Making<'c>) -> Result<(), AllocError>
     ensures { OnOk result (way_form making.new
-        ≡ along_ways count from (typed_tree right.now) (way_form making.old)) }
+        ≡ along_ways splice.count splice.from (typed_tree right.now) (way_form making.old)) }
 {
     match &right.node {
         FNode::Choice(place, cond, yes, no) => {
             if making.choose() {
-                along_way(yes, true, *place, cond, alloc, count, from, making)
+                along_way(yes, StepRef::new(*place, cond, true), splice, making)
             } else {
-                along_way(no, false, *place, cond, alloc, count, from, making)
+                along_way(no, StepRef::new(*place, cond, false), splice, making)
             }
         }
-        _ => making.trail.put_value(alloc, count, from, right),
+        _ => making
+            .trail
+            .put_value(splice.alloc, splice.count, splice.from, right),
     }
 }
 
@@ -129,50 +119,45 @@ fn along_ways<'c>(
 #[cycle(along_ways)]
 fn along_way<'c>(
     right: &FExpr,
-    truth: bool,
-    place: Place,
-    cond: &FExpr,
-    alloc: Global,
-    count: u32,
-    from: u8,
+    step: StepRef,
+    splice: Splice,
     making: &mut Making<'c>,
 ) -> Result<(), AllocError>
-    ensures { OnOk result (way_form making.new ≡ with_step count (record {
-      place = place;
-      condition = typed_tree cond.now;
-      truth = truth;
-    }) (along_ways count from (typed_tree right.now) (way_form making.old))) }
+    ensures { OnOk result (way_form making.new ≡ with_step splice.count (step_ref_form step.entry)
+        (along_ways splice.count splice.from (typed_tree right.now) (way_form making.old))) }
 {
-    along_ways(right, alloc, count, from, making)?;
-    making.add(alloc, count, place, cond, truth)
+    along_ways(right, splice, making)?;
+    making.add(splice.alloc, splice.count, step)
 }
 
 // Takes an assignment that is wanted.
 fn along_assign<'c>(
-    alloc: Global,
-    signals: &[Signal],
-    target: SigId,
+    walk: TrailWalk,
     pieces: &[Piece],
     right: &FExpr,
     making: &mut Making<'c>,
 ) -> Result<(), AllocError>
-    requires known { target.0 < length signals.now }
-    requires few { length signals.now < 4294967296 }
+    requires known { walk.target.0 < length walk.signals.now }
+    requires few { length walk.signals.now < 4294967296 }
     requires words { AreInWords (piece_forms pieces.now) }
-    ensures { OnOk result (way_form making.new ≡ along_assign (signal_forms signals.now) target.0
-        (piece_forms pieces.now) (typed_tree right.now) (way_form making.old)) }
+    ensures { OnOk result (way_form making.new
+        ≡ along_assign (signal_forms walk.entry.signals.now) walk.entry.target.0
+        (piece_forms pieces.now)
+        (typed_tree right.now) (way_form making.old)) }
 {
+    let alloc = walk.alloc;
+    let signals = walk.signals;
     let count = signals.len() as u32;
     let times = making.trail.own_pieces(pieces);
     let whole = making.trail.whole_from(signals, pieces);
     making
         .trail
-        .put_right(alloc, signals, target, pieces, right)?;
+        .put_right(alloc, signals, walk.target, pieces, right)?;
     let conditions = mem::replace(&mut making.conditions, Vec::new(alloc));
     let put = Put::Pieces(pieces, right);
     making.conditions = put_in_conditions(alloc, signals, conditions, put)?;
     match whole {
-        Some(from) => along_ways(right, alloc, count, from, making),
+        Some(from) => along_ways(right, Splice { alloc, count, from }, making),
         None => along_rest(alloc, count, times, right, making),
     }
 }
@@ -196,31 +181,23 @@ fn along_rest<'c>(
 
 // Takes a statement before the path.
 #[cycle(along)]
-fn along<'c>(
-    stmt: &Marked,
-    alloc: Global,
-    signals: &[Signal],
-    target: SigId,
-    making: &mut Making<'c>,
-) -> Result<(), AllocError>
-    requires known { target.0 < length signals.now }
-    requires few { length signals.now < 4294967296 }
+fn along<'c>(stmt: &Marked, walk: TrailWalk, making: &mut Making<'c>) -> Result<(), AllocError>
+    requires known { walk.target.0 < length walk.signals.now }
+    requires few { length walk.signals.now < 4294967296 }
     requires tells { TellsTargets stmt.now }
     requires words { HasWords (marked_statement stmt.now) }
-    ensures { OnOk result (way_form making.new ≡ along (signal_forms signals.now) target.0
-        (marked_statement stmt.now) (way_form making.old)) }
+    ensures { OnOk result (way_form making.new ≡ along (signal_forms walk.entry.signals.now)
+        walk.entry.target.0 (marked_statement stmt.now) (way_form making.old)) }
 {
     if !is_taken(stmt, &making.trail) {
         return Ok(());
     }
     match stmt {
         Marked::Nothing => Ok(()),
-        Marked::Assign { pieces, right, .. } => {
-            along_assign(alloc, signals, target, *pieces, right, making)
-        }
+        Marked::Assign { pieces, right, .. } => along_assign(walk, *pieces, right, making),
         Marked::Chain { first, second, .. } => {
-            along(second, alloc, signals, target, making)?;
-            along(first, alloc, signals, target, making)
+            along(second, walk, making)?;
+            along(first, walk, making)
         }
         Marked::Branch {
             place,
@@ -230,9 +207,9 @@ fn along<'c>(
             ..
         } => {
             if making.choose() {
-                along_arm(yes, true, *place, cond, alloc, signals, target, making)
+                along_arm(yes, StepRef::new(*place, cond, true), walk, making)
             } else {
-                along_arm(no, false, *place, cond, alloc, signals, target, making)
+                along_arm(no, StepRef::new(*place, cond, false), walk, making)
             }
         }
     }
@@ -242,27 +219,21 @@ fn along<'c>(
 #[cycle(along)]
 fn along_arm<'c>(
     stmt: &Marked,
-    truth: bool,
-    place: Place,
-    cond: &FExpr,
-    alloc: Global,
-    signals: &[Signal],
-    target: SigId,
+    step: StepRef,
+    walk: TrailWalk,
     making: &mut Making<'c>,
 ) -> Result<(), AllocError>
-    requires known { target.0 < length signals.now }
-    requires few { length signals.now < 4294967296 }
+    requires known { walk.target.0 < length walk.signals.now }
+    requires few { length walk.signals.now < 4294967296 }
     requires tells { TellsTargets stmt.now }
     requires words { HasWords (marked_statement stmt.now) }
-    ensures { OnOk result (way_form making.new ≡ with_step (length signals.now) (record {
-      place = place;
-      condition = typed_tree cond.now;
-      truth = truth;
-    }) (along (signal_forms signals.now) target.0 (marked_statement stmt.now)
+    ensures { OnOk result (way_form making.new
+        ≡ with_step (length walk.entry.signals.now) (step_ref_form step.entry)
+        (along (signal_forms walk.entry.signals.now) walk.entry.target.0 (marked_statement stmt.now)
         (way_form making.old))) }
 {
-    along(stmt, alloc, signals, target, making)?;
-    making.add(alloc, signals.len() as u32, place, cond, truth)
+    along(stmt, walk, making)?;
+    making.add(walk.alloc, walk.signals.len() as u32, step)
 }
 
 // The conditions in textual order, at the beginning of the process; an error where one nests too
@@ -291,28 +262,23 @@ fn closed(
 }
 
 // The conditions of the path, in textual order.
-fn steps_along(
-    alloc: Global,
-    signals: &[Signal],
-    target: SigId,
-    body: &Marked,
-    trail: &Trail,
-) -> Result<Vec<Step>, AllocError>
-    requires known { target.0 < length signals.now }
-    requires few { length signals.now < 4294967296 }
+fn steps_along(walk: TrailWalk, body: &Marked, trail: &Trail) -> Result<Vec<Step>, AllocError>
+    requires known { walk.target.0 < length walk.signals.now }
+    requires few { length walk.signals.now < 4294967296 }
     requires tells { TellsTargets body.now }
     requires words { HasWords (marked_statement body.now) }
     ensures { IfOk result (λ steps. map step_form steps.items ≡ conditions_along
-        (signal_forms signals.now) target.0 (marked_statement body.now) (trail_form trail.now)) }
+        (signal_forms walk.entry.signals.now) walk.entry.target.0 (marked_statement body.now)
+        (trail_form trail.now)) }
 {
     let mut making = Making {
-        trail: Trail::open(alloc, target),
-        conditions: Vec::new(alloc),
+        trail: Trail::open(walk.alloc, walk.target),
+        conditions: Vec::new(walk.alloc),
         choices: trail.choices.as_slice(),
         next: 0,
     };
-    along(body, alloc, signals, target, &mut making)?;
-    closed(alloc, signals, making.conditions)
+    along(body, walk, &mut making)?;
+    closed(walk.alloc, walk.signals, making.conditions)
 }
 
 /// The obligation of a path of the target through the process; an error where memory runs out.
@@ -332,7 +298,12 @@ pub fn trail_query(
         (signal_forms signals.now) (process_form process.now) target.0
         (marked_statement body.now) (trail_form trail.now)) }
 {
-    let path = steps_along(alloc, signals, target, body, trail)?;
+    let walk = TrailWalk {
+        alloc,
+        signals,
+        target,
+    };
+    let path = steps_along(walk, body, trail)?;
     let reads = signals_of(alloc, &trail.names.settled)?;
     Ok(Query {
         facts: Vec::new(alloc),

@@ -1,6 +1,6 @@
 // The walk through a body with earlier reads, from its last statement back.
 ghost use Rattle.std.specs.Prelude.{◌≡◌, ◌<◌, ◌≤◌, ◌^◌, ◌∷◌, [], ◌++◌, length, map, flat_map, take};
-ghost use Rattle.std.specs.Prelude.{drop, None, true, OnOk};
+ghost use Rattle.std.specs.Prelude.{drop, None, OnOk};
 ghost use Rattle.sv_flat.specs.ByNumber.{signal_forms};
 ghost use Rattle.sv_flat.specs.Views.{typed_tree};
 ghost use Rattle.sv_obl.specs.MarkedBodies.{marked_statement, TellsTargets};
@@ -10,12 +10,29 @@ ghost use Rattle.sv_paths.specs.Trails.{with_own_put, with_assign, trails_before
 ghost use Rattle.sv_paths.specs.TrailViews.{trail_form, trail_forms, WalksTrails, AddsTrails};
 
 use crate::faults::{MOST_PATHS, WalkFault};
-use crate::list_lines::Mark;
+use crate::list_lines::StepMark;
+use crate::routes::StepRef;
 use crate::trails::Trail;
 use std::alloc::{AllocError, Global};
 use sv_flat::{FExpr, FNode, Piece, SigId, Signal};
-use sv_num::Place;
 use sv_obl::Marked;
+
+/// A walk back through a body for a target, among the signals of a design.
+#[derive(Clone, Copy)]
+pub struct TrailWalk<'a> {
+    pub alloc: Global,
+    pub signals: &'a [Signal],
+    pub target: SigId,
+}
+
+/// How a value is put for the result's own name: from one of its bits on, where there are so many
+/// signals.
+#[derive(Clone, Copy)]
+pub struct Splice {
+    pub alloc: Global,
+    pub count: u32,
+    pub from: u8,
+}
 
 // Adds a trail, where they stay few enough.
 #[tactic(auto, using(crate::proofs::TrailFacts::one_too_many))]
@@ -37,7 +54,7 @@ fn put_behind(
     all: &mut Vec<Trail>,
     start: usize,
     count: u32,
-    mark: Mark,
+    mark: StepMark,
     cond: &FExpr,
 ) -> Result<(), AllocError>
     requires { start ≤ length all.old.items }
@@ -58,24 +75,32 @@ fn put_behind(
 #[cycle(trail_ways)]
 fn put_ways(
     right: &FExpr,
-    alloc: Global,
-    count: u32,
-    from: u8,
+    splice: Splice,
     trail: &mut Trail,
     others: &mut Vec<Trail>,
 ) -> Result<(), WalkFault>
-    ensures adds { AddsTrails (trail_forms others.old.items
-        ++ with_own_ways count from (typed_tree right.now) (trail_form trail.old))
+    ensures adds { AddsTrails (trail_forms others.old.items ++ with_own_ways
+        splice.count splice.from (typed_tree right.now) (trail_form trail.old))
         (trail_forms others.new.items ++ trail_form trail.new ∷ []) result }
     ensures few { length others.old.items ≤ 4096 → OnOk result (length others.new.items ≤ 4096) }
 {
     match &right.node {
         FNode::Choice(place, cond, yes, no) => {
-            put_copied(yes, *place, cond, alloc, count, from, trail, others)?;
-            put_way(no, false, *place, cond, alloc, count, from, trail, others)
+            let taken = StepRef {
+                place: *place,
+                cond,
+                truth: true,
+            };
+            let passed = StepRef {
+                place: *place,
+                cond,
+                truth: false,
+            };
+            put_copied(yes, taken, splice, trail, others)?;
+            put_way(no, passed, splice, trail, others)
         }
         _ => {
-            trail.put_value(alloc, count, from, right)?;
+            trail.put_value(splice.alloc, splice.count, splice.from, right)?;
             Ok(())
         }
     }
@@ -85,49 +110,55 @@ fn put_ways(
 #[cycle(trail_ways)]
 fn put_way(
     right: &FExpr,
-    truth: bool,
-    place: Place,
-    cond: &FExpr,
-    alloc: Global,
-    count: u32,
-    from: u8,
+    step: StepRef,
+    splice: Splice,
     trail: &mut Trail,
     others: &mut Vec<Trail>,
 ) -> Result<(), WalkFault>
     ensures adds { AddsTrails (trail_forms others.old.items
-        ++ map (marked_by count (record { truth = truth; place = place }) (typed_tree cond.now))
-        (with_own_ways count from (typed_tree right.now) (chosen truth (trail_form trail.old))))
+        ++ map (marked_by splice.count (record {
+          truth = step.entry.truth;
+          place = step.entry.place;
+        })
+        (typed_tree step.entry.cond.now)) (with_own_ways splice.count splice.from
+        (typed_tree right.now)
+        (chosen step.entry.truth (trail_form trail.old))))
         (trail_forms others.new.items ++ trail_form trail.new ∷ []) result }
     ensures few { length others.old.items ≤ 4096 → OnOk result (length others.new.items ≤ 4096) }
 {
+    let mark = StepMark {
+        truth: step.truth,
+        place: step.place,
+    };
     let start = others.len();
-    trail.choose(truth)?;
-    put_ways(right, alloc, count, from, trail, others)?;
-    put_behind(alloc, others, start, count, Mark { truth, place }, cond)?;
-    trail.add_mark(alloc, count, Mark { truth, place }, cond)?;
+    trail.choose(step.truth)?;
+    put_ways(right, splice, trail, others)?;
+    put_behind(splice.alloc, others, start, splice.count, mark, step.cond)?;
+    trail.add_mark(splice.alloc, splice.count, mark, step.cond)?;
     Ok(())
 }
 
-// Adds those of the first way of a choice, of a copy of the trail.
+// Adds those of one way of a choice, of a copy of the trail.
 #[cycle(trail_ways)]
 fn put_copied(
     right: &FExpr,
-    place: Place,
-    cond: &FExpr,
-    alloc: Global,
-    count: u32,
-    from: u8,
+    step: StepRef,
+    splice: Splice,
     trail: &Trail,
     all: &mut Vec<Trail>,
 ) -> Result<(), WalkFault>
     ensures adds { AddsTrails (trail_forms all.old.items
-        ++ map (marked_by count (record { truth = true; place = place }) (typed_tree cond.now))
-        (with_own_ways count from (typed_tree right.now) (chosen true (trail_form trail.now))))
-        (trail_forms all.new.items) result }
+        ++ map (marked_by splice.count (record {
+          truth = step.entry.truth;
+          place = step.entry.place;
+        })
+        (typed_tree step.entry.cond.now)) (with_own_ways splice.count splice.from
+        (typed_tree right.now)
+        (chosen step.entry.truth (trail_form trail.now)))) (trail_forms all.new.items) result }
     ensures few { length all.old.items ≤ 4096 → OnOk result (length all.new.items ≤ 4096) }
 {
-    let mut copy = trail.copy(alloc)?;
-    put_way(right, true, place, cond, alloc, count, from, &mut copy, all)?;
+    let mut copy = trail.copy(splice.alloc)?;
+    put_way(right, step, splice, &mut copy, all)?;
     add(copy, all)
 }
 
@@ -151,28 +182,27 @@ fn put_rest(
 // Takes the trail through an assignment that is taken. Of the trails that come of it the last is
 // left in its place, and the others are added.
 fn put_assign(
-    alloc: Global,
-    signals: &[Signal],
-    target: SigId,
+    walk: TrailWalk,
     pieces: &[Piece],
     right: &FExpr,
     trail: &mut Trail,
     others: &mut Vec<Trail>,
 ) -> Result<(), WalkFault>
-    requires known { target.0 < length signals.now }
-    requires counted { length signals.now < 2 ^ 32 }
+    requires known { walk.target.0 < length walk.signals.now }
+    requires counted { length walk.signals.now < 2 ^ 32 }
     ensures adds { AddsTrails (trail_forms others.old.items ++ with_assign
-        (signal_forms signals.now) target.0 (piece_forms pieces.now) (typed_tree right.now)
-        (trail_form trail.old)) (trail_forms others.new.items ++ trail_form trail.new ∷ [])
-        result }
+        (signal_forms walk.entry.signals.now) walk.entry.target.0 (piece_forms pieces.now)
+        (typed_tree right.now) (trail_form trail.old))
+        (trail_forms others.new.items ++ trail_form trail.new ∷ []) result }
     ensures few { length others.old.items ≤ 4096 → OnOk result (length others.new.items ≤ 4096) }
 {
-    let count = signals.len() as u32;
+    let alloc = walk.alloc;
+    let count = walk.signals.len() as u32;
     let times = trail.own_pieces(pieces);
-    let whole = trail.whole_from(signals, pieces);
-    trail.put_right(alloc, signals, target, pieces, right)?;
+    let whole = trail.whole_from(walk.signals, pieces);
+    trail.put_right(alloc, walk.signals, walk.target, pieces, right)?;
     match whole {
-        Some(from) => put_ways(right, alloc, count, from, trail, others),
+        Some(from) => put_ways(right, Splice { alloc, count, from }, trail, others),
         None => {
             put_rest(alloc, count, times, right, trail)?;
             Ok(())
@@ -199,18 +229,16 @@ pub fn is_taken(stmt: &Marked, trail: &Trail) -> bool
 #[cycle(trail_before)]
 fn before(
     stmt: &Marked,
-    alloc: Global,
-    signals: &[Signal],
-    target: SigId,
+    walk: TrailWalk,
     trail: &mut Trail,
     others: &mut Vec<Trail>,
 ) -> Result<(), WalkFault>
-    requires known { target.0 < length signals.now }
-    requires counted { length signals.now < 2 ^ 32 }
+    requires known { walk.target.0 < length walk.signals.now }
+    requires counted { length walk.signals.now < 2 ^ 32 }
     requires tells { TellsTargets stmt.now }
     ensures adds { AddsTrails (trail_forms others.old.items ++ trails_before
-        (signal_forms signals.now) target.0 (marked_statement stmt.now) (trail_form trail.old))
-        (trail_forms others.new.items ++ trail_form trail.new ∷ []) result }
+        (signal_forms walk.entry.signals.now) walk.entry.target.0 (marked_statement stmt.now)
+        (trail_form trail.old)) (trail_forms others.new.items ++ trail_form trail.new ∷ []) result }
     ensures few { length others.old.items ≤ 4096 → OnOk result (length others.new.items ≤ 4096) }
 {
     if !is_taken(stmt, trail) {
@@ -218,14 +246,12 @@ fn before(
     }
     match stmt {
         Marked::Nothing => Ok(()),
-        Marked::Assign { pieces, right, .. } => {
-            put_assign(alloc, signals, target, *pieces, right, trail, others)
-        }
+        Marked::Assign { pieces, right, .. } => put_assign(walk, *pieces, right, trail, others),
         Marked::Chain { first, second, .. } => {
-            let mut between = Vec::new(alloc);
-            before(second, alloc, signals, target, trail, &mut between)?;
-            before_each(first, alloc, signals, target, between, others)?;
-            before(first, alloc, signals, target, trail, others)
+            let mut between = Vec::new(walk.alloc);
+            before(second, walk, trail, &mut between)?;
+            before_each(first, walk, between, others)?;
+            before(first, walk, trail, others)
         }
         Marked::Branch {
             place,
@@ -234,10 +260,18 @@ fn before(
             no,
             ..
         } => {
-            before_copied(yes, *place, cond, alloc, signals, target, trail, others)?;
-            before_arm(
-                no, false, *place, cond, alloc, signals, target, trail, others,
-            )
+            let taken = StepRef {
+                place: *place,
+                cond,
+                truth: true,
+            };
+            let passed = StepRef {
+                place: *place,
+                cond,
+                truth: false,
+            };
+            before_copied(yes, taken, walk, trail, others)?;
+            before_arm(no, passed, walk, trail, others)
         }
     }
 }
@@ -246,61 +280,60 @@ fn before(
 #[cycle(trail_before)]
 fn before_arm(
     stmt: &Marked,
-    truth: bool,
-    place: Place,
-    cond: &FExpr,
-    alloc: Global,
-    signals: &[Signal],
-    target: SigId,
+    step: StepRef,
+    walk: TrailWalk,
     trail: &mut Trail,
     others: &mut Vec<Trail>,
 ) -> Result<(), WalkFault>
-    requires known { target.0 < length signals.now }
-    requires counted { length signals.now < 2 ^ 32 }
+    requires known { walk.target.0 < length walk.signals.now }
+    requires counted { length walk.signals.now < 2 ^ 32 }
     requires tells { TellsTargets stmt.now }
     ensures adds { AddsTrails (trail_forms others.old.items
-        ++ map (marked_by (length (signal_forms signals.now))
-        (record { truth = truth; place = place }) (typed_tree cond.now))
-        (trails_before (signal_forms signals.now) target.0 (marked_statement stmt.now)
-        (chosen truth (trail_form trail.old))))
+        ++ map (marked_by (length (signal_forms walk.entry.signals.now))
+        (record { truth = step.entry.truth; place = step.entry.place })
+        (typed_tree step.entry.cond.now))
+        (trails_before (signal_forms walk.entry.signals.now) walk.entry.target.0
+        (marked_statement stmt.now)
+        (chosen step.entry.truth (trail_form trail.old))))
         (trail_forms others.new.items ++ trail_form trail.new ∷ []) result }
     ensures few { length others.old.items ≤ 4096 → OnOk result (length others.new.items ≤ 4096) }
 {
+    let mark = StepMark {
+        truth: step.truth,
+        place: step.place,
+    };
     let start = others.len();
-    trail.choose(truth)?;
-    before(stmt, alloc, signals, target, trail, others)?;
-    let count = signals.len() as u32;
-    put_behind(alloc, others, start, count, Mark { truth, place }, cond)?;
-    trail.add_mark(alloc, count, Mark { truth, place }, cond)?;
+    trail.choose(step.truth)?;
+    before(stmt, walk, trail, others)?;
+    let count = walk.signals.len() as u32;
+    put_behind(walk.alloc, others, start, count, mark, step.cond)?;
+    trail.add_mark(walk.alloc, count, mark, step.cond)?;
     Ok(())
 }
 
-// Adds those of the first arm of a branch, of a copy of the trail.
+// Adds those of one arm of a branch, of a copy of the trail.
 #[cycle(trail_before)]
 fn before_copied(
     stmt: &Marked,
-    place: Place,
-    cond: &FExpr,
-    alloc: Global,
-    signals: &[Signal],
-    target: SigId,
+    step: StepRef,
+    walk: TrailWalk,
     trail: &Trail,
     all: &mut Vec<Trail>,
 ) -> Result<(), WalkFault>
-    requires known { target.0 < length signals.now }
-    requires counted { length signals.now < 2 ^ 32 }
+    requires known { walk.target.0 < length walk.signals.now }
+    requires counted { length walk.signals.now < 2 ^ 32 }
     requires tells { TellsTargets stmt.now }
     ensures adds { AddsTrails (trail_forms all.old.items
-        ++ map (marked_by (length (signal_forms signals.now))
-        (record { truth = true; place = place }) (typed_tree cond.now))
-        (trails_before (signal_forms signals.now) target.0 (marked_statement stmt.now)
-        (chosen true (trail_form trail.now)))) (trail_forms all.new.items) result }
+        ++ map (marked_by (length (signal_forms walk.entry.signals.now))
+        (record { truth = step.entry.truth; place = step.entry.place })
+        (typed_tree step.entry.cond.now))
+        (trails_before (signal_forms walk.entry.signals.now) walk.entry.target.0
+        (marked_statement stmt.now)
+        (chosen step.entry.truth (trail_form trail.now)))) (trail_forms all.new.items) result }
     ensures few { length all.old.items ≤ 4096 → OnOk result (length all.new.items ≤ 4096) }
 {
-    let mut copy = trail.copy(alloc)?;
-    before_arm(
-        stmt, true, place, cond, alloc, signals, target, &mut copy, all,
-    )?;
+    let mut copy = trail.copy(walk.alloc)?;
+    before_arm(stmt, step, walk, &mut copy, all)?;
     add(copy, all)
 }
 
@@ -308,23 +341,22 @@ fn before_copied(
 #[cycle(trail_before)]
 fn before_each(
     stmt: &Marked,
-    alloc: Global,
-    signals: &[Signal],
-    target: SigId,
+    walk: TrailWalk,
     trails: Vec<Trail>,
     all: &mut Vec<Trail>,
 ) -> Result<(), WalkFault>
-    requires known { target.0 < length signals.now }
-    requires counted { length signals.now < 2 ^ 32 }
+    requires known { walk.target.0 < length walk.signals.now }
+    requires counted { length walk.signals.now < 2 ^ 32 }
     requires tells { TellsTargets stmt.now }
     ensures adds { AddsTrails (trail_forms all.old.items
-        ++ flat_map (trails_before (signal_forms signals.now) target.0 (marked_statement stmt.now))
-        (trail_forms trails.items)) (trail_forms all.new.items) result }
+        ++ flat_map (trails_before (signal_forms walk.entry.signals.now) walk.entry.target.0
+        (marked_statement stmt.now)) (trail_forms trails.items))
+        (trail_forms all.new.items) result }
     ensures few { length all.old.items ≤ 4096 → OnOk result (length all.new.items ≤ 4096) }
 {
     for trail in trails {
         let mut taken = trail;
-        before(stmt, alloc, signals, target, &mut taken, all)?;
+        before(stmt, walk, &mut taken, all)?;
         add(taken, all)?;
     }
     Ok(())
@@ -348,7 +380,12 @@ pub fn trails_of(
     }
     let mut trails = Vec::new(alloc);
     let mut open = Trail::open(alloc, target);
-    before(body, alloc, signals, target, &mut open, &mut trails)?;
+    let walk = TrailWalk {
+        alloc,
+        signals,
+        target,
+    };
+    before(body, walk, &mut open, &mut trails)?;
     add(open, &mut trails)?;
     Ok(trails)
 }

@@ -14,9 +14,9 @@ ghost use Rattle.sv_paths.specs.Trails.{with_parts, wanted_signals};
 ghost use Rattle.sv_paths.specs.TrailViews.{trail_form};
 
 use crate::faults::MOST_NODES;
-use crate::list_lines::Mark;
+use crate::list_lines::StepMark;
 use crate::nodes::with_nodes;
-use crate::path_names::Names;
+use crate::path_names::PathNames;
 use crate::pieces::{count_of, covers, is_whole};
 use crate::walks::place_with;
 use std::alloc::{AllocError, Global};
@@ -29,12 +29,12 @@ use sv_num::Place;
 #[derive(Debug, Drop)]
 pub struct Trail {
     /// Its conditions, the last in the text first.
-    pub marks: Vec<Mark>,
+    pub marks: Vec<StepMark>,
     /// The arm that was taken at each branch and choice, in the order in which they were met.
     pub choices: Vec<bool>,
     /// The names in its conditions and its result, but for a wanted name that the result is by
     /// itself.
-    pub names: Names,
+    pub names: PathNames,
     /// The signal whose wanted name the result is by itself, if it is one.
     pub own: Option<u32>,
     /// The nodes of what was put, up to one over the limit.
@@ -90,7 +90,7 @@ impl Trail {
         Trail {
             marks: Vec::new(alloc),
             choices: Vec::new(alloc),
-            names: Names::new(alloc),
+            names: PathNames::new(alloc),
             own: Some(target.0),
             nodes: 0,
             place: None,
@@ -153,7 +153,7 @@ impl Trail {
         &mut self,
         alloc: Global,
         count: u32,
-        mark: Mark,
+        mark: StepMark,
         cond: &FExpr,
     ) -> Result<(), AllocError>
         ensures { OnOk result (trail_form self.new

@@ -21,6 +21,14 @@ use sv_flat::{FExpr, FNode, Piece, SigId, Signal};
 use sv_num::Place;
 use sv_obl::BodySlice;
 
+// What a walk goes by: what allocates, the design's signals, and the target whose routes it takes.
+#[derive(Clone, Copy)]
+struct TargetWalk<'a> {
+    alloc: Global,
+    signals: &'a [Signal],
+    target: SigId,
+}
+
 // Adds a route, where they stay few enough.
 #[tactic(auto, using(crate::proofs::WalkFacts::one_too_many))]
 fn add<'a>(route: Route<'a>, all: &mut Vec<Route<'a>>) -> Result<(), WalkFault>
@@ -35,24 +43,24 @@ fn add<'a>(route: Route<'a>, all: &mut Vec<Route<'a>>) -> Result<(), WalkFault>
 }
 
 // Whether no assignment was taken yet, and this one covers the target whole.
-fn is_all(signals: &[Signal], target: SigId, pieces: &[Piece], route: &Route) -> bool
-    requires { target.0 < length signals.now }
-    ensures { result ≡ is_all (signal_forms signals.now) target.0 (piece_forms pieces.now)
-        (route_form route.now) }
+fn is_all(walk: &TargetWalk, pieces: &[Piece], route: &Route) -> bool
+    requires { walk.now.target.0 < length walk.now.signals.now }
+    ensures { result ≡ is_all (signal_forms walk.now.signals.now) walk.now.target.0
+        (piece_forms pieces.now) (route_form route.now) }
 {
-    route.place.is_none() && covers(signals, target, pieces)
+    route.place.is_none() && covers(walk.signals, walk.target, pieces)
 }
 
 // How often a right side counts that is put in.
-fn times_put(signals: &[Signal], target: SigId, pieces: &[Piece], route: &Route) -> usize
-    requires { target.0 < length signals.now }
-    ensures { result ≡ times_put (signal_forms signals.now) target.0 (piece_forms pieces.now)
-        (route_form route.now) }
+fn times_put(walk: &TargetWalk, pieces: &[Piece], route: &Route) -> usize
+    requires { walk.now.target.0 < length walk.now.signals.now }
+    ensures { result ≡ times_put (signal_forms walk.now.signals.now) walk.now.target.0
+        (piece_forms pieces.now) (route_form route.now) }
 {
-    if is_all(signals, target, pieces, route) {
+    if is_all(walk, pieces, route) {
         0
     } else {
-        count_of(target, pieces)
+        count_of(walk.target, pieces)
     }
 }
 
@@ -68,42 +76,41 @@ pub fn place_with(target: SigId, pieces: &[Piece], place: Option<Place>) -> Opti
 
 // The route with a right side put in.
 fn with_put<'a>(
-    signals: &[Signal],
-    target: SigId,
+    walk: &TargetWalk,
     pieces: &[Piece],
     right: &'a FExpr,
     route: Route<'a>,
 ) -> Result<Route<'a>, AllocError>
-    requires { target.0 < length signals.now }
-    ensures { IfOk result (λ put. route_form put ≡ with_put (signal_forms signals.now) target.0
-        (piece_forms pieces.now) (typed_tree right.now) (route_form route.entry)) }
+    requires { walk.now.target.0 < length walk.now.signals.now }
+    ensures { IfOk result (λ put. route_form put ≡ with_put (signal_forms walk.now.signals.now)
+        walk.now.target.0 (piece_forms pieces.now) (typed_tree right.now)
+        (route_form route.entry)) }
 {
-    let count = times_put(signals, target, pieces, &route);
+    let count = times_put(walk, pieces, &route);
     Ok(Route {
         steps: route.steps,
         names: with_names(route.names, right)?,
         nodes: with_nodes(route.nodes, count, right),
-        place: place_with(target, pieces, route.place),
-        wants: !covers(signals, target, pieces),
+        place: place_with(walk.target, pieces, route.place),
+        wants: !covers(walk.signals, walk.target, pieces),
     })
 }
 
 // Adds the one route that a right side gives where it is not split.
 fn put_whole<'a>(
-    signals: &[Signal],
-    target: SigId,
+    walk: &TargetWalk,
     pieces: &[Piece],
     right: &'a FExpr,
     route: Route<'a>,
     all: &mut Vec<Route<'a>>,
 ) -> Result<(), WalkFault>
-    requires { target.0 < length signals.now }
-    ensures adds { Adds (route_forms all.old.items ++ with_put (signal_forms signals.now) target.0
-        (piece_forms pieces.now) (typed_tree right.now) (route_form route.entry) ∷ []) all.new
-        result }
+    requires { walk.now.target.0 < length walk.now.signals.now }
+    ensures adds { Adds (route_forms all.old.items
+        ++ with_put (signal_forms walk.now.signals.now) walk.now.target.0 (piece_forms pieces.now)
+        (typed_tree right.now) (route_form route.entry) ∷ []) all.new result }
     ensures few { OnOk result (length all.new.items ≤ 4096) }
 {
-    let put = with_put(signals, target, pieces, right, route)?;
+    let put = with_put(walk, pieces, right, route)?;
     add(put, all)
 }
 
@@ -111,27 +118,26 @@ fn put_whole<'a>(
 #[cycle(ways)]
 fn put_ways<'a>(
     right: &'a FExpr,
-    alloc: Global,
-    signals: &[Signal],
-    target: SigId,
+    walk: &TargetWalk,
     pieces: &[Piece],
     route: Route<'a>,
     all: &mut Vec<Route<'a>>,
 ) -> Result<(), WalkFault>
-    requires { target.0 < length signals.now }
-    ensures adds { Adds (route_forms all.old.items ++ with_ways (signal_forms signals.now) target.0
-        (piece_forms pieces.now) (typed_tree right.now) (route_form route.entry)) all.new result }
+    requires { walk.now.target.0 < length walk.now.signals.now }
+    ensures adds { Adds (route_forms all.old.items
+        ++ with_ways (signal_forms walk.now.signals.now) walk.now.target.0 (piece_forms pieces.now)
+        (typed_tree right.now) (route_form route.entry)) all.new result }
     ensures few { OnOk result (length all.new.items ≤ 4096) }
 {
     match &right.node {
         FNode::Choice(place, cond, yes, no) => {
             let taken = StepRef::new(*place, cond, true);
             let passed = StepRef::new(*place, cond, false);
-            let copy = route.copy(alloc)?;
-            put_way(yes, taken, alloc, signals, target, pieces, copy, all)?;
-            put_way(no, passed, alloc, signals, target, pieces, route, all)
+            let copy = route.copy(walk.alloc)?;
+            put_way(yes, taken, walk, pieces, copy, all)?;
+            put_way(no, passed, walk, pieces, route, all)
         }
-        _ => put_whole(signals, target, pieces, right, route, all),
+        _ => put_whole(walk, pieces, right, route, all),
     }
 }
 
@@ -141,44 +147,41 @@ fn put_ways<'a>(
 fn put_way<'a>(
     right: &'a FExpr,
     step: StepRef<'a>,
-    alloc: Global,
-    signals: &[Signal],
-    target: SigId,
+    walk: &TargetWalk,
     pieces: &[Piece],
     route: Route<'a>,
     all: &mut Vec<Route<'a>>,
 ) -> Result<(), WalkFault>
-    requires { target.0 < length signals.now }
+    requires { walk.now.target.0 < length walk.now.signals.now }
     ensures adds { Adds (route_forms all.old.items ++ map (behind (step_ref_form step.entry))
-        (with_ways (signal_forms signals.now) target.0 (piece_forms pieces.now)
+        (with_ways (signal_forms walk.now.signals.now) walk.now.target.0 (piece_forms pieces.now)
         (typed_tree right.now) (route_form route.entry))) all.new result }
     ensures few { OnOk result (length all.new.items ≤ 4096) }
 {
     let start = all.len();
-    put_ways(right, alloc, signals, target, pieces, route, all)?;
+    put_ways(right, walk, pieces, route, all)?;
     put_behind(all, start, step)?;
     Ok(())
 }
 
 // Adds the routes that an assignment gives that is taken.
 fn put_right<'a>(
-    alloc: Global,
-    signals: &[Signal],
-    target: SigId,
+    walk: &TargetWalk,
     pieces: &[Piece],
     right: &'a FExpr,
     route: Route<'a>,
     all: &mut Vec<Route<'a>>,
 ) -> Result<(), WalkFault>
-    requires { target.0 < length signals.now }
-    ensures adds { Adds (route_forms all.old.items ++ with_right (signal_forms signals.now) target.0
-        (piece_forms pieces.now) (typed_tree right.now) (route_form route.entry)) all.new result }
+    requires { walk.now.target.0 < length walk.now.signals.now }
+    ensures adds { Adds (route_forms all.old.items
+        ++ with_right (signal_forms walk.now.signals.now) walk.now.target.0 (piece_forms pieces.now)
+        (typed_tree right.now) (route_form route.entry)) all.new result }
     ensures few { OnOk result (length all.new.items ≤ 4096) }
 {
-    if is_all(signals, target, pieces, &route) {
-        put_ways(right, alloc, signals, target, pieces, route, all)
+    if is_all(walk, pieces, &route) {
+        put_ways(right, walk, pieces, route, all)
     } else {
-        put_whole(signals, target, pieces, right, route, all)
+        put_whole(walk, pieces, right, route, all)
     }
 }
 
@@ -187,16 +190,14 @@ fn put_right<'a>(
 #[cycle(before)]
 fn before<'a>(
     slice: &BodySlice<'a>,
-    alloc: Global,
-    signals: &[Signal],
-    target: SigId,
+    walk: &TargetWalk,
     route: Route<'a>,
     all: &mut Vec<Route<'a>>,
 ) -> Result<(), WalkFault>
-    requires { target.0 < length signals.now }
+    requires { walk.now.target.0 < length walk.now.signals.now }
     ensures adds { Adds (route_forms all.old.items
-        ++ slice_routes (signal_forms signals.now) target.0 slice.now (route_form route.entry))
-        all.new result }
+        ++ slice_routes (signal_forms walk.now.signals.now) walk.now.target.0 slice.now
+        (route_form route.entry)) all.new result }
     ensures few { length all.old.items ≤ 4096 → OnOk result (length all.new.items ≤ 4096) }
 {
     if !route.wants {
@@ -204,13 +205,11 @@ fn before<'a>(
     }
     match slice {
         BodySlice::Nothing => add(route, all),
-        BodySlice::Assign { pieces, value, .. } => {
-            put_right(alloc, signals, target, *pieces, *value, route, all)
-        }
+        BodySlice::Assign { pieces, value, .. } => { put_right(walk, *pieces, *value, route, all) }
         BodySlice::Chain { first, second } => {
-            let mut routes = Vec::new(alloc);
-            before(second, alloc, signals, target, route, &mut routes)?;
-            before_all(first, alloc, signals, target, routes, all)
+            let mut routes = Vec::new(walk.alloc);
+            before(second, walk, route, &mut routes)?;
+            before_all(first, walk, routes, all)
         }
         BodySlice::Branch {
             place,
@@ -220,9 +219,9 @@ fn before<'a>(
         } => {
             let taken = StepRef::new(*place, *cond, true);
             let passed = StepRef::new(*place, *cond, false);
-            let copy = route.copy(alloc)?;
-            before_arm(yes, taken, alloc, signals, target, copy, all)?;
-            before_arm(no, passed, alloc, signals, target, route, all)
+            let copy = route.copy(walk.alloc)?;
+            before_arm(yes, taken, walk, copy, all)?;
+            before_arm(no, passed, walk, route, all)
         }
     }
 }
@@ -232,20 +231,18 @@ fn before<'a>(
 fn before_arm<'a>(
     slice: &BodySlice<'a>,
     step: StepRef<'a>,
-    alloc: Global,
-    signals: &[Signal],
-    target: SigId,
+    walk: &TargetWalk,
     route: Route<'a>,
     all: &mut Vec<Route<'a>>,
 ) -> Result<(), WalkFault>
-    requires { target.0 < length signals.now }
+    requires { walk.now.target.0 < length walk.now.signals.now }
     ensures adds { Adds (route_forms all.old.items ++ map (behind (step_ref_form step.entry))
-        (slice_routes (signal_forms signals.now) target.0 slice.now (route_form route.entry)))
-        all.new result }
+        (slice_routes (signal_forms walk.now.signals.now) walk.now.target.0 slice.now
+        (route_form route.entry))) all.new result }
     ensures few { length all.old.items ≤ 4096 → OnOk result (length all.new.items ≤ 4096) }
 {
     let start = all.len();
-    before(slice, alloc, signals, target, route, all)?;
+    before(slice, walk, route, all)?;
     put_behind(all, start, step)?;
     Ok(())
 }
@@ -255,25 +252,23 @@ fn before_arm<'a>(
 #[cycle(before)]
 fn before_all<'a>(
     slice: &BodySlice<'a>,
-    alloc: Global,
-    signals: &[Signal],
-    target: SigId,
+    walk: &TargetWalk,
     routes: Vec<Route<'a>>,
     all: &mut Vec<Route<'a>>,
 ) -> Result<(), WalkFault>
-    requires { target.0 < length signals.now }
+    requires { walk.now.target.0 < length walk.now.signals.now }
     ensures adds { Adds (route_forms all.old.items
-        ++ flat_map (slice_routes (signal_forms signals.now) target.0 slice.now)
+        ++ flat_map (slice_routes (signal_forms walk.now.signals.now) walk.now.target.0 slice.now)
         (route_forms routes.entry.items)) all.new result }
     ensures few { length all.old.items ≤ 4096 → OnOk result (length all.new.items ≤ 4096) }
 {
     match slice {
         BodySlice::Chain { first, second } => {
-            let mut between = Vec::new(alloc);
-            before_all(second, alloc, signals, target, routes, &mut between)?;
-            before_all(first, alloc, signals, target, between, all)
+            let mut between = Vec::new(walk.alloc);
+            before_all(second, walk, routes, &mut between)?;
+            before_all(first, walk, between, all)
         }
-        _ => before_each(slice, alloc, signals, target, routes, all),
+        _ => before_each(slice, walk, routes, all),
     }
 }
 
@@ -281,20 +276,18 @@ fn before_all<'a>(
 #[cycle(before)]
 fn before_each<'a>(
     slice: &BodySlice<'a>,
-    alloc: Global,
-    signals: &[Signal],
-    target: SigId,
+    walk: &TargetWalk,
     routes: Vec<Route<'a>>,
     all: &mut Vec<Route<'a>>,
 ) -> Result<(), WalkFault>
-    requires { target.0 < length signals.now }
+    requires { walk.now.target.0 < length walk.now.signals.now }
     ensures adds { Adds (route_forms all.old.items
-        ++ flat_map (slice_routes (signal_forms signals.now) target.0 slice.now)
+        ++ flat_map (slice_routes (signal_forms walk.now.signals.now) walk.now.target.0 slice.now)
         (route_forms routes.entry.items)) all.new result }
     ensures few { length all.old.items ≤ 4096 → OnOk result (length all.new.items ≤ 4096) }
 {
     for route in routes {
-        before(slice, alloc, signals, target, route, all)?;
+        before(slice, walk, route, all)?;
     }
     Ok(())
 }
@@ -311,13 +304,11 @@ pub fn routes_of<'a>(
     ensures { Walks (slice_routes (signal_forms signals.now) target.0 slice.now open_route) result }
 {
     let mut routes = Vec::new(alloc);
-    before(
-        slice,
+    let walk = TargetWalk {
         alloc,
         signals,
         target,
-        Route::open(alloc),
-        &mut routes,
-    )?;
+    };
+    before(slice, &walk, Route::open(alloc), &mut routes)?;
     Ok(routes)
 }

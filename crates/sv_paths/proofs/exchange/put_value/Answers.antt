@@ -15,9 +15,9 @@ pub loop-piece-init : goal.loop-piece-init
 loop-piece-init c =
     let forms = signal_forms c.args.signals.now in
     let right = typed_tree c.args.right.now in
-    let s = c.args.signal.0 in
+    let s = c.args.wanted.signal.0 in
     let named : ℕ → TypedTree = λ t.
-    typed (signal_width forms s) (signal_of forms s).signed (read t c.args.place) in
+    typed (signal_width forms s) (signal_of forms s).signed (read t c.args.wanted.place) in
     ap (λ e. fold (with_piece_put forms right s) e (piece_forms c.args.pieces.now))
     (c.of_signal-value.ensures ∙ ap named (c.requires.wanted
     ∙ ap (λ n. n + s) (sym (length-map c.args.signals.now signal_form))))
@@ -41,8 +41,8 @@ pub loop-piece-preserved : goal.loop-piece-preserved
 loop-piece-preserved c =
     let forms = signal_forms c.args.signals.now in
     let right = typed_tree c.args.right.now in
-    let s = c.args.signal.0 in
+    let s = c.args.wanted.signal.0 in
     next_formed piece_form (with_piece_put forms right s) c.args.pieces.now
     c.loop-piece.piece-index _ (typed_tree c.loop-piece.value) (typed_tree c.in_ok-value.value)
-    (put_value forms (piece_forms c.args.pieces.now) right s c.args.place) c.loop-piece-test.true
-    c.in_ok-value.ensures c.loop-piece.invariant
+    (put_value forms (piece_forms c.args.pieces.now) right s c.args.wanted.place)
+    c.loop-piece-test.true c.in_ok-value.ensures c.loop-piece.invariant

@@ -10,6 +10,6 @@ abbrev pub invariant-loop-piece : goal.invariant-loop-piece
 invariant-loop-piece l =
     let signals = signal_forms l.signals in
     let right = typed_tree l.right in
-    fold (with_piece_put signals right l.signal.0) (typed_tree l.value)
+    fold (with_piece_put signals right l.fn.wanted.signal.0) (typed_tree l.value)
     (piece_forms (drop l.piece-index l.pieces))
-    ≡ put_value signals (piece_forms l.pieces) right l.signal.0 l.fn.place
+    ≡ put_value signals (piece_forms l.pieces) right l.fn.wanted.signal.0 l.fn.wanted.place

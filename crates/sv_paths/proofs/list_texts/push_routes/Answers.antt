@@ -8,7 +8,7 @@ use Rattle.sv_paths.proofs.WrittenFacts.{forms_more, fewer_formed, none_written,
 use Rattle.sv_paths.proofs.list_texts.push_routes.Goals as goal
 
 pub loop-route-init : goal.loop-route-init
-loop-route-init c = none_written (signal_forms c.args.signals.now) c.args.lines.now
+loop-route-init c = none_written (signal_forms c.args.driven.signals.now) c.args.lines.now
 
 pub push_route-requires-clause-names : goal.push_route-requires-clause-names
 push_route-requires-clause-names c =
@@ -18,16 +18,16 @@ push_route-requires-clause-names c =
 
 pub push_route-requires-clause-few : goal.push_route-requires-clause-few
 push_route-requires-clause-few c =
-    fewer_formed (signal_forms c.args.signals.now) route_form
-    (route_obligation (length c.args.signals.now) (process_form c.args.process.now)
-    c.args.target.0) c.args.routes.now c.loop-route.route-index 65536 c.args.lines.now
+    fewer_formed (signal_forms c.args.driven.signals.now) route_form
+    (route_obligation (length c.args.driven.signals.now) (process_form c.args.driven.process.now)
+    c.args.driven.target.0) c.args.routes.now c.loop-route.route-index 65536 c.args.lines.now
     c.loop-route.lines c.loop-route-test.true c.requires.few c.loop-route.invariant
 
 pub loop-route-preserved : goal.loop-route-preserved
 loop-route-preserved c =
-    let n = length c.args.signals.now in
-    let become = route_obligation n (process_form c.args.process.now) c.args.target.0 in
-    let forms = signal_forms c.args.signals.now in
+    let n = length c.args.driven.signals.now in
+    let become = route_obligation n (process_form c.args.driven.process.now) c.args.driven.target.0 in
+    let forms = signal_forms c.args.driven.signals.now in
     let routes = c.args.routes.now in
     let i = c.loop-route.route-index in
     let x = c.route-item.result in

@@ -7,6 +7,6 @@ use Rattle.sv_paths.proofs.list_texts.push_trail_line.Goals as goal
 
 pub returns-clause-line : goal.returns-clause-line
 returns-clause-line c = λ body marks.
-    trail_written (signal_forms c.args.signals.now) (process_form c.args.process.now)
-    c.args.target.0 body (trail_form c.args.trail.now) marks c.args.lines.now _
+    trail_written (signal_forms c.args.driven.signals.now) (process_form c.args.driven.process.now)
+    c.args.driven.target.0 body (trail_form c.args.trail.now) marks c.args.lines.now _
     c.in_ok-push_trail.ensures refl

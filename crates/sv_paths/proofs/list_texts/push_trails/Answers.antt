@@ -9,7 +9,7 @@ use Rattle.sv_paths.proofs.list_texts.push_trails.Goals as goal
 
 pub loop-trail-init : goal.loop-trail-init
 loop-trail-init c =
-    (omega arith, λ body marks. none_written (signal_forms c.args.signals.now) c.args.lines.now)
+    (omega arith, λ body marks. none_written (signal_forms c.args.driven.signals.now) c.args.lines.now)
 
 pub push_trail_line-requires-clause-names : goal.push_trail_line-requires-clause-names
 push_trail_line-requires-clause-names c =
@@ -26,7 +26,7 @@ push_trail_line-requires-clause-few c =
 
 pub loop-trail-preserved : goal.loop-trail-preserved
 loop-trail-preserved c =
-    let forms = signal_forms c.args.signals.now in
+    let forms = signal_forms c.args.driven.signals.now in
     let trails = c.args.trails.now in
     let i = c.loop-trail.trail-index in
     let x = c.trail-item.result in
@@ -34,7 +34,7 @@ loop-trail-preserved c =
     let more = c.in_ok-push_trail_line.ensures.count in (
       omega arith,
       λ body marks.
-          let become = trail_obligation forms (process_form c.args.process.now) c.args.target.0
+          let become = trail_obligation forms (process_form c.args.driven.process.now) c.args.driven.target.0
           body in
           one_written forms (map become (trail_forms (take i trails)))
           (map become (trail_forms (take (i + 1) trails))) (become (trail_form x))

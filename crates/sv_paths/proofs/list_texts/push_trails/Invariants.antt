@@ -15,7 +15,7 @@ abbrev pub invariant-loop-trail : goal.invariant-loop-trail
 invariant-loop-trail l =
     (l.lines.count ≡ l.initial.lines.count + l.trail-index)
     × ((body : FlatStatement) → ((trail : TrailForm) → Contains (trail_forms l.trails) trail
-    → map step_word (conditions_along (signal_forms l.signals) l.target.0 body trail)
-    ≡ map mark_word (reverse trail.marks)) → Writes (signal_forms l.signals)
-    (map (trail_obligation (signal_forms l.signals) (process_form l.process) l.target.0 body)
-    (trail_forms (take l.trail-index l.trails))) l.initial.lines l.lines)
+    → map step_word (conditions_along (signal_forms l.driven.signals.now) l.driven.target.0 body
+    trail) ≡ map mark_word (reverse trail.marks)) → Writes (signal_forms l.driven.signals.now)
+    (map (trail_obligation (signal_forms l.driven.signals.now) (process_form l.driven.process.now)
+    l.driven.target.0 body) (trail_forms (take l.trail-index l.trails))) l.initial.lines l.lines)

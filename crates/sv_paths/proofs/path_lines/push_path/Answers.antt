@@ -22,9 +22,9 @@ use Rattle.sv_paths.proofs.path_lines.push_path.Goals as goal
 
 pub push_flow-requires-clause-reads : goal.push_flow-requires-clause-reads
 push_flow-requires-clause-reads c =
-    let n = length c.args.signals.now in
-    let s = c.args.target.0 in
-    let process = process_form c.args.process.now in
+    let n = length c.args.driven.signals.now in
+    let s = c.args.driven.target.0 in
+    let process = process_form c.args.driven.process.now in
     let route = route_form c.args.route.now in
     let found : map number_of c.in_ok-reads.reads.items
     ≡ those n (holds (names_on (is_clocked process.kind) s route)) =
@@ -36,10 +36,10 @@ push_flow-requires-clause-reads c =
 
 pub returns : goal.returns
 returns c =
-    let n = length c.args.signals.now in
-    let s = c.args.target.0 in
-    let forms = signal_forms c.args.signals.now in
-    let process = process_form c.args.process.now in
+    let n = length c.args.driven.signals.now in
+    let s = c.args.driven.target.0 in
+    let forms = signal_forms c.args.driven.signals.now in
+    let process = process_form c.args.driven.process.now in
     let route = route_form c.args.route.now in
     let o = route_obligation n process s route in
     let text = c.args.text.now.items in

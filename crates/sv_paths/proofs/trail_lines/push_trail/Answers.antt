@@ -6,7 +6,7 @@ use Rattle.sv_flat.specs.declared.signals.SigId.{SigId}
 use Rattle.sv_flat.specs.ByNumber.{signal_forms}
 use Rattle.sv_flat.specs.Views.{process_form}
 use Rattle.sv_obl.specs.declared.frames.Frame.{Frame}
-use Rattle.sv_paths.specs.declared.list_lines.Mark.{Mark}
+use Rattle.sv_paths.specs.declared.list_lines.StepMark.{StepMark}
 use Rattle.sv_paths.specs.ListLines.{blanked, frame_word, right_word}
 use Rattle.sv_obl.specs.SignalNames.{name_of}
 use Rattle.sv_obl.specs.Obligations.{is_link, frame_of}
@@ -19,15 +19,15 @@ use Rattle.sv_paths.proofs.trail_lines.push_trail.Goals as goal
 
 pub push_flow-requires-clause-reads : goal.push_flow-requires-clause-reads
 push_flow-requires-clause-reads c =
-    let n = length c.args.signals.now in
+    let n = length c.args.driven.signals.now in
     subst (λ (rs : List SigId). All (λ t. t < n) (map number_of rs)) (sym c.deref-3.ensures.value)
     (subst (All (λ t. t < n)) (sym c.in_ok-reads.ensures) c.requires.names)
 
 pub returns : goal.returns
 returns c =
-    let s = c.args.target.0 in
-    let forms = signal_forms c.args.signals.now in
-    let process = process_form c.args.process.now in
+    let s = c.args.driven.target.0 in
+    let forms = signal_forms c.args.driven.signals.now in
+    let process = process_form c.args.driven.process.now in
     let trail = trail_form c.args.trail.now in
     let text = c.args.text.now.items in
     let number = decimal c.args.number in
@@ -39,7 +39,7 @@ returns c =
     let right = c.place_of-right.result in
     let marked : map mark_word c.deref-2.result.now ≡ conditions =
     ap (map mark_word) c.deref-2.ensures.value ∙ c.in_ok-marks.ensures
-    ∙ ap (λ (ms : List Mark). map mark_word (reverse ms)) c.deref.ensures.value in
+    ∙ ap (λ (ms : List StepMark). map mark_word (reverse ms)) c.deref.ensures.value in
     let found : map number_of c.deref-3.result.now ≡ trail.names.settled =
     ap (map number_of) c.deref-3.ensures.value ∙ c.in_ok-reads.ensures in
     let written : words c.frame_of.result (map mark_word c.deref-2.result.now) right

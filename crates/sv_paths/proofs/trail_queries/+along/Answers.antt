@@ -7,6 +7,6 @@ use Rattle.sv_paths.proofs.trail_queries.+along.Goals as goal
 
 pub along-returns-then-not-is_taken : goal.along-returns-then-not-is_taken
 along-returns-then-not-is_taken t c =
-    sym (along_stays (signal_forms c.args.signals.now) c.args.target.0
+    sym (along_stays (signal_forms c.args.walk.signals.now) c.args.walk.target.0
     (marked_statement c.args.stmt.now) (way_form c.args.making.now)
     (sym c.is_taken.ensures ∙ c.if-not-is_taken.true))

@@ -15,11 +15,11 @@ use Rattle.sv_paths.proofs.trail_queries.along_assign.Goals as goal
 
 pub returns-in-Some : goal.returns-in-Some
 returns-in-Some c =
-    let signals = c.args.signals.now in
+    let signals = c.args.walk.signals.now in
     let put = step_with (put_in (signal_forms signals) (piece_forms c.args.pieces.now)
     (typed_tree c.args.right.now)) in
     subst (λ (f : WayForm). OnOk c.along_ways.result (way_form c.along_ways.new.making ≡ f))
-    (whole_along (signal_forms signals) c.args.target.0 (piece_forms c.args.pieces.now)
+    (whole_along (signal_forms signals) c.args.walk.target.0 (piece_forms c.args.pieces.now)
     (typed_tree c.args.right.now) (way_form c.args.making.now) (trail_form c.put_right.new.self)
     (map condition_form c.in_ok-making.field-0.items) _ (sym (form_count signals))
     c.in_ok-put_right.ensures
@@ -31,11 +31,11 @@ returns-in-Some c =
 
 pub returns-in-None : goal.returns-in-None
 returns-in-None c =
-    let signals = c.args.signals.now in
+    let signals = c.args.walk.signals.now in
     let put = step_with (put_in (signal_forms signals) (piece_forms c.args.pieces.now)
     (typed_tree c.args.right.now)) in
     subst (λ (f : WayForm). OnOk c.along_rest.result (way_form c.along_rest.new.making ≡ f))
-    (rest_along (signal_forms signals) c.args.target.0 (piece_forms c.args.pieces.now)
+    (rest_along (signal_forms signals) c.args.walk.target.0 (piece_forms c.args.pieces.now)
     (typed_tree c.args.right.now) (way_form c.args.making.now) (trail_form c.put_right.new.self)
     (map condition_form c.in_ok-making.field-0.items) _ (sym (form_count signals))
     c.in_ok-put_right.ensures

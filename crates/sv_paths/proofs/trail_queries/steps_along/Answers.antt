@@ -14,8 +14,8 @@ use Rattle.sv_paths.proofs.trail_queries.steps_along.Goals as goal
 
 pub returns : goal.returns
 returns c =
-    let forms = signal_forms c.args.signals.now in
-    let s = c.args.target.0 in
+    let forms = signal_forms c.args.walk.signals.now in
+    let s = c.args.walk.target.0 in
     let body = marked_statement c.args.body.now in
     let trail = trail_form c.args.trail.now in
     let close = step_with (closed_tree forms false) in

@@ -6,7 +6,7 @@ use Rattle.std.proofs.lemmas.List.{length-map}
 use Rattle.sv_flat.specs.ByNumber.{signal_forms}
 use Rattle.sv_flat.specs.Design.{after}
 use Rattle.sv_flat.specs.Views.{typed_tree}
-use Rattle.sv_paths.specs.declared.list_lines.Mark.{Mark}
+use Rattle.sv_paths.specs.declared.list_lines.StepMark.{StepMark}
 use Rattle.sv_obl.specs.MarkedBodies.{marked_statement}
 use Rattle.sv_obl.specs.Views.{piece_forms}
 use Rattle.sv_paths.specs.Trails.{TrailForm, takes, chosen, marked_by, with_assign, trails_before}
@@ -19,14 +19,14 @@ use Rattle.sv_paths.proofs.trail_walks.+trail_before.Goals as goal
 pub before-returns-then-not-is_taken-clause-adds : goal.before-returns-then-not-is_taken-clause-adds
 before-returns-then-not-is_taken-clause-adds t c =
     ap (λ (ts : List TrailForm). trail_forms c.args.others.now.items ++ ts)
-    (sym (stays (signal_forms c.args.signals.now) c.args.target.0
+    (sym (stays (signal_forms c.args.walk.signals.now) c.args.walk.target.0
     (marked_statement c.args.stmt.now) (trail_form c.args.trail.now)
     (sym c.is_taken.ensures ∙ c.if-not-is_taken.true)))
 
 pub before-returns-in-Assign-clause-adds : goal.before-returns-in-Assign-clause-adds
 before-returns-in-Assign-clause-adds t c =
-    let signals = signal_forms c.args.signals.now in
-    let s = c.args.target.0 in
+    let signals = signal_forms c.args.walk.signals.now in
+    let s = c.args.walk.target.0 in
     let trail = trail_form c.args.trail.now in
     let taken = subst (λ x. takes (marked_statement x) trail ≡ true) c.in-Assign.is
     (sym c.is_taken.ensures ∙ c.if-not-is_taken.false) in
@@ -41,8 +41,8 @@ before-returns-in-Assign-clause-adds t c =
 pub before-returns-in_err-before-in-Chain-clause-adds :
     goal.before-returns-in_err-before-in-Chain-clause-adds
 before-returns-in_err-before-in-Chain-clause-adds t c =
-    let signals = signal_forms c.args.signals.now in
-    let s = c.args.target.0 in
+    let signals = signal_forms c.args.walk.signals.now in
+    let s = c.args.walk.target.0 in
     let first = marked_statement c.in-Chain.first.value in
     let second = marked_statement c.deref.result.now in
     let trail = trail_form c.args.trail.now in
@@ -65,12 +65,12 @@ before-returns-in_err-before-in-Chain-clause-adds t c =
 
 pub before_arm-returns-in_err-before-clause-adds : goal.before_arm-returns-in_err-before-clause-adds
 before_arm-returns-in_err-before-clause-adds t c =
-    let signals = signal_forms c.args.signals.now in
-    let before = trails_before signals c.args.target.0 (marked_statement c.args.stmt.now) in
-    let mark : Mark = record { truth = c.args.truth; place = c.args.place } in
-    arm_fails (marked_by (length signals) mark (typed_tree c.args.cond.now))
+    let signals = signal_forms c.args.walk.signals.now in
+    let before = trails_before signals c.args.walk.target.0 (marked_statement c.args.stmt.now) in
+    let mark : StepMark = record { truth = c.args.step.truth; place = c.args.step.place } in
+    arm_fails (marked_by (length signals) mark (typed_tree c.args.step.cond.now))
     (trail_forms c.args.others.now.items) (before (trail_form c.choose.new.self))
-    (before (chosen c.args.truth (trail_form c.args.trail.now)))
+    (before (chosen c.args.step.truth (trail_form c.args.trail.now)))
     (trail_forms c.before-2.new.others.items ++ trail_form c.before-2.new.trail ∷ [])
     (trail_forms c.before-2.new.others.items ++ trail_form c.before-2.new.trail ∷ [])
     c.in_err-before.field-0.0 c.from_residual-in_err-before.result
@@ -79,38 +79,38 @@ before_arm-returns-in_err-before-clause-adds t c =
 
 pub before_arm-put_behind-requires : goal.before_arm-put_behind-requires
 before_arm-put_behind-requires t c =
-    let signals = signal_forms c.args.signals.now in
+    let signals = signal_forms c.args.walk.signals.now in
     let old = c.args.others.now in
     let same = length-map old.items trail_form in
     let at : c.len-start.result ≡ length (trail_forms old.items) =
     omega (arith, c.len-start.ensures, old.ok.0, same) in
     start_inside (trail_forms old.items)
-    (trails_before signals c.args.target.0 (marked_statement c.args.stmt.now)
+    (trails_before signals c.args.walk.target.0 (marked_statement c.args.stmt.now)
     (trail_form c.choose.new.self)) c.before-2.new.others.items
     (trail_form c.before-2.new.trail) c.len-start.result at
-    (some_trail signals c.args.target.0 (marked_statement c.args.stmt.now)
+    (some_trail signals c.args.walk.target.0 (marked_statement c.args.stmt.now)
     (trail_form c.choose.new.self)) c.in_ok-before.ensures.adds
 
 pub before_arm-returns-clause-adds : goal.before_arm-returns-clause-adds
 before_arm-returns-clause-adds t c =
-    let signals = signal_forms c.args.signals.now in
+    let signals = signal_forms c.args.walk.signals.now in
     let old = c.args.others.now in
     let same = length-map old.items trail_form in
     let at : c.len-start.result ≡ length (trail_forms old.items) =
     omega (arith, c.len-start.ensures, old.ok.0, same) in
-    let before = trails_before signals c.args.target.0 (marked_statement c.args.stmt.now) in
-    let mark : Mark = record { truth = c.args.truth; place = c.args.place } in
-    let cond = typed_tree c.args.cond.now in
-    let many = sym (form_count c.args.signals.now) in
+    let before = trails_before signals c.args.walk.target.0 (marked_statement c.args.stmt.now) in
+    let mark : StepMark = record { truth = c.args.step.truth; place = c.args.step.place } in
+    let cond = typed_tree c.args.step.cond.now in
+    let many = sym (form_count c.args.walk.signals.now) in
     let given = trail_forms c.before-2.new.others.items in
     let left = trail_form c.before-2.new.trail in
     arm_left (marked_by (length signals) mark cond)
     (trail_forms old.items) (before (trail_form c.choose.new.self))
-    (before (chosen c.args.truth (trail_form c.args.trail.now)))
+    (before (chosen c.args.step.truth (trail_form c.args.trail.now)))
     given (trail_forms c.put_behind.new.all.items)
     left (trail_form c.add_mark.new.self) c.len-start.result at
-    (some_trail signals c.args.target.0 (marked_statement c.args.stmt.now)
-    (chosen c.args.truth (trail_form c.args.trail.now))) (ap before c.in_ok-choose.ensures)
+    (some_trail signals c.args.walk.target.0 (marked_statement c.args.stmt.now)
+    (chosen c.args.step.truth (trail_form c.args.trail.now))) (ap before c.in_ok-choose.ensures)
     c.in_ok-before.ensures.adds
     (c.in_ok-put_behind.ensures.trails
     ∙ ap (λ n. take c.len-start.result given
@@ -120,8 +120,8 @@ before_arm-returns-clause-adds t c =
 pub before-returns-in_err-before_each-in-Chain-clause-adds :
     goal.before-returns-in_err-before_each-in-Chain-clause-adds
 before-returns-in_err-before_each-in-Chain-clause-adds t c =
-    let signals = signal_forms c.args.signals.now in
-    let s = c.args.target.0 in
+    let signals = signal_forms c.args.walk.signals.now in
+    let s = c.args.walk.target.0 in
     let first = marked_statement c.deref-in-Chain.result.now in
     let second = marked_statement c.deref.result.now in
     let trail = trail_form c.args.trail.now in
@@ -146,8 +146,8 @@ before-returns-in_err-before_each-in-Chain-clause-adds t c =
 pub before-returns-in_ok-before_each-in-Chain-clause-adds :
     goal.before-returns-in_ok-before_each-in-Chain-clause-adds
 before-returns-in_ok-before_each-in-Chain-clause-adds t c =
-    let signals = signal_forms c.args.signals.now in
-    let s = c.args.target.0 in
+    let signals = signal_forms c.args.walk.signals.now in
+    let s = c.args.walk.target.0 in
     let first = marked_statement c.deref-in-Chain-2.result.now in
     let second = marked_statement c.deref.result.now in
     let trail = trail_form c.args.trail.now in
@@ -175,7 +175,7 @@ before-returns-in_ok-before_each-in-Chain-clause-adds t c =
 pub before_each-returns-in_err-before-clause-adds :
     goal.before_each-returns-in_err-before-clause-adds
 before_each-returns-in_err-before-clause-adds t c =
-    let f = trails_before (signal_forms c.args.signals.now) c.args.target.0
+    let f = trails_before (signal_forms c.args.walk.signals.now) c.args.walk.target.0
     (marked_statement c.args.stmt.now) in
     let trails = c.args.trails.items in
     let seen = c.loop-trail.yielded in
@@ -198,7 +198,7 @@ before_each-returns-in_err-before-clause-adds t c =
 pub before_each-returns-in_err-add-clause-adds :
     goal.before_each-returns-in_err-add-clause-adds
 before_each-returns-in_err-add-clause-adds t c =
-    let f = trails_before (signal_forms c.args.signals.now) c.args.target.0
+    let f = trails_before (signal_forms c.args.walk.signals.now) c.args.walk.target.0
     (marked_statement c.args.stmt.now) in
     let trails = c.args.trails.items in
     let seen = c.loop-trail.yielded in

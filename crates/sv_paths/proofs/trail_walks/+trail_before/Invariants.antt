@@ -9,7 +9,7 @@ use Rattle.sv_paths.proofs.trail_walks.+trail_before.Given as goal
 abbrev pub invariant-before_each-loop-trail : goal.invariant-before_each-loop-trail
 invariant-before_each-loop-trail l = record {
   adds : trail_forms l.all.items ≡ trail_forms l.initial.all.items
-      ++ flat_map (trails_before (signal_forms l.signals) l.target.0 (marked_statement l.stmt))
-      (trail_forms l.yielded);
+      ++ flat_map (trails_before (signal_forms l.walk.signals.now) l.walk.target.0
+      (marked_statement l.stmt)) (trail_forms l.yielded);
   few : length l.initial.all.items ≤ 4096 → length l.all.items ≤ 4096;
 }

@@ -16,17 +16,17 @@ use Rattle.sv_paths.proofs.walks.+before.Goals as goal
 
 pub before-returns-then-not-route-clause-adds : goal.before-returns-then-not-route-clause-adds
 before-returns-then-not-route-clause-adds t c =
-    let signals = signal_forms c.args.signals.now in
+    let signals = signal_forms c.args.walk.now.signals.now in
     subst (λ (rs : List RouteForm). Adds (route_forms c.args.all.now.items ++ rs) c.add.new.all
     c.add.result)
-    (sym (closed_stays signals c.args.target.0 c.args.slice.now (route_form c.args.route)
+    (sym (closed_stays signals c.args.walk.now.target.0 c.args.slice.now (route_form c.args.route)
     c.if-not-route.true))
     c.add.ensures.adds
 
 pub before-returns-in-Assign-clause-adds : goal.before-returns-in-Assign-clause-adds
 before-returns-in-Assign-clause-adds t c =
-    let signals = signal_forms c.args.signals.now in
-    let s = c.args.target.0 in
+    let signals = signal_forms c.args.walk.now.signals.now in
+    let s = c.args.walk.now.target.0 in
     let route = route_form c.args.route in
     let put = with_right signals s (piece_forms c.in-Assign.pieces.now)
     (typed_tree c.in-Assign.value.now) route in
@@ -39,8 +39,8 @@ before-returns-in-Assign-clause-adds t c =
 pub before-returns-in_err-before-in-Chain-clause-adds :
     goal.before-returns-in_err-before-in-Chain-clause-adds
 before-returns-in_err-before-in-Chain-clause-adds t c =
-    let signals = signal_forms c.args.signals.now in
-    let s = c.args.target.0 in
+    let signals = signal_forms c.args.walk.now.signals.now in
+    let s = c.args.walk.now.target.0 in
     let first = c.in-Chain.first.value in
     let second = c.deref.result.now in
     let route = route_form c.args.route in
@@ -59,8 +59,8 @@ before-returns-in_err-before-in-Chain-clause-adds t c =
 pub before_all-returns-in_err-before_all-in-Chain-clause-adds :
     goal.before_all-returns-in_err-before_all-in-Chain-clause-adds
 before_all-returns-in_err-before_all-in-Chain-clause-adds t c =
-    let signals = signal_forms c.args.signals.now in
-    let s = c.args.target.0 in
+    let signals = signal_forms c.args.walk.now.signals.now in
+    let s = c.args.walk.now.target.0 in
     let first = c.in-Chain.first.value in
     let second = c.deref.result.now in
     let forms = route_forms c.args.routes.items in
@@ -79,8 +79,8 @@ before_all-returns-in_err-before_all-in-Chain-clause-adds t c =
 pub before_all-returns-in_ok-before_all-in-Chain-clause-adds :
     goal.before_all-returns-in_ok-before_all-in-Chain-clause-adds
 before_all-returns-in_ok-before_all-in-Chain-clause-adds t c =
-    let signals = signal_forms c.args.signals.now in
-    let s = c.args.target.0 in
+    let signals = signal_forms c.args.walk.now.signals.now in
+    let s = c.args.walk.now.target.0 in
     let first = c.deref-in-Chain.result.now in
     let second = c.deref.result.now in
     let forms = route_forms c.args.routes.items in
@@ -98,7 +98,8 @@ before_all-returns-in_ok-before_all-in-Chain-clause-adds t c =
 pub before_each-returns-in_err-before-clause-adds :
     goal.before_each-returns-in_err-before-clause-adds
 before_each-returns-in_err-before-clause-adds t c =
-    let f = slice_routes (signal_forms c.args.signals.now) c.args.target.0 c.args.slice.now in
+    let signals = signal_forms c.args.walk.now.signals.now in
+    let f = slice_routes signals c.args.walk.now.target.0 c.args.slice.now in
     let routes = c.args.routes.items in
     let seen = c.loop-route.yielded in
     let x = c.in-Some.route in

@@ -8,6 +8,7 @@ use Rattle.sv_paths.proofs.walks.+before.Given as goal
 abbrev pub invariant-before_each-loop-route : goal.invariant-before_each-loop-route
 invariant-before_each-loop-route l = record {
   adds : route_forms l.all.items ≡ route_forms l.initial.all.items
-      ++ flat_map (slice_routes (signal_forms l.signals) l.target.0 l.slice) (route_forms l.yielded);
+      ++ flat_map (slice_routes (signal_forms l.walk.signals.now) l.walk.target.0 l.slice)
+      (route_forms l.yielded);
   few : length l.initial.all.items ≤ 4096 → length l.all.items ≤ 4096;
 }

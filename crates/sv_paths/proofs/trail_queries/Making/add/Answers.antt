@@ -11,8 +11,8 @@ use Rattle.sv_paths.proofs.trail_queries.Making.add.Goals as goal
 pub returns : goal.returns
 returns c =
     let step : TypedTree → StepForm = λ e.
-    record { place = c.args.place; condition = e; truth = c.args.truth } in
-    step_added c.args.count (step (typed_tree c.args.cond.now)) (way_form c.args.self.now)
+    record { place = c.args.step.place; condition = e; truth = c.args.step.truth } in
+    step_added c.args.count (step (typed_tree c.args.step.cond.now)) (way_form c.args.self.now)
     (trail_form c.add_mark.new.self) c.args.self.now.conditions.items c.push.new.self.items
     _ c.in_ok-add_mark.ensures refl c.in_ok-push.ensures.items
     (ap step_form c.in_ok-new.ensures ∙ ap step c.in_ok-copy.ensures)

@@ -4,7 +4,7 @@ use Rattle.sv_obl.specs.Views.{piece_forms}
 use Rattle.sv_paths.specs.Trails.{with_times, times_put}
 use Rattle.sv_paths.specs.TrailViews.{names_form}
 use Rattle.sv_paths.proofs.NameFacts.{next_formed}
-use Rattle.sv_paths.proofs.path_names.Names.times_put.Goals as goal
+use Rattle.sv_paths.proofs.path_names.PathNames.times_put.Goals as goal
 
 pub loop-piece-preserved : goal.loop-piece-preserved
 loop-piece-preserved c =

@@ -4,7 +4,7 @@ use Rattle.sv_obl.specs.Views.{piece_forms}
 use Rattle.sv_paths.specs.Trails.{without_piece, without_covered}
 use Rattle.sv_paths.specs.TrailViews.{names_form}
 use Rattle.sv_paths.proofs.NameFacts.{next_formed}
-use Rattle.sv_paths.proofs.path_names.Names.drop_covered.Goals as goal
+use Rattle.sv_paths.proofs.path_names.PathNames.drop_covered.Goals as goal
 
 pub loop-piece-preserved : goal.loop-piece-preserved
 loop-piece-preserved c =

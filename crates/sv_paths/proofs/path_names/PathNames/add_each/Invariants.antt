@@ -1,7 +1,7 @@
 use Rattle.std.proofs.Common.{◌≡◌, drop}
 use Rattle.sv_paths.specs.Trails.{with_each}
 use Rattle.sv_paths.specs.TrailViews.{names_form}
-use Rattle.sv_paths.proofs.path_names.Names.add_each.Given as goal
+use Rattle.sv_paths.proofs.path_names.PathNames.add_each.Given as goal
 
 -- the names that are left, added too, give what all give
 abbrev pub invariant-loop-name : goal.invariant-loop-name

@@ -4,7 +4,7 @@ use Rattle.std.specs.BTreeSet.{contains}
 use Rattle.std.specs.Ordering.{nat_cmp}
 use Rattle.std.proofs.lemmas.Iterator.Consumers.{YieldsList-from_rest}
 use Rattle.std.proofs.lemmas.Iterator.Search.{any_from_yields_List}
-use Rattle.sv_paths.proofs.path_names.Names.has_wanted_in.Goals as goal
+use Rattle.sv_paths.proofs.path_names.PathNames.has_wanted_in.Goals as goal
 
 pub returns : goal.returns
 returns c =

@@ -1,7 +1,7 @@
 use Rattle.sv_paths.specs.Trails.{with_name, with_each}
 use Rattle.sv_paths.specs.TrailViews.{names_form}
 use Rattle.sv_paths.proofs.NameFacts.{next_number}
-use Rattle.sv_paths.proofs.path_names.Names.add_each.Goals as goal
+use Rattle.sv_paths.proofs.path_names.PathNames.add_each.Goals as goal
 
 pub loop-name-preserved : goal.loop-name-preserved
 loop-name-preserved c =

@@ -6,7 +6,7 @@ use Rattle.std.specs.Ordering.{nat_cmp}
 use Rattle.std.proofs.lemmas.Iterator.Consumers.{YieldsList-from_rest}
 use Rattle.std.proofs.lemmas.Iterator.Search.{any_from_yields_List}
 use Rattle.sv_paths.proofs.NameFacts.{some_found}
-use Rattle.sv_paths.proofs.path_names.Names.has_some_of.Goals as goal
+use Rattle.sv_paths.proofs.path_names.PathNames.has_some_of.Goals as goal
 
 pub returns : goal.returns
 returns c =

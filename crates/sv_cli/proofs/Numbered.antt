@@ -13,30 +13,12 @@ use Rattle.sv_paths.specs.declared.list_parts.Listing.{Listing}
 use Rattle.sv_obl.specs.declared.queries.Query.{Query}
 use Rattle.sv_obl.proofs.FormLists.{get_all}
 use Rattle.sv_paths.proofs.WrittenFacts.{before_and_from, from_next, next_before}
+use Rattle.sv_judge.proofs.Lists.{get_behind, get_first}
 use Rattle.sv_cli.specs.Clauses.{IsFoundOrNext}
 
 -- ---- lists
 
-none_more : (k : ℕ) → 0 + k ≡ k
-none_more k = omega arith
-
-one_more : (n k : ℕ) → suc n + k ≡ suc (n + k)
-one_more n k = omega arith
-
 module _ {A : Type 0} where
-  -- what stands behind some elements
-  pub get_behind : (xs ys : List A) (k : ℕ) → slice_get (xs ++ ys) (length xs + k) ≡ slice_get ys k
-  get_behind [] ys k = ap (λ n. slice_get ys n) (none_more k)
-  get_behind (x ∷ xs) ys k =
-      ap (λ n. slice_get (x ∷ (xs ++ ys)) n) (one_more (length xs) k) ∙ get_behind xs ys k
-
-  -- what stands in the first of two lists
-  pub get_first : (ys zs : List A) (k : ℕ) (y : A) → slice_get ys k ≡ Some y
-      → slice_get (ys ++ zs) k ≡ Some y
-  get_first [] zs k y is = absurd cc
-  get_first (x ∷ ys) zs zero y is = is
-  get_first (x ∷ ys) zs (suc k) y is = get_first ys zs k y is
-
   -- nothing stands past the end alone
   pub none_past : (xs : List A) (k : ℕ) → slice_get xs k ≡ None → length xs ≤ k
   none_past [] k none = omega arith

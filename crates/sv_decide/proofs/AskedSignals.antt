@@ -20,7 +20,7 @@ use Rattle.sv_obl.specs.Paths.{StepForm}
 use Rattle.sv_obl.specs.PathValues.{is_true_in}
 use Rattle.sv_obl.specs.Views.{obligation_of, goal_form, step_form, number_of, IsGoalAmong}
 use Rattle.sv_obl.proofs.AmongFacts.{query_among}
-use Rattle.sv_decide.specs.declared.failing.Asked.{Asked}
+use Rattle.sv_decide.specs.declared.failing.EvaluatedGoal.{EvaluatedGoal}
 use Rattle.sv_decide.specs.Simulating.{fails_by, shows_failing}
 
 -- what holds of each element of a list made from another
@@ -69,9 +69,9 @@ module _ (flat : Flat) (query : Query)
       (query_among (design_of flat) (obligation_of query) is).goal)
 
   -- the tests of the parts are those of the obligation
-  pub shown_is : (now : Environment ℕ) (asked : Asked) (facts : List FExpr) (path : List Step)
-      (reads : List SigId) → facts ≡ query.facts.items → path ≡ query.path.items →
-      reads ≡ query.reads.items →
+  pub shown_is : (now : Environment ℕ) (asked : EvaluatedGoal) (facts : List FExpr)
+      (path : List Step) (reads : List SigId) → facts ≡ query.facts.items →
+      path ≡ query.path.items → reads ≡ query.reads.items →
       (list_all (λ (fact : FExpr). is_true_in (design_of flat).signals now (typed_tree fact)) facts
       && list_all (λ (step : Step).
       beq (is_true_in (design_of flat).signals now (typed_tree step.cond)) step.truth) path

@@ -48,12 +48,9 @@ module _ (design : FlatDesign) (o : Obligation) (made : Encoding)
     met_there : Satisfies (value_of values) (encoding design o).clauses
     met_there = subst (Satisfies (value_of values)) (clauses_same clauses clauses_are) met
 
-    pub found_falsifies : Falsifies design (valuation_of design listed) o
-    found_falsifies =
-        subst (λ (v : Valuation). Falsifies design v o) (sym read_is)
-        (both_ways.0 design o checked query (value_of values) met_there).0
-
-    pub found_zero : IsZeroOutside design o (valuation_of design listed)
-    found_zero =
-        subst (IsZeroOutside design o) (sym read_is)
-        (both_ways.0 design o checked query (value_of values) met_there).1
+    -- the valuation falsifies the obligation, and is 0 where nothing that is asked hangs on it
+    pub found : Falsifies design (valuation_of design listed) o
+        × IsZeroOutside design o (valuation_of design listed)
+    found =
+        subst (λ (v : Valuation). Falsifies design v o × IsZeroOutside design o v) (sym read_is)
+        (both_ways.0 design o checked query (value_of values) met_there)

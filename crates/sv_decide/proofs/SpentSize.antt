@@ -1,14 +1,12 @@
 -- How long a spent log may be. Each step is shown new by literals at rest for the clauses before
 -- it; these differ from step to step, and never make every variable true.
-use Rattle.std.proofs.Common.{◌≡◌, ◌≢◌, ℕ, zero, suc, ◌+◌, ◌*◌, ◌<◌, ◌≤◌, ◌^◌, Bool, true, false}
+use Rattle.std.proofs.Common.{◌≡◌, ◌≢◌, ℕ, zero, suc, ◌+◌, ◌<◌, ◌≤◌, ◌^◌, Bool, true, false}
 use Rattle.std.proofs.Common.{cond, not, ◌&&◌, ℤ, pos, negsuc, neg_ℤ, unsigned_abs, List, [], ◌∷◌}
 use Rattle.std.proofs.Common.{◌++◌, refl, sym, ap, ◌∙◌, subst, ◌⊎◌, ⊎_elim, length, get_or, take}
 use Rattle.std.proofs.Common.{Some, slice_get, eqb, arith}
 use Rattle.std.specs.Prelude.{All, Contains}
-use Rattle.std.specs.List.{list_any}
 use Rattle.std.specs.Ordering.{int_eq}
-use Rattle.std.proofs.Math.Nat.{pow-suc, mul-le-mul_left}
-use Rattle.std.proofs.lemmas.Bool.{false≢true, or_cases, and_parts, cases_order, eqb-true}
+use Rattle.std.proofs.lemmas.Bool.{false≢true, or_cases, and_parts, eqb-true}
 use Rattle.std.proofs.lemmas.Bool.{ne_eqb, false_from_ne_true}
 use Rattle.std.proofs.lemmas.List.{append-nil, append_assoc}
 use Rattle.std.proofs.lemmas.List.Elements.{All-push, All-contains, Contains-append_right}
@@ -24,6 +22,8 @@ use Rattle.sv_clause.proofs.Merging.{unsigned_abs-neg}
 use Rattle.sv_clause.proofs.Standing.{cases_int, found_by, any_from}
 use Rattle.sv_clause.proofs.Truth.{derived_true, not_both_true}
 use Rattle.sv_gates.specs.Formulas.{IsWithin}
+use Rattle.sv_solve.proofs.Counting.{any_place}
+use Rattle.sv_solve.proofs.Ternary.{AreTernary, number, number-below, same_digits, zero_digits}
 
 -- ---- what is derived speaks of the same variables
 
@@ -100,57 +100,21 @@ abbrev Consistent : List ℤ → Type 0
 Consistent literals = (l : ℤ) → stands l literals ≡ true → stands (neg_ℤ l) literals ≡ false
 
 -- whether a variable is true, false or open
-digit : ℕ → List ℤ → ℕ
-digit v literals = cond (stands (pos v) literals) 0 (cond (stands (neg_ℤ (pos v)) literals) 1 2)
+digit : List ℤ → ℕ → ℕ
+digit literals v = cond (stands (pos v) literals) 0 (cond (stands (neg_ℤ (pos v)) literals) 1 2)
 
--- the digits of the variables up to one, as a number
-number : ℕ → List ℤ → ℕ
-number zero literals = 0
-number (suc n) literals = number n literals + 3 ^ n * digit (suc n) literals
+-- literals of some variables, as a number
+abbrev number_of : ℕ → List ℤ → ℕ
+number_of n literals = number (digit literals) n
 
 small_cond : (p q : Bool) → cond p 0 (cond q 1 2) ≤ 2
 small_cond true q = omega arith
 small_cond false true = omega arith
 small_cond false false = omega arith
 
-digit-small : (v : ℕ) (literals : List ℤ) → digit v literals ≤ 2
+are_ternary : (literals : List ℤ) → AreTernary (digit literals)
 unfolding digit
-digit-small v literals = small_cond (stands (pos v) literals) (stands (neg_ℤ (pos v)) literals)
-
-number-below : (n : ℕ) (literals : List ℤ) → number n literals < 3 ^ n
-unfolding number
-number-below zero literals = omega arith
-number-below (suc n) literals =
-    let below : number n literals < 3 ^ n = number-below n literals in
-    let top : 3 ^ n * digit (suc n) literals ≤ 3 ^ n * 2 =
-    mul-le-mul_left (3 ^ n) (digit-small (suc n) literals) in
-    let size : 3 ^ suc n ≡ 3 ^ n * 3 = pow-suc 3 n in
-    omega arith
-
-lower_top : (a b x y p : ℕ) → a < p → x < y → a + p * x ≡ b + p * y → ⊥
-lower_top a b x y p h lt e =
-    let step : x + 1 ≤ y = omega arith in
-    let more : p * (x + 1) ≤ p * y = mul-le-mul_left p step in
-    absurd (omega arith)
-
-same_top : (a b x y p : ℕ) → a < p → b < p → a + p * x ≡ b + p * y → (a ≡ b) × (x ≡ y)
-same_top a b x y p ha hb e =
-    let top : x ≡ y = ⊎_elim (λ same. same) (λ other.
-    ⊎_elim (λ lt. absurd (lower_top a b x y p ha lt e)) (λ gt.
-    absurd (lower_top b a y x p hb gt (sym e))) other) (cases_order x y) in
-    (let e' : a + p * y ≡ b + p * y = ap (λ z. a + p * z) (sym top) ∙ e in omega arith, top)
-
-same_digits : (n : ℕ) (c d : List ℤ) → number n c ≡ number n d → (v : ℕ) → 0 < v → v ≤ n
-    → digit v c ≡ digit v d
-unfolding number
-same_digits zero c d e v low high = absurd (omega arith)
-same_digits (suc n) c d e v low high =
-    let parts = same_top (number n c) (number n d) (digit (suc n) c) (digit (suc n) d) (3 ^ n)
-    (number-below n c) (number-below n d) e in
-    ⊎_elim (λ same. ap (λ z. digit z c) same ∙ parts.1 ∙ ap (λ z. digit z d) (sym same))
-    (λ other. ⊎_elim (λ lt. same_digits n c d parts.0 v low (omega arith)) (λ gt.
-    absurd (omega arith)) other)
-    (cases_order v (suc n))
+are_ternary literals v = small_cond (stands (pos v) literals) (stands (neg_ℤ (pos v)) literals)
 
 same_conds : (p q r s : Bool) → (p ≡ true → q ≡ false) → (r ≡ true → s ≡ false)
     → ◌≡◌ {A = ℕ} (cond p 0 (cond q 1 2)) (cond r 0 (cond s 1 2)) → (p ≡ r) × (q ≡ s)
@@ -164,19 +128,20 @@ same_conds false true false false n m e = absurd (omega arith)
 same_conds false false false true n m e = absurd (omega arith)
 same_conds false false false false n m e = (refl, refl)
 
-same_signs : (n : ℕ) (c d : List ℤ) → Consistent c → Consistent d → number n c ≡ number n d
-    → (v : ℕ) → 0 < v → v ≤ n
+same_signs : (n : ℕ) (c d : List ℤ) → Consistent c → Consistent d
+    → number_of n c ≡ number_of n d → (v : ℕ) → 0 < v → v ≤ n
     → (stands (pos v) c ≡ stands (pos v) d) × (stands (neg_ℤ (pos v)) c ≡ stands (neg_ℤ (pos v)) d)
 unfolding digit
 same_signs n c d hc hd e v low high =
     same_conds (stands (pos v) c) (stands (neg_ℤ (pos v)) c) (stands (pos v) d)
-    (stands (neg_ℤ (pos v)) d) (hc (pos v)) (hd (pos v)) (same_digits n c d e v low high)
+    (stands (neg_ℤ (pos v)) d) (hc (pos v)) (hd (pos v))
+    (same_digits (digit c) (digit d) n (are_ternary c) (are_ternary d) e v low high)
 
 zero_absent : (c : List ℤ) → Consistent c → stands (pos 0) c ≡ false
 zero_absent c h = false_from_ne_true (stands (pos 0) c) (λ e. false≢true (sym (h (pos 0) e) ∙ e))
 
-same_stands : (n : ℕ) (c d : List ℤ) → Consistent c → Consistent d → number n c ≡ number n d
-    → (l : ℤ) → unsigned_abs l ≤ n → stands l c ≡ stands l d
+same_stands : (n : ℕ) (c d : List ℤ) → Consistent c → Consistent d
+    → number_of n c ≡ number_of n d → (l : ℤ) → unsigned_abs l ≤ n → stands l c ≡ stands l d
 same_stands n c d hc hd e (pos zero) h = zero_absent c hc ∙ sym (zero_absent d hd)
 same_stands n c d hc hd e (pos (suc k)) h = (same_signs n c d hc hd e (suc k) (omega arith) h).0
 same_stands n c d hc hd e (negsuc k) h = (same_signs n c d hc hd e (suc k) (omega arith) h).1
@@ -186,37 +151,20 @@ zero_cond true q e = refl
 zero_cond false true e = absurd (omega arith)
 zero_cond false false e = absurd (omega arith)
 
-zero_digit : (v : ℕ) (c : List ℤ) → digit v c ≡ 0 → stands (pos v) c ≡ true
+zero_digit : (v : ℕ) (c : List ℤ) → digit c v ≡ 0 → stands (pos v) c ≡ true
 unfolding digit
 zero_digit v c e = zero_cond (stands (pos v) c) (stands (neg_ℤ (pos v)) c) e
 
-no_factor : (p d : ℕ) → 0 < p → p * d ≡ 0 → d ≡ 0
-no_factor p zero h e = refl
-no_factor p (suc d) h e =
-    let one : 1 ≤ suc d = omega arith in
-    let more : p * 1 ≤ p * suc d = mul-le-mul_left p one in
-    absurd (omega arith)
-
 -- of number 0 every variable is true
-all_true : (n : ℕ) (c : List ℤ) → number n c ≡ 0 → (v : ℕ) → 0 < v → v ≤ n
+all_true : (n : ℕ) (c : List ℤ) → number_of n c ≡ 0 → (v : ℕ) → 0 < v → v ≤ n
     → stands (pos v) c ≡ true
-unfolding number
-all_true zero c e v low high = absurd (omega arith)
-all_true (suc n) c e v low high =
-    let below : number n c < 3 ^ n = number-below n c in
-    let lower : number n c ≡ 0 = omega arith in
-    let upper : 3 ^ n * digit (suc n) c ≡ 0 = omega arith in
-    let top : digit (suc n) c ≡ 0 = no_factor (3 ^ n) (digit (suc n) c) (omega arith) upper in
-    ⊎_elim (λ same. subst (λ z. stands (pos z) c ≡ true) (sym same) (zero_digit (suc n) c top))
-    (λ other. ⊎_elim (λ lt. all_true n c lower v low (omega arith)) (λ gt.
-    absurd (omega arith)) other)
-    (cases_order v (suc n))
+all_true n c e v low high = zero_digit v c (zero_digits (digit c) n (are_ternary c) e v low high)
 
 -- ---- no two steps are shown new by literals of one number
 
 module _ (n : ℕ) (clause first second : List ℤ) (before : List (List ℤ)) (left : ℤ)
     (within : IsWithin n clause) (shows : ShowsNew before clause first left)
-    (consistent : Consistent second) (same : number n first ≡ number n second) where
+    (consistent : Consistent second) (same : number_of n first ≡ number_of n second) where
   alike : (l : ℤ) → unsigned_abs l ≤ n → stands l first ≡ stands l second
   alike = same_stands n first second shows.rest.consistent consistent same
 
@@ -299,15 +247,6 @@ listed P (suc m) f =
     let rest = listed (λ i q. P (suc i) q) m (λ i h. f (suc i) (omega arith)) in
     (first.0 ∷ rest.0, ap suc rest.1, put_first P first.0 rest.0 m first.1 rest.2)
 
-any_place : (test : ℕ → Bool) (xs : List ℕ) → list_any test xs ≡ true
-    → (i : ℕ) × (i < length xs) × (test (get_or xs i 0) ≡ true)
-any_place test [] e = absurd (false≢true e)
-any_place test (x ∷ xs) e =
-    ⊎_elim (λ here. (0, omega arith, here)) (λ there.
-    let r = any_place test xs there in
-    let small : r.0 < length xs = r.1 in
-    (suc r.0, omega arith, r.2)) (or_cases (test x) (list_any test xs) e)
-
 apart_more : (qs : List ℕ) → ((i d : ℕ) → i < length qs → get_or qs i d ≢ 0)
     → ((i j d : ℕ) → i < j → j < length qs → get_or qs i d ≢ get_or qs j d)
     → (i j d : ℕ) → i < j → j < length (0 ∷ qs) → get_or (0 ∷ qs) i d ≢ get_or (0 ∷ qs) j d
@@ -349,7 +288,7 @@ record IsShownBy (n : ℕ) (clauses : List (List ℤ)) (steps : List Step) (i q 
   step : Step
   at : slice_get steps i ≡ Some step
   shows : ShowsNew (clauses ++ clauses_of (take i steps)) step.clause literals left
-  counted : q ≡ number n literals
+  counted : q ≡ number_of n literals
 
 module _ (n budget : ℕ) (clauses : List (List ℤ)) (steps : List Step)
     (of : All (IsWithin n) clauses) (spent : IsSpentLog clauses steps budget) where
@@ -358,7 +297,7 @@ module _ (n budget : ℕ) (clauses : List (List ℤ)) (steps : List Step)
       let none : Step = record { clause = []; chain = [] } in
       let at : slice_get steps i ≡ Some (get_or steps i none) = slice_get-get_or steps i none h in
       let new = spent.each_new i (get_or steps i none) at in (
-        number n new.0,
+        number_of n new.0,
         record {
           literals = new.0;
           left = new.1;
@@ -394,13 +333,14 @@ module _ (n budget : ℕ) (clauses : List (List ℤ)) (steps : List Step)
 
   shown_below : (i q : ℕ) → IsShownBy n clauses steps i q → q < 3 ^ n
   shown_below i q one =
-      subst (λ z. z < 3 ^ n) (sym one.counted) (number-below n one.literals)
+      subst (λ z. z < 3 ^ n) (sym one.counted)
+      (number-below (digit one.literals) n (are_ternary one.literals))
 
   pub spent_short : budget < 3 ^ n
   spent_short =
       let made = listed (IsShownBy n clauses steps) (length steps) shown in
       let size : length made.0 ≡ length steps = made.1 in
-      let first : number n [] < 3 ^ n = number-below n [] in
+      let first : number_of n [] < 3 ^ n = number-below (digit []) n (are_ternary []) in
       let short : length made.0 < 3 ^ n =
       fewer (3 ^ n) made.0 (omega arith)
       (λ i d h. shown_below i (get_or made.0 i d) (made.2 i d (omega arith)))

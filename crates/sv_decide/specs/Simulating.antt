@@ -12,8 +12,8 @@ use Rattle.sv_obl.specs.Obligations.{GoalForm, flow, holds as must_hold, selecto
 use Rattle.sv_obl.specs.Paths.{StepForm}
 use Rattle.sv_obl.specs.PathValues.{is_true_in}
 use Rattle.sv_obl.specs.Validity.{Valuation, IsInFrame}
-use Rattle.sv_decide.specs.declared.failing.Asked.{Asked}
-use Rattle.sv_decide.specs.declared.failing.Asked.TheVariants.{Flow, Truth}
+use Rattle.sv_decide.specs.declared.failing.EvaluatedGoal.{EvaluatedGoal}
+use Rattle.sv_decide.specs.declared.failing.EvaluatedGoal.TheVariants.{Flow, Truth}
 
 -- the environment is that of a frame, after the one settled environment of a valuation
 pub record IsOfFrame (design : FlatDesign) (v : Valuation) (frame : Frame) (there : Environment ℕ)
@@ -23,24 +23,24 @@ pub record IsOfFrame (design : FlatDesign) (v : Valuation) (frame : Frame) (ther
   pub in_frame : IsInFrame design v now frame there
 
 -- what a goal asks of the environment of its frame
-abbrev pub asked_in : FlatDesign → (there : Environment ℕ) → GoalForm → Asked
+abbrev pub asked_in : FlatDesign → (there : Environment ℕ) → GoalForm → EvaluatedGoal
 asked_in design there (flow target frame) = Flow ((flat_system design).label target there)
 asked_in design there (must_hold e frame) = Truth (is_true_in design.signals there e)
 asked_in design there (selector s) = Flow ((flat_system design).label s there)
 
 -- a point that is asked for is one of the lattice
-abbrev pub IsAskable : FlatDesign → Asked → Type 0
+abbrev pub IsAskable : FlatDesign → EvaluatedGoal → Type 0
 IsAskable design (Flow point) = point.0 < length design.lattice
 IsAskable design (Truth holds) = Unit {0}
 
 -- the label of some read does not flow to the point, or what is to be true is not
-abbrev pub fails_by : FlatDesign → (reads : List ℕ) → (now : Environment ℕ) → Asked → Bool
+abbrev pub fails_by : FlatDesign → (reads : List ℕ) → (now : Environment ℕ) → EvaluatedGoal → Bool
 fails_by design reads now (Flow point) =
     list_any (λ t. not ((flat_system design).flows ((flat_system design).label t now) point)) reads
 fails_by design reads now (Truth holds) = not holds
 
 -- no fact is 0, the path is taken, and a goal that asks this fails
-abbrev pub shows_failing : FlatDesign → Obligation → (now : Environment ℕ) → Asked → Bool
+abbrev pub shows_failing : FlatDesign → Obligation → (now : Environment ℕ) → EvaluatedGoal → Bool
 shows_failing design o now asked =
     list_all (is_true_in design.signals now) o.facts
     && list_all (λ (step : StepForm).

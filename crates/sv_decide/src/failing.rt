@@ -21,7 +21,7 @@ use sv_obl::{Goal, Query, Step};
 
 /// What a goal asks of the cycle of its frame.
 #[derive(Clone, Copy)]
-pub enum Asked {
+pub enum EvaluatedGoal {
     /// That the labels of the reads flow to this point.
     Flow(Point),
     /// That this is true.
@@ -53,7 +53,7 @@ fn point_of(design: &Design, values: &[u64], signal: SigId) -> Point
 }
 
 /// What the goal of an obligation asks of these values.
-pub fn asked_by(design: &Design, values: &[u64], query: &Query) -> Asked
+pub fn asked_by(design: &Design, values: &[u64], query: &Query) -> EvaluatedGoal
     requires query { IsQueryOf (design_of design.now) (obligation_of query.now) }
     requires fit { FitSignals (design_of design.now).signals values.now }
     ensures asked { result ≡ asked_in (design_of design.now) (by_number values.now)
@@ -61,9 +61,9 @@ pub fn asked_by(design: &Design, values: &[u64], query: &Query) -> Asked
     ensures askable { IsAskable (design_of design.now) result }
 {
     match &query.goal {
-        Goal::Flow { target, .. } => Asked::Flow(point_of(design, values, *target)),
-        Goal::Holds { expr, .. } => Asked::Truth(is_true(design, values, expr)),
-        Goal::Selector { signal } => Asked::Flow(point_of(design, values, *signal)),
+        Goal::Flow { target, .. } => EvaluatedGoal::Flow(point_of(design, values, *target)),
+        Goal::Holds { expr, .. } => EvaluatedGoal::Truth(is_true(design, values, expr)),
+        Goal::Selector { signal } => EvaluatedGoal::Flow(point_of(design, values, *signal)),
     }
 }
 
@@ -117,7 +117,7 @@ fn some_stays(design: &Design, values: &[u64], reads: &[SigId], point: Point) ->
 }
 
 // Whether the goal that asks this fails.
-fn fails_by(design: &Design, values: &[u64], reads: &[SigId], asked: Asked) -> bool
+fn fails_by(design: &Design, values: &[u64], reads: &[SigId], asked: EvaluatedGoal) -> bool
     requires reads { All (λ (s : SigId). s.0 < length design.now.signals.items) reads.now }
     requires asked { IsAskable (design_of design.now) asked }
     requires fit { FitSignals (design_of design.now).signals values.now }
@@ -125,8 +125,8 @@ fn fails_by(design: &Design, values: &[u64], reads: &[SigId], asked: Asked) -> b
         (by_number values.now) asked }
 {
     match asked {
-        Asked::Flow(point) => some_stays(design, values, reads, point),
-        Asked::Truth(holds) => !holds,
+        EvaluatedGoal::Flow(point) => some_stays(design, values, reads, point),
+        EvaluatedGoal::Truth(holds) => !holds,
     }
 }
 
@@ -137,7 +137,7 @@ fn parts_fail(
     facts: &[FExpr],
     path: &[Step],
     reads: &[SigId],
-    asked: Asked,
+    asked: EvaluatedGoal,
 ) -> bool
     requires facts { All (λ (fact : FExpr).
         IsTrue (well_formed (design_of design.now).signals (typed_tree fact))) facts.now }
@@ -159,7 +159,7 @@ fn parts_fail(
 }
 
 /// Whether these values meet the facts, take the path, and fail a goal that asks this.
-pub fn shows_failing(design: &Design, values: &[u64], query: &Query, asked: Asked) -> bool
+pub fn shows_failing(design: &Design, values: &[u64], query: &Query, asked: EvaluatedGoal) -> bool
     requires query { IsQueryOf (design_of design.now) (obligation_of query.now) }
     requires asked { IsAskable (design_of design.now) asked }
     requires fit { FitSignals (design_of design.now).signals values.now }

@@ -18,8 +18,8 @@ use Rattle.sv_judge.specs.Answers.{HasUnitConflict}
 use Rattle.sv_judge.specs.Verdicts.{IsNumbered, IsProvedFor, AreWithin, IsFalsified}
 use Rattle.sv_judge.specs.Verdicts.{EndsTooLarge}
 use Rattle.sv_judge.specs.declared.progress.Progress.{Progress}
-use Rattle.sv_judge.specs.declared.progress.Stop.{Stop}
-use Rattle.sv_judge.specs.declared.progress.Stop.TheVariants.{Fails, TooLarge, OutOfMemory}
+use Rattle.sv_judge.specs.declared.progress.EarlyStop.{EarlyStop}
+use Rattle.sv_judge.specs.declared.progress.EarlyStop.TheVariants.{Fails, TooLarge, OutOfMemory}
 use Rattle.sv_judge.specs.declared.verdicts.Checked.{Checked}
 use Rattle.sv_judge.specs.declared.verdicts.Checked.TheVariants.{Accepted, Unknown}
 use Rattle.sv_judge.specs.declared.verdicts.Failure.{Failure}
@@ -75,10 +75,10 @@ pub record IsFailing (design : FlatDesign) (budget : ℕ) (failure : Failure) : 
   pub placed : IsPlaced (obligation_of failure.query)
 
 -- what ends the check before the last obligation; want of memory says nothing
-abbrev pub IsStop : FlatDesign → (budget : ℕ) → Stop → Type 0
-IsStop design budget (Fails failure) = IsFailing design budget failure
-IsStop design budget (TooLarge number) = EndsTooLarge design budget number
-IsStop design budget OutOfMemory = Unit {0}
+abbrev pub IsEarlyStop : FlatDesign → (budget : ℕ) → EarlyStop → Type 0
+IsEarlyStop design budget (Fails failure) = IsFailing design budget failure
+IsEarlyStop design budget (TooLarge number) = EndsTooLarge design budget number
+IsEarlyStop design budget OutOfMemory = Unit {0}
 
 -- what a check comes to that reached the last obligation
 abbrev pub verdict_of : (count : ℕ) → (logs : Vec Log) → Option Spent → Checked

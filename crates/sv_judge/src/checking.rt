@@ -12,12 +12,12 @@ ghost use Rattle.sv_blast.specs.Coders.{IsCoder};
 ghost use Rattle.sv_proof.specs.Certificate.{AreLogs};
 ghost use Rattle.sv_judge.specs.Answers.{WhereAccepted, WhereFails, WhereTooLarge, WhereUnknown};
 ghost use Rattle.sv_judge.specs.Answers.{IsNotUnknown, HasAtMost, HasUnitConflict};
-ghost use Rattle.sv_judge.specs.Progress.{HasDone, IsStop, verdict_of};
+ghost use Rattle.sv_judge.specs.Progress.{HasDone, IsEarlyStop, verdict_of};
 ghost use Rattle.sv_judge.specs.Verdicts.{IsAccepted, AreRefutations, AreWithin, IsFalsified};
 ghost use Rattle.sv_judge.specs.Verdicts.{EndsTooLarge, IsSpent};
 ghost use Rattle.sv_judge.specs.Walking.{IsNext, AreNext, ComeNext};
 
-use crate::progress::{Progress, Stop};
+use crate::progress::{EarlyStop, Progress};
 use crate::verdicts::{Checked, Failure};
 use crate::walk::{selector_part, target_part};
 use crate::writable::know_writable;
@@ -69,9 +69,9 @@ pub fn check(
 {
     match decide_all(alloc, design, budget, keeps) {
         Ok(progress) => Ok(verdict(progress)),
-        Err(Stop::Fails(failure)) => Ok(Checked::Fails(failure)),
-        Err(Stop::TooLarge(number)) => Ok(Checked::TooLarge(number)),
-        Err(Stop::OutOfMemory) => Err(AllocError),
+        Err(EarlyStop::Fails(failure)) => Ok(Checked::Fails(failure)),
+        Err(EarlyStop::TooLarge(number)) => Ok(Checked::TooLarge(number)),
+        Err(EarlyStop::OutOfMemory) => Err(AllocError),
     }
 }
 
@@ -92,7 +92,12 @@ fn verdict(progress: Progress) -> Checked
 }
 
 // Decides all obligations.
-fn decide_all(alloc: Global, design: &Design, budget: u32, keeps: bool) -> Result<Progress, Stop>
+fn decide_all(
+    alloc: Global,
+    design: &Design,
+    budget: u32,
+    keeps: bool,
+) -> Result<Progress, EarlyStop>
     requires some { 1 ≤ budget }
     requires most { budget ≤ 4000000000 }
     ensures done { IfOk result (HasDone (design_of design.now) budget) }
@@ -100,7 +105,7 @@ fn decide_all(alloc: Global, design: &Design, budget: u32, keeps: bool) -> Resul
         progress.count ≡ length (asked (design_of design.now))) }
     ensures few { IfOk result (λ progress. progress.count < 2 ^ 32) }
     ensures keeps { IfOk result (λ progress. progress.keeps ≡ keeps) }
-    ensures stop { IfErr result (IsStop (design_of design.now) budget) }
+    ensures stop { IfErr result (IsEarlyStop (design_of design.now) budget) }
 {
     let mut progress = Progress::new(alloc, keeps);
     let bodies = Bodies::new(alloc, design)?;
@@ -127,7 +132,7 @@ fn decide_targets(
     budget: u32,
     listing: &mut Listing,
     progress: &mut Progress,
-) -> Result<(), Stop>
+) -> Result<(), EarlyStop>
     requires coder { IsCoder (design_of design.now) coder.old }
     requires some { 1 ≤ budget }
     requires most { budget ≤ 4000000000 }
@@ -140,7 +145,7 @@ fn decide_targets(
     ensures same { OnOk result (progress.new.count ≡ listing.new.count) }
     ensures done { OnOk result (HasDone (design_of design.now) budget progress.new) }
     ensures keeps { OnOk result (progress.new.keeps ≡ progress.old.keeps) }
-    ensures stop { IfErr result (IsStop (design_of design.now) budget) }
+    ensures stop { IfErr result (IsEarlyStop (design_of design.now) budget) }
 {
     for s in 0..design.signals().len() {
         let paths = target_part(alloc, design, listing, SigId(s as u32))?;
@@ -157,7 +162,7 @@ fn decide_paths(
     budget: u32,
     paths: &TargetPaths,
     progress: &mut Progress,
-) -> Result<(), Stop>
+) -> Result<(), EarlyStop>
     requires coder { IsCoder (design_of design.now) coder.old }
     requires some { 1 ≤ budget }
     requires most { budget ≤ 4000000000 }
@@ -168,7 +173,7 @@ fn decide_paths(
         ≡ progress.old.count + length (obligations_on (design_of design.now) paths.now)) }
     ensures done { OnOk result (HasDone (design_of design.now) budget progress.new) }
     ensures keeps { OnOk result (progress.new.keeps ≡ progress.old.keeps) }
-    ensures stop { IfErr result (IsStop (design_of design.now) budget) }
+    ensures stop { IfErr result (IsEarlyStop (design_of design.now) budget) }
 {
     for place in 0..paths.len() {
         let query = paths.query(alloc, design, place)?;
@@ -185,7 +190,7 @@ fn decide_part(
     budget: u32,
     queries: Vec<Query>,
     progress: &mut Progress,
-) -> Result<(), Stop>
+) -> Result<(), EarlyStop>
     requires coder { IsCoder (design_of design.now) coder.old }
     requires some { 1 ≤ budget }
     requires most { budget ≤ 4000000000 }
@@ -196,7 +201,7 @@ fn decide_part(
         (progress.new.count ≡ progress.old.count + length queries.items) }
     ensures done { OnOk result (HasDone (design_of design.now) budget progress.new) }
     ensures keeps { OnOk result (progress.new.keeps ≡ progress.old.keeps) }
-    ensures stop { IfErr result (IsStop (design_of design.now) budget) }
+    ensures stop { IfErr result (IsEarlyStop (design_of design.now) budget) }
 {
     for query in queries {
         decide_next(alloc, design, coder, budget, query, progress)?;
@@ -213,7 +218,7 @@ fn decide_next(
     budget: u32,
     query: Query,
     progress: &mut Progress,
-) -> Result<(), Stop>
+) -> Result<(), EarlyStop>
     requires coder { IsCoder (design_of design.now) coder.old }
     requires some { 1 ≤ budget }
     requires most { budget ≤ 4000000000 }
@@ -223,7 +228,7 @@ fn decide_next(
     ensures count { OnOk result (progress.new.count ≡ progress.old.count + 1) }
     ensures done { OnOk result (HasDone (design_of design.now) budget progress.new) }
     ensures keeps { OnOk result (progress.new.keeps ≡ progress.old.keeps) }
-    ensures stop { IfErr result (IsStop (design_of design.now) budget) }
+    ensures stop { IfErr result (IsEarlyStop (design_of design.now) budget) }
 {
     if progress.wants_log() {
         return decide_by_clauses(alloc, design, coder, budget, query, progress);
@@ -234,8 +239,8 @@ fn decide_next(
             Ok(())
         }
         Ok(false) => decide_by_clauses(alloc, design, coder, budget, query, progress),
-        Err(BlastFault::TooLarge) => Err(Stop::TooLarge(progress.count + 1)),
-        Err(BlastFault::OutOfMemory) => Err(Stop::OutOfMemory),
+        Err(BlastFault::TooLarge) => Err(EarlyStop::TooLarge(progress.count + 1)),
+        Err(BlastFault::OutOfMemory) => Err(EarlyStop::OutOfMemory),
     }
 }
 
@@ -247,7 +252,7 @@ fn decide_by_clauses(
     budget: u32,
     query: Query,
     progress: &mut Progress,
-) -> Result<(), Stop>
+) -> Result<(), EarlyStop>
     requires coder { IsCoder (design_of design.now) coder.old }
     requires some { 1 ≤ budget }
     requires most { budget ≤ 4000000000 }
@@ -257,7 +262,7 @@ fn decide_by_clauses(
     ensures count { OnOk result (progress.new.count ≡ progress.old.count + 1) }
     ensures done { OnOk result (HasDone (design_of design.now) budget progress.new) }
     ensures keeps { OnOk result (progress.new.keeps ≡ progress.old.keeps) }
-    ensures stop { IfErr result (IsStop (design_of design.now) budget) }
+    ensures stop { IfErr result (IsEarlyStop (design_of design.now) budget) }
 {
     let number = progress.count + 1;
     match decide_by(alloc, design, coder, &query, budget) {
@@ -265,7 +270,7 @@ fn decide_by_clauses(
             know_writable(&log);
             Ok(progress.add_refuted(log)?)
         }
-        Ok(Decided::Fails(valuation)) => Err(Stop::Fails(Failure {
+        Ok(Decided::Fails(valuation)) => Err(EarlyStop::Fails(Failure {
             number,
             query,
             valuation,
@@ -274,7 +279,7 @@ fn decide_by_clauses(
             progress.add_spent(log);
             Ok(())
         }
-        Err(BlastFault::TooLarge) => Err(Stop::TooLarge(number)),
-        Err(BlastFault::OutOfMemory) => Err(Stop::OutOfMemory),
+        Err(BlastFault::TooLarge) => Err(EarlyStop::TooLarge(number)),
+        Err(BlastFault::OutOfMemory) => Err(EarlyStop::OutOfMemory),
     }
 }

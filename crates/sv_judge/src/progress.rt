@@ -3,7 +3,7 @@ ghost use Rattle.std.specs.Prelude.{◌≡◌, ◌↔◌, ◌+◌, ◌<◌, ◌+
 ghost use Rattle.std.specs.Prelude.{IsFalse, IsSome, OnOk};
 ghost use Rattle.sv_flat.specs.Design.{FlatDesign};
 ghost use Rattle.sv_judge.specs.Progress.{HasDone};
-ghost use Rattle.sv_judge.specs.declared.progress.Stop.TheVariants.{OutOfMemory};
+ghost use Rattle.sv_judge.specs.declared.progress.EarlyStop.TheVariants.{OutOfMemory};
 
 use crate::verdicts::{Failure, Spent};
 use std::alloc::{AllocError, Global};
@@ -11,7 +11,7 @@ use sv_clause::Log;
 
 /// What ends a check before the last obligation.
 #[derive(Drop)]
-pub enum Stop {
+pub enum EarlyStop {
     /// An obligation is falsified.
     Fails(Failure),
     /// The encoding of the obligation of this number has more than 4,194,304 variables.
@@ -20,11 +20,11 @@ pub enum Stop {
     OutOfMemory,
 }
 
-impl From<AllocError> for Stop {
+impl From<AllocError> for EarlyStop {
     ghost from_gives = { λ _ stop. stop ≡ OutOfMemory };
 
-    fn from(_error: AllocError) -> Stop {
-        Stop::OutOfMemory
+    fn from(_error: AllocError) -> EarlyStop {
+        EarlyStop::OutOfMemory
     }
 }
 

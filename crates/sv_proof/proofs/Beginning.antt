@@ -155,16 +155,26 @@ broken_second bytes first rest e is next =
       (length logs, are.count, refl),
     )) next
 
-module _ (bytes first rest second logs_text : List ℕ) (count : ℕ) (e : bytes ≡ first ++ 10 ∷ rest)
-    (is_first : first ≡ codes "secv-proof 1") (f : rest ≡ second ++ 10 ∷ logs_text)
-    (is_second : second ≡ codes "obligations " ++ decimal count) (few : count < 2 ^ 32) where
+-- two lines, before the text of the logs: the first one, and the one that says how many logs there
+-- are
+pub record IsHeaded (bytes logs_text : List ℕ) (count : ℕ) : Type 0 where
+  pub first : List ℕ
+  pub rest : List ℕ
+  pub second : List ℕ
+  pub splits : bytes ≡ first ++ 10 ∷ rest
+  pub is_first : first ≡ codes "secv-proof 1"
+  pub splits_rest : rest ≡ second ++ 10 ∷ logs_text
+  pub is_second : second ≡ codes "obligations " ++ decimal count
+  pub few : count < 2 ^ 32
+
+module _ (bytes logs_text : List ℕ) (count : ℕ) (head : IsHeaded bytes logs_text count) where
   -- the bytes by the lines up to some others
   by_lines : (lines : List (List ℕ)) (more : List ℕ) → logs_text ≡ text_of lines ++ more →
       bytes ≡ text_of (codes "secv-proof 1" ∷ count_line count ∷ lines) ++ more
   by_lines lines more g =
-      e ∙ ap (λ z. z ++ 10 ∷ rest) is_first
-      ∙ text_one (codes "secv-proof 1") rest (count_line count ∷ lines) more
-      (f ∙ ap (λ z. z ++ 10 ∷ logs_text) is_second
+      head.splits ∙ ap (λ z. z ++ 10 ∷ head.rest) head.is_first
+      ∙ text_one (codes "secv-proof 1") head.rest (count_line count ∷ lines) more
+      (head.splits_rest ∙ ap (λ z. z ++ 10 ∷ logs_text) head.is_second
       ∙ text_one (count_line count) logs_text lines more g)
 
   broken_at_log : (place : ℕ) → StopsAtLog logs_text count place → IsFirstBroken bytes (3 + place)
@@ -172,8 +182,8 @@ module _ (bytes first rest second logs_text : List ℕ) (count : ℕ) (e : bytes
       broken bytes (up_to count s.logs) s.rest (3 + place) (IsLogLine (length s.logs + 1))
       (by_lines (log_lines 1 s.logs) s.rest s.begins.text)
       (let is = s.place_is in omega arith)
-      (begins_up_to count s.logs few s.begins.each (let fewer = s.fewer in omega arith))
-      (expects_log count s.logs few s.begins.each s.fewer) s.next
+      (begins_up_to count s.logs head.few s.begins.each (let fewer = s.fewer in omega arith))
+      (expects_log count s.logs head.few s.begins.each s.fewer) s.next
 
   broken_in_log : (place : ℕ) → StopsInLog logs_text count place → IsFirstBroken bytes (3 + place)
   broken_in_log place s =
@@ -198,9 +208,9 @@ module _ (bytes first rest second logs_text : List ℕ) (count : ℕ) (e : bytes
             (line ∷ map step_line stops.steps),
         length-map stops.steps step_line,
       ))
-      (begins_up_to_steps count s.logs s.steps stops.steps few s.begins.each s.fewer s.few_steps
-      stops.begins.each (let fewer = stops.fewer in omega arith))
-      (expects_step count s.logs s.steps stops.steps few s.begins.each s.few_steps stops.fewer)
+      (begins_up_to_steps count s.logs s.steps stops.steps head.few s.begins.each s.fewer
+      s.few_steps stops.begins.each (let fewer = stops.fewer in omega arith))
+      (expects_step count s.logs s.steps stops.steps head.few s.begins.each s.few_steps stops.fewer)
       stops.next
 
   pub broken_in_logs : (fault : ProofFault) → LogsFault logs_text count fault → IsFault bytes fault
@@ -215,11 +225,12 @@ module _ (bytes first rest second logs_text : List ℕ) (count : ℕ) (e : bytes
     broken_at_end line place next =
         broken bytes (up_to count logs) left line (λ last.
         last ≡ codes "end") (by_lines (log_lines 1 logs) left b.text) (omega arith)
-        (begins_up_to count logs few b.each (omega arith))
-        (λ more c. (codes "end", [], expects_end count logs few b.each whole more c, refl)) next
+        (begins_up_to count logs head.few b.each (omega arith))
+        (λ more c.
+        (codes "end", [], expects_end count logs head.few b.each whole more c, refl)) next
 
     are : AreLogs logs
-    are = record { count = omega arith; each = b.each }
+    are = record { count = omega (arith, head.few); each = b.each }
 
     -- the lines of the whole certificate
     whole_lines : proof_lines logs ≡ up_to count logs ++ codes "end" ∷ []
@@ -243,7 +254,7 @@ module _ (bytes first rest second logs_text : List ℕ) (count : ℕ) (e : bytes
           (omega (arith, length-append (log_lines 1 logs) (codes "end" ∷ [])))
           (logs, are, whole_lines)
           (λ more c. let last_ones : codes "end" ∷ more ≡
-          codes "end" ∷ [] = expects_end count logs few b.each whole (codes "end" ∷ more)
+          codes "end" ∷ [] = expects_end count logs head.few b.each whole (codes "end" ∷ more)
           (subst AreCertificate (append_assoc (up_to count logs) (codes "end" ∷ []) more) c) in
           ap (λ z. behind z) last_ones)
           some

@@ -48,7 +48,11 @@ pub fn check_log(alloc: Global, clauses: &[Clause], log: &Log) -> Result<(), Log
     let mut work = Vec::new(alloc);
     let mut spare = Vec::new(alloc);
     'steps: for (i, step) in steps.iter().enumerate() {
-        if !is_derived(clauses, &steps[..i], step, &mut work, &mut spare)? {
+        let known = KnownClauses {
+            given: clauses,
+            earlier: &steps[..i],
+        };
+        if !is_derived(&known, step, &mut work, &mut spare)? {
             return Err(LogFault::Step(i as u32));
         }
     }
@@ -67,31 +71,37 @@ fn ends_empty(steps: &[Derived]) -> bool
     }
 }
 
-// Whether the step is derived from the clauses and the earlier steps. The two buffers hold the
-// clauses on the way.
+// The clauses that a chain cites by their numbers: those that are given, and those of the earlier
+// steps.
+#[derive(Clone, Copy)]
+struct KnownClauses<'a> {
+    given: &'a [Clause],
+    earlier: &'a [Derived],
+}
+
+// Whether the step is derived from the known clauses. The two buffers hold the clauses on the way.
 fn is_derived(
-    clauses: &[Clause],
-    earlier: &[Derived],
+    known: &KnownClauses,
     step: &Derived,
     work: &mut Vec<i32>,
     spare: &mut Vec<i32>,
 ) -> Result<bool, AllocError>
     ensures { IfOk result (λ yes. IsTrue yes ↔
-        IsDerived (clauses.now ++ clauses_of (map plain_step earlier.now)) (plain_step step.now)) }
+        IsDerived (known.now.given.now ++ clauses_of (map plain_step known.now.earlier.now))
+        (plain_step step.now)) }
 {
     let [first, rest @ ..] = step.chain.as_slice() else {
         return Ok(false);
     };
-    let Some(from) = numbered(clauses, earlier, *first) else {
+    let Some(from) = numbered(known, *first) else {
         return Ok(false);
     };
-    resolves_to(clauses, earlier, from, rest, &step.clause, work, spare)
+    resolves_to(known, from, rest, &step.clause, work, spare)
 }
 
 // Whether resolving from a clause along a chain gives a clause.
 fn resolves_to(
-    clauses: &[Clause],
-    earlier: &[Derived],
+    known: &KnownClauses,
     from: &Clause,
     chain: &[u64],
     clause: &Clause,
@@ -99,12 +109,12 @@ fn resolves_to(
     spare: &mut Vec<i32>,
 ) -> Result<bool, AllocError>
     ensures { IfOk result (λ yes. IsTrue yes ↔
-        ResolvesTo (clauses.now ++ clauses_of (map plain_step earlier.now))
+        ResolvesTo (known.now.given.now ++ clauses_of (map plain_step known.now.earlier.now))
         from.now chain.now clause.now) }
 {
     work.clear();
     work.extend_from_slice(from.literals())?;
-    if !resolve_chain(clauses, earlier, chain, work, spare)? {
+    if !resolve_chain(known, chain, work, spare)? {
         return Ok(false);
     }
     Ok(is_same(work.as_slice(), clause.literals()))
@@ -120,8 +130,7 @@ fn is_same(first: &[i32], second: &[i32]) -> bool
 
 // Resolves the clause in `work` with each numbered one in turn, as far as that can be done.
 fn resolve_chain(
-    clauses: &[Clause],
-    earlier: &[Derived],
+    known: &KnownClauses,
     chain: &[u64],
     work: &mut Vec<i32>,
     spare: &mut Vec<i32>,
@@ -130,14 +139,14 @@ fn resolve_chain(
     ensures normal { IfOk result (λ done. IsTrue done → IsClause work.new.items) }
     ensures done { IfOk result (λ done. IsTrue done → (clause : List ℤ) →
         SameLiterals work.new.items clause ↔
-        ResolvesTo (clauses.now ++ clauses_of (map plain_step earlier.now))
+        ResolvesTo (known.now.given.now ++ clauses_of (map plain_step known.now.earlier.now))
         work.old.items chain.now clause) }
     ensures stuck { IfOk result (λ done. IsFalse done → (clause : List ℤ) →
-        ResolvesTo (clauses.now ++ clauses_of (map plain_step earlier.now))
+        ResolvesTo (known.now.given.now ++ clauses_of (map plain_step known.now.earlier.now))
         work.old.items chain.now clause → ⊥) }
 {
     'chain: for number in chain {
-        let Some(next) = numbered(clauses, earlier, *number) else {
+        let Some(next) = numbered(known, *number) else {
             return Ok(false);
         };
         let Some(_pivot) = resolve_into(work.as_slice(), next.literals(), spare)? else {
@@ -148,19 +157,21 @@ fn resolve_chain(
     Ok(true)
 }
 
-// The clause of a number: from 1, the clauses and then those of the earlier steps.
-fn numbered<'a>(clauses: &'a [Clause], earlier: &'a [Derived], number: u64) -> Option<&'a Clause>
+// The clause of a number: from 1, those that are given and then those of the earlier steps.
+fn numbered<'a>(known: &KnownClauses<'a>, number: u64) -> Option<&'a Clause>
     ensures { option_copied result ≡
-        numbered (clauses.now ++ clauses_of (map plain_step earlier.now)) number }
+        numbered (known.now.given.now ++ clauses_of (map plain_step known.now.earlier.now)) number }
 {
     if number == 0 {
         return None;
     }
+    let given = known.given;
+    let earlier = known.earlier;
     let place = (number - 1) as usize;
-    if place < clauses.len() {
-        return Some(&clauses[place]);
+    if place < given.len() {
+        return Some(&given[place]);
     }
-    let place = place - clauses.len();
+    let place = place - given.len();
     if place < earlier.len() {
         return Some(&earlier[place].clause);
     }

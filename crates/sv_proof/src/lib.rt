@@ -19,7 +19,6 @@ mod laws;
 mod lines;
 mod read;
 mod steps;
-mod writable;
 mod write;
 
 pub use check::{LogFault, check_log};
@@ -27,5 +26,4 @@ pub use laws::{derived_logs_are_writable, one_certificate_each};
 pub use lines::line_of_fault;
 pub use read::{ProofFault, read_proof};
 pub use std::alloc::AllocError as OutOfMemory;
-pub use writable::know_writable;
 pub use write::write_proof;

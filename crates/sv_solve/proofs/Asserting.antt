@@ -8,17 +8,17 @@ use Rattle.sv_clause.specs.Logs.{numbered}
 use Rattle.sv_clause.specs.Units.{IsOpen}
 use Rattle.sv_clause.proofs.Merging.{neg-neg}
 use Rattle.sv_solve.specs.Lists.{EachOpen}
-use Rattle.sv_solve.specs.ConflictClauses.{IsLatest, IsAsserting, IsDraft}
+use Rattle.sv_solve.specs.ConflictClauses.{IsLatest, IsAsserting, IsMinimized}
 use Rattle.sv_solve.specs.Search.{OthersFalse, Implies}
 use Rattle.sv_solve.proofs.Clauses.{one_literal}
-use Rattle.sv_solve.proofs.Drafts.{draft_others}
+use Rattle.sv_solve.proofs.MinimizedClauses.{minimized_others}
 use Rattle.sv_solve.proofs.Places.{stands_take_le, not_stands_take_le}
 use Rattle.sv_solve.proofs.Trails.{stands_before}
 
 module _ (trail clause : List ℤ) (first : ℤ) (mark keep : ℕ) where
   -- the literal that the last kept one makes false
   latest_some : EachOpen trail → mark ≤ length trail → IsOpen (take mark trail) first
-      → IsDraft trail first clause 0 keep mark → (other : ℤ) → 0 < keep
+      → IsMinimized trail first clause 0 keep mark → (other : ℤ) → 0 < keep
       → other ≡ neg_ℤ (get_or trail (keep - 1) (pos 0))
       → IsLatest trail clause first keep (Some other)
   latest_some o size free d other some is =
@@ -34,7 +34,7 @@ module _ (trail clause : List ℤ) (first : ℤ) (mark keep : ℕ) where
       )
 
   latest_from : EachOpen trail → mark ≤ length trail → IsOpen (take mark trail) first
-      → IsClause clause → IsDraft trail first clause 0 keep mark
+      → IsClause clause → IsMinimized trail first clause 0 keep mark
       → (other : Option ℤ)
       → MatchOption other (keep ≡ 0) (λ last.
       (0 < keep) × (last ≡ neg_ℤ (get_or trail (keep - 1) (pos 0))))
@@ -47,7 +47,7 @@ module _ (trail clause : List ℤ) (first : ℤ) (mark keep : ℕ) where
   latest_from o size free up d (Some other) is = latest_some o size free d other is.0 is.1
 
   pub asserting : EachOpen trail → mark ≤ length trail → IsOpen (take mark trail) first
-      → IsClause clause → IsDraft trail first clause 0 keep mark
+      → IsClause clause → IsMinimized trail first clause 0 keep mark
       → (other : Option ℤ)
       → MatchOption other (keep ≡ 0) (λ last.
       (0 < keep) × (last ≡ neg_ℤ (get_or trail (keep - 1) (pos 0))))
@@ -57,7 +57,7 @@ module _ (trail clause : List ℤ) (first : ℤ) (mark keep : ℕ) where
         early = d.early;
         member = d.member;
         open_first = free;
-        others = draft_others trail first mark clause 0 keep keep size (omega arith) d.early d;
+        others = minimized_others trail first mark clause 0 keep keep size (omega arith) d.early d;
         latest = latest_from o size free up d other is;
       }
 

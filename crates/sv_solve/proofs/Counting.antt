@@ -1,11 +1,10 @@
 -- How many clauses there are over some variables.
-use Rattle.std.proofs.Common.{◌≡◌, ◌≢◌, ℕ, zero, suc, ◌+◌, ◌*◌, ◌<◌, ◌≤◌, ◌^◌, Bool, true, false}
+use Rattle.std.proofs.Common.{◌≡◌, ◌≢◌, ℕ, zero, suc, ◌<◌, ◌≤◌, ◌^◌, Bool, true, false}
 use Rattle.std.proofs.Common.{cond, ℤ, pos, negsuc, neg_ℤ, unsigned_abs, List, [], ◌∷◌, refl, sym}
-use Rattle.std.proofs.Common.{ap, ◌∙◌, ⊎_elim, length, get_or, map, eqb, arith}
+use Rattle.std.proofs.Common.{◌∙◌, ⊎_elim, length, get_or, map, eqb, arith}
 use Rattle.std.specs.Prelude.{All}
 use Rattle.std.specs.List.{list_any}
-use Rattle.std.proofs.Math.Nat.{pow-suc, mul-le-mul_left}
-use Rattle.std.proofs.lemmas.Bool.{false≢true, or_cases, cases_lt, cases_order, eqb-true, ne_eqb}
+use Rattle.std.proofs.lemmas.Bool.{false≢true, or_cases, cases_lt, eqb-true, ne_eqb}
 use Rattle.std.proofs.lemmas.Bool.{false_from_ne_true}
 use Rattle.std.proofs.lemmas.List.{get_or-map, length-map}
 use Rattle.std.proofs.lemmas.Map.Keys.{IsDistinct-from_apart}
@@ -17,60 +16,24 @@ use Rattle.sv_clause.proofs.SameClause.{same_clause}
 use Rattle.sv_solve.specs.Search.{IsClauseOf}
 use Rattle.sv_solve.specs.Answers.{AreDifferent}
 use Rattle.sv_solve.proofs.Clauses.{one_sign}
+use Rattle.sv_solve.proofs.Ternary.{AreTernary, number, number-below, same_digits}
 
 -- whether a variable stands in a clause, and in which polarity
-digit : ℕ → List ℤ → ℕ
-digit v clause = cond (stands (pos v) clause) 1 (cond (stands (neg_ℤ (pos v)) clause) 2 0)
+digit : List ℤ → ℕ → ℕ
+digit clause v = cond (stands (pos v) clause) 1 (cond (stands (neg_ℤ (pos v)) clause) 2 0)
 
--- the digits of the variables up to one, as a number
-number : ℕ → List ℤ → ℕ
-number zero clause = 0
-number (suc n) clause = number n clause + 3 ^ n * digit (suc n) clause
+-- a clause over some variables, as a number
+abbrev number_of : ℕ → List ℤ → ℕ
+number_of n clause = number (digit clause) n
 
 small_cond : (p q : Bool) → cond p 1 (cond q 2 0) ≤ 2
 small_cond true q = omega arith
 small_cond false true = omega arith
 small_cond false false = omega arith
 
-digit-small : (v : ℕ) (clause : List ℤ) → digit v clause ≤ 2
+are_ternary : (clause : List ℤ) → AreTernary (digit clause)
 unfolding digit
-digit-small v clause = small_cond (stands (pos v) clause) (stands (neg_ℤ (pos v)) clause)
-
-number-below : (n : ℕ) (clause : List ℤ) → number n clause < 3 ^ n
-unfolding number
-number-below zero clause = omega arith
-number-below (suc n) clause =
-    let below : number n clause < 3 ^ n = number-below n clause in
-    let top : 3 ^ n * digit (suc n) clause ≤ 3 ^ n * 2 =
-    mul-le-mul_left (3 ^ n) (digit-small (suc n) clause) in
-    let size : 3 ^ suc n ≡ 3 ^ n * 3 = pow-suc 3 n in
-    omega arith
-
-lower_top : (a b x y p : ℕ) → a < p → x < y → a + p * x ≡ b + p * y → ⊥
-lower_top a b x y p h lt e =
-    let step : x + 1 ≤ y = omega arith in
-    let more : p * (x + 1) ≤ p * y = mul-le-mul_left p step in
-    absurd (omega arith)
-
-same_top : (a b x y p : ℕ) → a < p → b < p → a + p * x ≡ b + p * y → (a ≡ b) × (x ≡ y)
-same_top a b x y p ha hb e =
-    let top : x ≡ y = ⊎_elim (λ same. same) (λ other.
-    ⊎_elim (λ lt. absurd (lower_top a b x y p ha lt e)) (λ gt.
-    absurd (lower_top b a y x p hb gt (sym e))) other) (cases_order x y) in
-    (let e' : a + p * y ≡ b + p * y = ap (λ z. a + p * z) (sym top) ∙ e in omega arith, top)
-
-same_digits : (n : ℕ) (c d : List ℤ) → number n c ≡ number n d → (v : ℕ) → 0 < v → v ≤ n →
-    digit v c ≡ digit v d
-unfolding number
-same_digits zero c d e v low high = absurd (omega arith)
-same_digits (suc n) c d e v low high =
-    let parts = same_top (number n c) (number n d) (digit (suc n) c) (digit (suc n) d) (3 ^ n)
-    (number-below n c) (number-below n d) e in
-    ⊎_elim
-    (λ same. ap (λ z. digit z c) same ∙ parts.1 ∙ ap (λ z. digit z d) (sym same))
-    (λ other. ⊎_elim (λ lt. same_digits n c d parts.0 v low (omega arith)) (λ gt.
-    absurd (omega arith)) other)
-    (cases_order v (suc n))
+are_ternary clause v = small_cond (stands (pos v) clause) (stands (neg_ℤ (pos v)) clause)
 
 same_conds : (p q r s : Bool) → (p ≡ true → q ≡ true → ⊥) → (r ≡ true → s ≡ true → ⊥) →
     ◌≡◌ {A = ℕ} (cond p 1 (cond q 2 0)) (cond r 1 (cond s 2 0)) → (p ≡ r) × (q ≡ s)
@@ -87,7 +50,7 @@ same_conds false false false true n m e = absurd (omega arith)
 same_conds false false false false n m e = (refl, refl)
 
 same_signs : (n : ℕ) (c d : List ℤ) (v : ℕ) → IsClauseOf n c → IsClauseOf n d →
-    digit v c ≡ digit v d → (stands (pos v) c ≡ stands (pos v) d)
+    digit c v ≡ digit d v → (stands (pos v) c ≡ stands (pos v) d)
     × (stands (neg_ℤ (pos v)) c ≡ stands (neg_ℤ (pos v)) d)
 unfolding digit
 same_signs n c d v hc hd e =
@@ -100,32 +63,35 @@ stands_not : (n : ℕ) (c : List ℤ) (l : ℤ) → IsClauseOf n c →
 stands_not n c l h out =
     false_from_ne_true (stands l c) (λ e. out (above 0 l c h.normal e) (h.within l e))
 
-same_literals : (n : ℕ) (c d : List ℤ) → IsClauseOf n c → IsClauseOf n d → number n c ≡ number n d →
-    SameLiterals c d
+same_literals : (n : ℕ) (c d : List ℤ) → IsClauseOf n c → IsClauseOf n d →
+    number_of n c ≡ number_of n d → SameLiterals c d
 same_literals n c d hc hd e (pos zero) =
     stands_not n c (pos zero) hc (λ low high. omega arith)
     ∙ sym (stands_not n d (pos zero) hd (λ low high. omega arith))
 same_literals n c d hc hd e (pos (suc k)) =
     ⊎_elim (λ high.
     (same_signs n c d (suc k) hc hd
-    (same_digits n c d e (suc k) (omega arith) (omega arith))).0)
+    (same_digits (digit c) (digit d) n (are_ternary c) (are_ternary d) e (suc k) (omega arith)
+    (omega arith))).0)
     (λ out. stands_not n c (pos (suc k)) hc (λ low high. omega arith)
     ∙ sym (stands_not n d (pos (suc k)) hd (λ low high. omega arith)))
     (cases_lt k n)
 same_literals n c d hc hd e (negsuc k) =
     ⊎_elim (λ high.
     (same_signs n c d (suc k) hc hd
-    (same_digits n c d e (suc k) (omega arith) (omega arith))).1)
+    (same_digits (digit c) (digit d) n (are_ternary c) (are_ternary d) e (suc k) (omega arith)
+    (omega arith))).1)
     (λ out. stands_not n c (negsuc k) hc (λ low high. omega arith)
     ∙ sym (stands_not n d (negsuc k) hd (λ low high. omega arith)))
     (cases_lt k n)
 
 -- a clause is known by its number
 same_number : (n : ℕ) (c d : List ℤ) → IsClauseOf n c → IsClauseOf n d →
-    number n c ≡ number n d → c ≡ d
+    number_of n c ≡ number_of n d → c ≡ d
 same_number n c d hc hd e = same_clause c d hc.normal hd.normal (same_literals n c d hc hd e)
 
-any_place : (test : ℕ → Bool) (xs : List ℕ) → list_any test xs ≡ true →
+-- an element that meets a test, where some does
+pub any_place : (test : ℕ → Bool) (xs : List ℕ) → list_any test xs ≡ true →
     (i : ℕ) × (i < length xs) × (test (get_or xs i 0) ≡ true)
 any_place test [] e = absurd (false≢true e)
 any_place test (x ∷ xs) e =
@@ -138,10 +104,11 @@ clauses_below : (n : ℕ) (clauses : List (List ℤ)) → All (IsClauseOf n) cla
     ((i j : ℕ) → i < j → j < length clauses → get_or clauses i [] ≢ get_or clauses j []) →
     length clauses ≤ 3 ^ n
 clauses_below n clauses of apart =
-    let numbers = map (number n) clauses in
-    let size : length numbers ≡ length clauses = length-map clauses (number n) in
-    let at : (i d : ℕ) → i < length clauses → get_or numbers i d ≡ number n (get_or clauses i []) =
-    λ i d h. get_or-map (number n) clauses i [] d h in
+    let numbers = map (number_of n) clauses in
+    let size : length numbers ≡ length clauses = length-map clauses (number_of n) in
+    let at : (i d : ℕ) → i < length clauses →
+    get_or numbers i d ≡ number_of n (get_or clauses i []) =
+    λ i d h. get_or-map (number_of n) clauses i [] d h in
     let most : length numbers ≤ 3 ^ n =
     length-le_from_distinct_below numbers (3 ^ n)
     (IsDistinct-from_apart eqb numbers
@@ -152,9 +119,10 @@ clauses_below n clauses of apart =
     (of j [] small) (sym (at i d (omega arith)) ∙ e ∙ at j d small)))))
     (λ q e. let r = any_place (eqb q) numbers e in
     let here : r.0 < length clauses = let low : r.0 < length numbers = r.1 in omega arith in
-    let is : q ≡ number n (get_or clauses r.0 []) =
+    let is : q ≡ number_of n (get_or clauses r.0 []) =
     eqb-true q (get_or numbers r.0 0) r.2 ∙ at r.0 0 here in
-    let below : number n (get_or clauses r.0 []) < 3 ^ n = number-below n (get_or clauses r.0 []) in
+    let below : number_of n (get_or clauses r.0 []) < 3 ^ n =
+    number-below (digit (get_or clauses r.0 [])) n (are_ternary (get_or clauses r.0 [])) in
     omega arith) in
     omega arith
 

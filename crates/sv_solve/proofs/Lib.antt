@@ -7,9 +7,10 @@ pub mod Between
 pub mod Seeing
 pub mod Deriving
 pub mod Learned
-pub mod Drafts
+pub mod MinimizedClauses
 pub mod Minimizing
 pub mod Asserting
+pub mod Ternary
 pub mod Counting
 pub mod Knowing
 pub mod Watched

@@ -1,4 +1,4 @@
--- The places of seen literals, from which a learned is shortened.
+-- The places of seen literals, from which a conflict clause is minimized.
 use Rattle.std.proofs.Common.{◌≡◌, ◌≢◌, ℕ, ◌+◌, ◌<◌, ◌≤◌, true, false, ◌&&◌, ◌||◌, ℤ, pos, neg_ℤ}
 use Rattle.std.proofs.Common.{List, [], ◌∷◌, ◌++◌, refl, sym, ap, ◌∙◌, subst, ⊎_elim, length, take}
 use Rattle.std.proofs.Common.{get_or, arith}
@@ -22,10 +22,20 @@ use Rattle.sv_clause.specs.Literals.{stands}
 use Rattle.sv_clause.proofs.Merging.{neg-neg}
 use Rattle.sv_clause.proofs.Standing.{cases_int}
 use Rattle.sv_solve.specs.Lists.{EachOpen}
-use Rattle.sv_solve.specs.ConflictClauses.{OthersSeen, IsSeenAt, ArePlaces}
-use Rattle.sv_solve.specs.Search.{IsConsistent, NoneSeen}
+use Rattle.sv_solve.specs.ConflictClauses.{IsMinimized, OthersSeen, IsSeenAt, ArePlaces}
+use Rattle.sv_solve.specs.Search.{IsConsistent, NoneSeen, Derives}
 use Rattle.sv_solve.proofs.Places.{stands_take_le, stands_more_cases, stands_more_here, same_tests}
 use Rattle.sv_solve.proofs.Trails.{stands_before}
+
+-- the places that are left ascend below a bound, and the literals that are kept make with those
+-- seen below the bound the clause that the chain derives
+abbrev pub GoesBack : List (List ℤ) → List ℤ → List ℤ → ℤ → ℕ → List ℕ → List ℤ → ℕ → List ℕ
+    → Type 0
+GoesBack clauses trail seen first mark chain literals keep places =
+    AllPairs ◌<◌ places
+    × ((bound : ℕ) × (bound ≤ mark) × ArePlaces seen trail places bound
+    × Derives clauses chain literals seen trail bound
+    × IsMinimized trail first literals bound keep mark)
 
 -- a literal stands at one place of a trail alone
 same_place : (trail : List ℤ) (i j : ℕ) → EachOpen trail → i < length trail → j < length trail →

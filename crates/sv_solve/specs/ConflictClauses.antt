@@ -29,9 +29,9 @@ abbrev pub BecameFalse : List ℤ → ℤ → ℕ → ℕ → Type 0
 BecameFalse trail literal from to =
     (i : ℕ) × (from ≤ i) × (i < to) × (slice_index_or trail i (pos 0) ≡ neg_ℤ literal)
 
--- a first literal and others, which became false from the bound on; the last of the first `keep`
--- literals makes one of them false
-pub record IsDraft (trail : List ℤ) (first : ℤ) (literals : List ℤ) (bound keep mark : ℕ) :
+-- a conflict clause minimized down to the bound: a first literal and others, which became false
+-- from the bound on; the last of the first `keep` literals makes one of them false
+pub record IsMinimized (trail : List ℤ) (first : ℤ) (literals : List ℤ) (bound keep mark : ℕ) :
     Type 0 where
   pub early : keep ≤ mark
   pub reach : 0 < keep → bound ≤ keep

@@ -11,8 +11,8 @@ use Rattle.sv_solve.specs.declared.solver.Solved.{Solved}
 use Rattle.sv_solve.specs.declared.solver.Solved.TheVariants as solved
 use Rattle.sv_solve.specs.declared.state.Begun.{Begun}
 use Rattle.sv_solve.specs.declared.state.Begun.TheVariants as begun
-use Rattle.sv_solve.specs.declared.search.Outcome.{Outcome}
-use Rattle.sv_solve.specs.declared.search.Outcome.TheVariants as outcome
+use Rattle.sv_solve.specs.declared.search.SearchOutcome.{SearchOutcome}
+use Rattle.sv_solve.specs.declared.search.SearchOutcome.TheVariants as outcome
 
 -- the log refutes the given clauses with one step more than was learned, which alone is empty
 pub record IsRefutation (known : Known) (log : Log) : Type 0 where
@@ -45,10 +45,10 @@ pub record IsFound (known : Known) (trail : Assigned) : Type 0 where
   pub rest : IsAtRest (clauses_known known) trail.literals
 
 -- all variables are assigned at rest, or the clauses are refuted, or one more is learned
-abbrev pub IsOutcome : Known → Outcome → Type 0
-IsOutcome known (outcome.Found trail) = IsFound known trail
-IsOutcome known (outcome.Refuted log) = IsRefutation known log
-IsOutcome known (outcome.Learned state) =
+abbrev pub IsSearchOutcome : Known → SearchOutcome → Type 0
+IsSearchOutcome known (outcome.Found trail) = IsFound known trail
+IsSearchOutcome known (outcome.Refuted log) = IsRefutation known log
+IsSearchOutcome known (outcome.Learned state) =
     (state.known.given ≡ known.given) × (length state.known.steps ≡ length known.steps + 1)
     × (state.known.variables ≡ known.variables)
 

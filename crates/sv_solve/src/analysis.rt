@@ -15,8 +15,8 @@ ghost use Rattle.sv_solve.specs.Search.{HasLater, NoneSeen, SomeSeen};
 use crate::kept::KeptClause;
 use crate::lists::LiteralList;
 use crate::literal::Literal;
-use crate::minimization::minimize;
-use crate::trail::Trail;
+use crate::minimization::{ImplicationPoint, minimize};
+use crate::trail::AssignmentTrail;
 use std::alloc::{AllocError, Global};
 use sv_clause::{Clause, Derived};
 
@@ -36,7 +36,11 @@ pub struct ConflictClause {
 }
 
 // Marks the false literals of a clause as seen: they stand in the resolvent so far.
-fn see(trail: &Trail, seen: &mut LiteralList, clause: &[Literal]) -> Result<(), AllocError>
+fn see(
+    trail: &AssignmentTrail,
+    seen: &mut LiteralList,
+    clause: &[Literal],
+) -> Result<(), AllocError>
     requires clause { IsClauseOf trail.now.variables clause.now }
     requires variables { seen.old.variables ≡ trail.now.variables }
     ensures seen { OnOk result ((literal : ℤ) → stands literal seen.new.literals ≡
@@ -60,7 +64,7 @@ fn see(trail: &Trail, seen: &mut LiteralList, clause: &[Literal]) -> Result<(), 
 }
 
 // Whether the negation of some literal of the trail from one place to another is seen.
-fn is_some_seen(trail: &Trail, seen: &LiteralList, from: usize, to: usize) -> bool
+fn is_some_seen(trail: &AssignmentTrail, seen: &LiteralList, from: usize, to: usize) -> bool
     requires from { from ≤ to }
     requires to { to ≤ length trail.now.literals }
     requires variables { seen.now.variables ≡ trail.now.variables }
@@ -77,7 +81,7 @@ fn is_some_seen(trail: &Trail, seen: &LiteralList, from: usize, to: usize) -> bo
 // Resolution step: resolves on the literal of the trail at a place with its reason.
 fn resolve_at(
     clauses: &[KeptClause],
-    trail: &Trail,
+    trail: &AssignmentTrail,
     seen: &mut LiteralList,
     chain: &mut Vec<u64>,
     place: usize,
@@ -104,7 +108,7 @@ fn resolve_at(
 // its place.
 fn resolve_to_first_uip(
     clauses: &[KeptClause],
-    trail: &Trail,
+    trail: &AssignmentTrail,
     seen: &mut LiteralList,
     chain: &mut Vec<u64>,
     mark: usize,
@@ -143,7 +147,7 @@ fn resolve_to_first_uip(
 // Resolves back from the trail's end until no seen literal is false: the empty clause is left.
 fn resolve_to_none(
     clauses: &[KeptClause],
-    trail: &Trail,
+    trail: &AssignmentTrail,
     seen: &mut LiteralList,
     chain: &mut Vec<u64>,
 ) -> Result<(), AllocError>
@@ -170,7 +174,7 @@ fn resolve_to_none(
 // Begins with a false clause: its literals alone are seen, and a chain starts with its number.
 fn begin(
     clauses: &[KeptClause],
-    trail: &Trail,
+    trail: &AssignmentTrail,
     seen: &mut LiteralList,
     chain: &mut Vec<u64>,
     conflict: usize,
@@ -191,7 +195,7 @@ fn begin(
 }
 
 // The last of the first literals of the trail, negated: the literal that became false last.
-fn last_of(trail: &Trail, keep: usize) -> Option<Literal>
+fn last_of(trail: &AssignmentTrail, keep: usize) -> Option<Literal>
     requires { keep ≤ length trail.now.literals }
     ensures { MatchOption result (keep ≡ 0) (λ last. (0 < keep) ×
         (last ≡ neg_ℤ (slice_index_or trail.now.literals (keep - 1) (pos 0)))) }
@@ -219,7 +223,7 @@ fn clause_of(alloc: Global, literals: &[i32]) -> Result<Clause, AllocError>
 pub fn learn(
     alloc: Global,
     clauses: &[KeptClause],
-    trail: &Trail,
+    trail: &AssignmentTrail,
     seen: &mut LiteralList,
     conflict: usize,
     mark: usize,
@@ -247,9 +251,13 @@ pub fn learn(
     begin(clauses, trail, seen, &mut chain, conflict)?;
     let place = resolve_to_first_uip(clauses, trail, seen, &mut chain, mark)?;
     let first = trail.at(place).negated();
-    let draft = minimize(alloc, clauses, trail, seen, &mut chain, mark, &first)?;
-    let clause = clause_of(alloc, &draft.literals)?;
-    let keep = draft.keep;
+    let point = ImplicationPoint {
+        asserting: first,
+        mark,
+    };
+    let minimized = minimize(alloc, clauses, trail, seen, &mut chain, &point)?;
+    let clause = clause_of(alloc, &minimized.literals)?;
+    let keep = minimized.keep;
     let other = last_of(trail, keep);
     chain.shrink_to_fit();
     Ok(ConflictClause {
@@ -264,7 +272,7 @@ pub fn learn(
 pub fn refute(
     alloc: Global,
     clauses: &[KeptClause],
-    trail: &Trail,
+    trail: &AssignmentTrail,
     seen: &mut LiteralList,
     conflict: usize,
 ) -> Result<Derived, AllocError>

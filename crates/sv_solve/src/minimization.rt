@@ -7,17 +7,17 @@ ghost use Rattle.sv_clause.specs.Literals.{stands};
 ghost use Rattle.sv_clause.specs.Units.{IsOpen};
 ghost use Rattle.sv_clause.specs.Logs.{ChainGives};
 ghost use Rattle.sv_solve.specs.Codes.{IsOf};
-ghost use Rattle.sv_solve.specs.ConflictClauses.{IsDraft, OthersSeen, ArePlaces};
+ghost use Rattle.sv_solve.specs.ConflictClauses.{IsMinimized, OthersSeen, ArePlaces};
 ghost use Rattle.sv_solve.specs.Search.{IsClauseOf, OthersFalse, IsImpliedAt, Derives};
 
 use crate::kept::KeptClause;
 use crate::lists::LiteralList;
 use crate::literal::Literal;
-use crate::trail::Trail;
+use crate::trail::AssignmentTrail;
 use std::alloc::{AllocError, Global};
 
 // The place below the mark at which a literal became false.
-fn place_below(trail: &Trail, literal: &Literal, mark: usize) -> Option<usize>
+fn place_below(trail: &AssignmentTrail, literal: &Literal, mark: usize) -> Option<usize>
     requires of { IsOf trail.now.variables literal.now }
     requires mark { mark ≤ length trail.now.literals }
     ensures none { IfNone result (IsFalse
@@ -40,7 +40,7 @@ fn place_below(trail: &Trail, literal: &Literal, mark: usize) -> Option<usize>
 
 // Whether a clause makes the literal at a place true, and all its other literals are seen and
 // became false before it.
-fn adds_none(clause: &[Literal], trail: &Trail, seen: &LiteralList, place: usize) -> bool
+fn adds_none(clause: &[Literal], trail: &AssignmentTrail, seen: &LiteralList, place: usize) -> bool
     requires clause { IsClauseOf trail.now.variables clause.now }
     requires variables { seen.now.variables ≡ trail.now.variables }
     requires place { place < length trail.now.literals }
@@ -74,7 +74,12 @@ fn adds_none(clause: &[Literal], trail: &Trail, seen: &LiteralList, place: usize
 
 // Redundancy: whether the literal at a place has a reason that makes it true, of which all other
 // literals are seen.
-fn is_redundant(clauses: &[KeptClause], trail: &Trail, seen: &LiteralList, place: usize) -> bool
+fn is_redundant(
+    clauses: &[KeptClause],
+    trail: &AssignmentTrail,
+    seen: &LiteralList,
+    place: usize,
+) -> bool
     requires clauses { All (IsClauseOf trail.now.variables) clauses.now }
     requires variables { seen.now.variables ≡ trail.now.variables }
     requires place { place < length trail.now.literals }
@@ -94,7 +99,7 @@ fn is_redundant(clauses: &[KeptClause], trail: &Trail, seen: &LiteralList, place
 // The places below the mark at which seen literals became false, in the trail's order.
 fn seen_places(
     alloc: Global,
-    trail: &Trail,
+    trail: &AssignmentTrail,
     seen: &LiteralList,
     mark: usize,
 ) -> Result<Vec<usize>, AllocError>
@@ -120,9 +125,18 @@ fn seen_places(
     Ok(places)
 }
 
-/// Draft of a conflict clause.
+/// First unique implication point, where resolution ends and minimization begins.
+#[derive(Clone, Copy)]
+pub struct ImplicationPoint {
+    /// Asserting literal: the negation of the literal there.
+    pub asserting: Literal,
+    /// Mark: the place of the newest decision.
+    pub mark: usize,
+}
+
+/// Minimized conflict clause.
 #[derive(Drop)]
-pub struct Draft {
+pub struct MinimizedClause {
     /// The asserting literal, and the others.
     pub literals: Vec<i32>,
     /// How many literals of the trail make all but the first false.
@@ -130,34 +144,34 @@ pub struct Draft {
 }
 
 /// Minimization: resolves on from the mark back, but only with reasons that bring no new literal,
-/// and keeps the other seen literals beside the first one. It goes from the last place to the first
-/// since a literal has to go before those that its reason brings back.
+/// and keeps the other seen literals beside the asserting one. It goes from the last place to the
+/// first since a literal has to go before those that its reason brings back.
 pub fn minimize(
     alloc: Global,
     clauses: &[KeptClause],
-    trail: &Trail,
+    trail: &AssignmentTrail,
     seen: &LiteralList,
     chain: &mut Vec<u64>,
-    mark: usize,
-    first: &Literal,
-) -> Result<Draft, AllocError>
+    point: &ImplicationPoint,
+) -> Result<MinimizedClause, AllocError>
     requires clauses { All (IsClauseOf trail.now.variables) clauses.now }
     requires variables { seen.now.variables ≡ trail.now.variables }
-    requires mark { mark ≤ length trail.now.literals }
-    requires first { IsTrue (stands (neg_ℤ first.now) trail.now.literals) }
-    requires open_first { IsOpen (take mark trail.now.literals) first.now }
-    requires derives { Derives clauses.now chain.old.items (first.now ∷ []) seen.now.literals
-        trail.now.literals mark }
-    ensures derives { IfOk result (λ draft.
-        ChainGives clauses.now chain.new.items draft.literals.items) }
-    ensures draft { IfOk result (λ draft.
-        IsDraft trail.now.literals first.now draft.literals.items 0 draft.keep mark) }
+    requires mark { point.now.mark ≤ length trail.now.literals }
+    requires first { IsTrue (stands (neg_ℤ point.now.asserting) trail.now.literals) }
+    requires open_first { IsOpen (take point.now.mark trail.now.literals) point.now.asserting }
+    requires derives { Derives clauses.now chain.old.items (point.now.asserting ∷ [])
+        seen.now.literals trail.now.literals point.now.mark }
+    ensures derives { IfOk result (λ clause.
+        ChainGives clauses.now chain.new.items clause.literals.items) }
+    ensures minimized { IfOk result (λ clause.
+        IsMinimized trail.now.literals point.now.asserting clause.literals.items 0 clause.keep
+        point.now.mark) }
 {
     // brings that the trail is consistent, and that each literal was open in those before it
     let _len = trail.len();
     let mut literals: Vec<i32> = Vec::new(alloc);
-    literals.push(first.signed())?;
-    let mut places = seen_places(alloc, trail, seen, mark)?;
+    literals.push(point.asserting.signed())?;
+    let mut places = seen_places(alloc, trail, seen, point.mark)?;
     let mut keep = 0;
     'back: while let Some(place) = places.pop() {
         if is_redundant(clauses, trail, seen, place) {
@@ -170,5 +184,5 @@ pub fn minimize(
         }
         keep = place + 1;
     }
-    Ok(Draft { literals, keep })
+    Ok(MinimizedClause { literals, keep })
 }

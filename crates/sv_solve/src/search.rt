@@ -2,20 +2,20 @@
 ghost use Rattle.std.specs.Prelude.{◌≡◌, IfOk, OnOk};
 ghost use Rattle.sv_solve.specs.Known.{clauses_known};
 ghost use Rattle.sv_solve.specs.Conflicts.{IsConflict};
-ghost use Rattle.sv_solve.specs.Outcomes.{IsOutcome};
+ghost use Rattle.sv_solve.specs.Outcomes.{IsSearchOutcome};
 
 use crate::lists::LiteralList;
 use crate::order::Order;
 use crate::state::State;
-use crate::trail::Trail;
+use crate::trail::AssignmentTrail;
 use std::alloc::{AllocError, Global};
 use sv_clause::Log;
 
-/// What a search came to.
+/// Outcome of the search up to one conflict.
 #[derive(Drop)]
-pub enum Outcome {
+pub enum SearchOutcome {
     /// All clauses are true under these literals.
-    Found(Trail),
+    Found(AssignmentTrail),
     /// The empty clause is derived.
     Refuted(Log),
     /// A conflict clause is learned.
@@ -29,9 +29,9 @@ pub fn search(
     state: State,
     seen: &mut LiteralList,
     order: &mut Order,
-) -> Result<Outcome, AllocError>
+) -> Result<SearchOutcome, AllocError>
     requires { seen.old.variables ≡ state.known.variables }
-    ensures outcome { IfOk result (IsOutcome state.known) }
+    ensures outcome { IfOk result (IsSearchOutcome state.known) }
     ensures variables { OnOk result (seen.new.variables ≡ seen.old.variables) }
 {
     let mut state = state;
@@ -41,7 +41,7 @@ pub fn search(
             return conclude(alloc, next, seen, order, conflict);
         }
         let Some(literal) = order.pick(next.trail()) else {
-            return Ok(Outcome::Found(next.into_trail()));
+            return Ok(SearchOutcome::Found(next.into_trail()));
         };
         state = next.decide(&literal)?;
     }
@@ -54,14 +54,14 @@ fn conclude(
     seen: &mut LiteralList,
     order: &mut Order,
     conflict: usize,
-) -> Result<Outcome, AllocError>
+) -> Result<SearchOutcome, AllocError>
     requires variables { seen.old.variables ≡ state.known.variables }
     requires conflict { IsConflict (clauses_known state.known) state.trail.literals conflict }
-    ensures outcome { IfOk result (IsOutcome state.known) }
+    ensures outcome { IfOk result (IsSearchOutcome state.known) }
     ensures variables { OnOk result (seen.new.variables ≡ seen.old.variables) }
 {
     if state.has_decided() {
-        return Ok(Outcome::Learned(state.learn(alloc, seen, order, conflict)?));
+        return Ok(SearchOutcome::Learned(state.learn(alloc, seen, order, conflict)?));
     }
-    Ok(Outcome::Refuted(state.refute(alloc, seen, conflict)?))
+    Ok(SearchOutcome::Refuted(state.refute(alloc, seen, conflict)?))
 }

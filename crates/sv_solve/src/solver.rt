@@ -14,9 +14,9 @@ use crate::OutOfMemory;
 use crate::lists::LiteralList;
 use crate::literal::Literal;
 use crate::order::Order;
-use crate::search::{Outcome, search};
+use crate::search::{SearchOutcome, search};
 use crate::state::{Begun, State};
-use crate::trail::Trail;
+use crate::trail::AssignmentTrail;
 use std::alloc::Global;
 use sv_clause::{Clause, Log};
 
@@ -32,7 +32,11 @@ pub enum Solved {
 }
 
 // The value of each variable under a trail.
-fn values_under(alloc: Global, variables: u32, trail: &Trail) -> Result<Vec<bool>, OutOfMemory>
+fn values_under(
+    alloc: Global,
+    variables: u32,
+    trail: &AssignmentTrail,
+) -> Result<Vec<bool>, OutOfMemory>
     requires small { trail.now.variables < 2 ^ 31 }
     ensures { IfOk result (λ values. AreValues variables trail.now values.items) }
 {
@@ -103,11 +107,11 @@ fn learn(
     let mut learned = 0;
     'budget: while learned < budget {
         match search(alloc, state, seen, order)? {
-            Outcome::Found(trail) => {
+            SearchOutcome::Found(trail) => {
                 return Ok(Solved::Found(values_under(alloc, variables, &trail)?));
             }
-            Outcome::Refuted(log) => return Ok(Solved::Refuted(log)),
-            Outcome::Learned(next) => state = next,
+            SearchOutcome::Refuted(log) => return Ok(Solved::Refuted(log)),
+            SearchOutcome::Learned(next) => state = next,
         }
         learned += 1;
     }

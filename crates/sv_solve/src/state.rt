@@ -22,7 +22,7 @@ use crate::knowledge::Knowledge;
 use crate::lists::LiteralList;
 use crate::literal::Literal;
 use crate::order::Order;
-use crate::trail::Trail;
+use crate::trail::AssignmentTrail;
 use crate::watches::{Pair, Watches};
 use std::alloc::{AllocError, Global};
 use std::marker::Model;
@@ -34,7 +34,7 @@ use sv_clause::{Clause, Log};
 #[derive(Drop)]
 pub struct State {
     known: Knowledge,
-    trail: Trail,
+    trail: AssignmentTrail,
     // one decision a level, the newest last
     decisions: Vec<usize>,
     watches: Watches,
@@ -112,7 +112,10 @@ fn watch_all(alloc: Global, variables: u32, clauses: &[KeptClause]) -> Result<Wa
 
 // Unit clauses: makes the literal of each true, and gives the place of a clause that is false, if
 // there is one.
-fn assume_units(clauses: &[KeptClause], trail: &mut Trail) -> Result<Option<usize>, AllocError>
+fn assume_units(
+    clauses: &[KeptClause],
+    trail: &mut AssignmentTrail,
+) -> Result<Option<usize>, AllocError>
     requires clauses { All (IsClauseOf trail.old.variables) clauses.now }
     requires empty { trail.old.literals ≡ [] }
     ensures conflict { IfOk result (λ found.
@@ -143,7 +146,7 @@ fn assume_units(clauses: &[KeptClause], trail: &mut Trail) -> Result<Option<usiz
 fn refute_known(
     alloc: Global,
     known: Knowledge,
-    trail: &Trail,
+    trail: &AssignmentTrail,
     seen: &mut LiteralList,
     conflict: usize,
 ) -> Result<Log, AllocError>
@@ -182,7 +185,7 @@ impl State {
         ensures variables { OnOk result (seen.new.variables ≡ seen.old.variables) }
     {
         let known = Knowledge::new(alloc, variables, clauses)?;
-        let mut trail = Trail::new(alloc, known.variables())?;
+        let mut trail = AssignmentTrail::new(alloc, known.variables())?;
         if let Some(conflict) = assume_units(known.clauses(), &mut trail)? {
             let log = refute_known(alloc, known, &trail, seen, conflict)?;
             return Ok(Begun::Refuted(log));
@@ -191,7 +194,11 @@ impl State {
     }
 
     // The state before any decision, where the first two literals of each clause are watched.
-    fn watching(alloc: Global, known: Knowledge, trail: Trail) -> Result<State, AllocError>
+    fn watching(
+        alloc: Global,
+        known: Knowledge,
+        trail: AssignmentTrail,
+    ) -> Result<State, AllocError>
         requires small { known.variables < 2 ^ 31 }
         requires variables { trail.variables ≡ known.variables }
         requires units { UnitsTrue (clauses_known known) trail.literals }
@@ -209,7 +216,7 @@ impl State {
     }
 
     /// The trail.
-    pub fn trail(&self) -> &Trail
+    pub fn trail(&self) -> &AssignmentTrail
         ensures value { result.now ≡ self.now.trail }
         ensures small { self.now.trail.variables < 2 ^ 31 }
         ensures room { length self.now.trail.literals ≤ 2 * self.now.known.variables + 2 }
@@ -371,7 +378,7 @@ impl State {
     }
 
     /// The trail alone.
-    pub fn into_trail(self) -> Trail
+    pub fn into_trail(self) -> AssignmentTrail
         ensures { result ≡ self.trail }
     {
         self.trail

@@ -15,15 +15,15 @@ use crate::literal::Literal;
 use std::alloc::{AllocError, Global};
 use std::marker::Model;
 
-/// Trail: the true literals in order. A literal that a clause made true has that clause's number,
-/// from 1, beside it as its reason.
+/// Trail: the true literals in the order in which they were assigned. A literal that a clause made
+/// true has that clause's number, from 1, beside it as its reason.
 #[derive(Drop)]
-pub struct Trail {
+pub struct AssignmentTrail {
     assigned: LiteralList,
     reasons: Vec<u64>,
 }
 
-impl Model for Trail {
+impl Model for AssignmentTrail {
     ghost use Rattle.sv_solve.specs.Lists.{Assigned, IsTrail};
 
     ghost Value = { Assigned };
@@ -37,16 +37,16 @@ impl Model for Trail {
     ghost invariant = { λ t. IsTrail t.assigned.literals t.reasons.items t.assigned.variables };
 }
 
-impl Trail {
+impl AssignmentTrail {
     /// The empty trail.
-    pub fn new(alloc: Global, variables: u32) -> Result<Trail, AllocError>
+    pub fn new(alloc: Global, variables: u32) -> Result<AssignmentTrail, AllocError>
         requires { variables < 2 ^ 31 }
         ensures literals { IfOk result (λ trail. trail.literals ≡ []) }
         ensures variables { IfOk result (λ trail. trail.variables ≡ variables) }
     {
         let assigned = LiteralList::new(alloc, variables)?;
         let reasons = vec![in alloc; 0; 2 * variables as usize + 2]?;
-        Ok(Trail { assigned, reasons })
+        Ok(AssignmentTrail { assigned, reasons })
     }
 
     /// How many literals are true.

@@ -15,7 +15,7 @@ ghost use Rattle.sv_solve.specs.Watching.{IsDemand};
 
 use crate::kept::KeptClause;
 use crate::literal::Literal;
-use crate::trail::Trail;
+use crate::trail::AssignmentTrail;
 use std::alloc::{AllocError, Global};
 use std::marker::Model;
 
@@ -115,7 +115,7 @@ impl Model for Watches {
 }
 
 // Whether a literal is another one than the kept one, and not false.
-fn is_watchable(literal: &Literal, trail: &Trail, kept: &Literal) -> bool
+fn is_watchable(literal: &Literal, trail: &AssignmentTrail, kept: &Literal) -> bool
     requires { IsOf trail.now.variables literal.now }
     ensures another { IsTrue result → literal.now ≢ kept.now }
     ensures not_false { IsTrue result → IsFalse (stands (neg_ℤ literal.now) trail.now.literals) }
@@ -126,7 +126,7 @@ fn is_watchable(literal: &Literal, trail: &Trail, kept: &Literal) -> bool
 }
 
 // A literal of the clause other than the kept one that is not false, if there is one.
-fn next_watch(clause: &[Literal], trail: &Trail, kept: &Literal) -> Option<Literal>
+fn next_watch(clause: &[Literal], trail: &AssignmentTrail, kept: &Literal) -> Option<Literal>
     requires { IsClauseOf trail.now.variables clause.now }
     ensures member { IfSome result (λ literal. IsTrue (stands literal clause.now)) }
     ensures another { IfSome result (λ literal. literal ≢ kept.now) }
@@ -153,7 +153,7 @@ enum Demand {
 }
 
 // Looks at a clause of which one watched literal became false and the other one is kept.
-fn demand_of(clause: &[Literal], trail: &Trail, kept: &Literal) -> Demand
+fn demand_of(clause: &[Literal], trail: &AssignmentTrail, kept: &Literal) -> Demand
     requires of { IsClauseOf trail.now.variables clause.now }
     requires member { IsTrue (stands kept.now clause.now) }
     ensures { IsDemand trail.now.literals clause.now kept.now result }
@@ -238,7 +238,7 @@ impl Watches {
     fn visit(
         &mut self,
         clauses: &[KeptClause],
-        trail: &mut Trail,
+        trail: &mut AssignmentTrail,
         falsified: &Literal,
     ) -> Result<Option<usize>, AllocError>
         requires clauses { All (IsClauseOf trail.old.variables) clauses.now }
@@ -290,7 +290,7 @@ impl Watches {
     pub fn propagate(
         &mut self,
         clauses: &[KeptClause],
-        trail: &mut Trail,
+        trail: &mut AssignmentTrail,
         from: usize,
     ) -> Result<Option<usize>, AllocError>
         requires clauses { All (IsClauseOf trail.old.variables) clauses.now }

@@ -6,8 +6,11 @@ use Rattle.sv_clause.specs.declared.logs.Log.{Log}
 use Rattle.sv_clause.specs.Units.{IsSpentLog, IsUnitConflict}
 use Rattle.sv_gates.specs.Formulas.{IsWithin, value_of}
 use Rattle.sv_flat.specs.Views.{design_of}
+use Rattle.sv_obl.specs.Validity.{Falsifies}
+use Rattle.sv_obl.specs.Valuations.{valuation_of}
 use Rattle.sv_obl.specs.Views.{obligation_of}
-use Rattle.sv_encoding.specs.Encoding.{BitPlace}
+use Rattle.sv_encoding.specs.BothWays.{IsZeroOutside}
+use Rattle.sv_encoding.specs.Deciding.{Fits}
 use Rattle.sv_encoding.specs.Valuations.{decoded}
 use Rattle.sv_blast.specs.Coded.{place_form}
 use Rattle.sv_blast.specs.Coders.{encoding_in}
@@ -16,9 +19,9 @@ use Rattle.sv_blast.proofs.DecodedLists.{whole_decodes}
 use Rattle.sv_solve.specs.Answers.{IsNotSpent as IsNotSpentThere}
 use Rattle.sv_solve.specs.declared.solver.Solved.{Solved}
 use Rattle.sv_solve.specs.declared.solver.Solved.TheVariants.{Spent}
-use Rattle.sv_decide.proofs.FoundValues.{clauses_same, variables_same, made_fits}
-use Rattle.sv_decide.proofs.FoundValues.{found_falsifies, found_zero}
+use Rattle.sv_decide.proofs.FoundValues.{clauses_same, variables_same, made_fits, found}
 use Rattle.sv_decide.proofs.deciding.decide_by.Goals as goal
+use Rattle.sv_decide.proofs.deciding.decide_by.Goals.{In_ok-encode, In_ok-spelled-in-Found}
 
 pub solve-requires-clause-within : goal.solve-requires-clause-within
 solve-requires-clause-within c =
@@ -39,46 +42,51 @@ spelled-requires c =
           (encoding_in c.encode.new.self) c.in_ok-encode.ensures.whole));
     }
 
+-- the encoding that was made has few variables
+fits : (c : In_ok-encode) → Fits (design_of c.args.design.now) (obligation_of c.args.query.now)
+fits c =
+    made_fits (design_of c.args.design.now) (obligation_of c.args.query.now)
+    (encoding_in c.encode.new.self) c.in_ok-encode.ensures.coded c.in_ok-encode.ensures.few
+
 pub returns-in_ok-spelled-in-Found-clause-fits : goal.returns-in_ok-spelled-in-Found-clause-fits
 returns-in_ok-spelled-in-Found-clause-fits c =
-    made_fits (design_of c.args.design.now) (obligation_of c.args.query.now)
-    (encoding_in c.encode.new.self) c.in_ok-encode.ensures.coded c.in_ok-encode.ensures.few
+    fits (goal.at.returns-in_ok-spelled-in-Found-clause-fits c).In_ok-encode
 
 pub returns-in-Refuted-clause-fits : goal.returns-in-Refuted-clause-fits
-returns-in-Refuted-clause-fits c =
-    made_fits (design_of c.args.design.now) (obligation_of c.args.query.now)
-    (encoding_in c.encode.new.self) c.in_ok-encode.ensures.coded c.in_ok-encode.ensures.few
+returns-in-Refuted-clause-fits c = fits (goal.at.returns-in-Refuted-clause-fits c).In_ok-encode
 
 pub returns-in-Spent-clause-fits : goal.returns-in-Spent-clause-fits
-returns-in-Spent-clause-fits c =
-    made_fits (design_of c.args.design.now) (obligation_of c.args.query.now)
-    (encoding_in c.encode.new.self) c.in_ok-encode.ensures.coded c.in_ok-encode.ensures.few
+returns-in-Spent-clause-fits c = fits (goal.at.returns-in-Spent-clause-fits c).In_ok-encode
+
+-- the valuation that was spelled falsifies the obligation, and is 0 where nothing hangs on it
+falsified : (c : In_ok-spelled-in-Found) →
+    Falsifies (design_of c.args.design.now)
+    (valuation_of (design_of c.args.design.now) c.in_ok-spelled-in-Found.field-0)
+    (obligation_of c.args.query.now)
+    × IsZeroOutside (design_of c.args.design.now) (obligation_of c.args.query.now)
+    (valuation_of (design_of c.args.design.now) c.in_ok-spelled-in-Found.field-0)
+falsified c =
+    let design = design_of c.args.design.now in
+    found design (obligation_of c.args.query.now) (encoding_in c.encode.new.self)
+    c.in_ok-encode.ensures.coded c.know_design.ensures.checked c.requires.query
+    c.in_ok-encode.ensures.whole c.clauses.result.now c.clauses.ensures
+    (map place_form c.bits.result.now) c.bits.ensures c.in-Found.values.items
+    (rw c.in-Found.is at c.in_ok-values.ensures.found) c.in_ok-spelled-in-Found.field-0
+    (subst (λ (values : List Bool). ListsValues design
+    (decoded design (map place_form c.bits.result.now) (value_of values))
+    c.in_ok-spelled-in-Found.field-0) c.deref.ensures.value
+    c.in_ok-spelled-in-Found.ensures.spelled)
 
 pub returns-in_ok-spelled-in-Found-clause-fails : goal.returns-in_ok-spelled-in-Found-clause-fails
 returns-in_ok-spelled-in-Found-clause-fails c =
-    let design = design_of c.args.design.now in
-    found_falsifies design (obligation_of c.args.query.now) (encoding_in c.encode.new.self)
-    c.in_ok-encode.ensures.coded c.know_design.ensures.checked c.requires.query
-    c.in_ok-encode.ensures.whole c.clauses.result.now c.clauses.ensures
-    (map place_form c.bits.result.now) c.bits.ensures c.in-Found.values.items
-    (rw c.in-Found.is at c.in_ok-values.ensures.found) c.in_ok-spelled-in-Found.field-0
-    (subst (λ (values : List Bool). ListsValues design
-    (decoded design (map place_form c.bits.result.now) (value_of values))
-    c.in_ok-spelled-in-Found.field-0) c.deref.ensures.value
-    c.in_ok-spelled-in-Found.ensures.spelled)
+    (falsified
+    (goal.at.returns-in_ok-spelled-in-Found-clause-fails c).In_ok-spelled-in-Found).0
 
-pub returns-in_ok-spelled-in-Found-clause-fails_zero : goal.returns-in_ok-spelled-in-Found-clause-fails_zero
+pub returns-in_ok-spelled-in-Found-clause-fails_zero :
+    goal.returns-in_ok-spelled-in-Found-clause-fails_zero
 returns-in_ok-spelled-in-Found-clause-fails_zero c =
-    let design = design_of c.args.design.now in
-    found_zero design (obligation_of c.args.query.now) (encoding_in c.encode.new.self)
-    c.in_ok-encode.ensures.coded c.know_design.ensures.checked c.requires.query
-    c.in_ok-encode.ensures.whole c.clauses.result.now c.clauses.ensures
-    (map place_form c.bits.result.now) c.bits.ensures c.in-Found.values.items
-    (rw c.in-Found.is at c.in_ok-values.ensures.found) c.in_ok-spelled-in-Found.field-0
-    (subst (λ (values : List Bool). ListsValues design
-    (decoded design (map place_form c.bits.result.now) (value_of values))
-    c.in_ok-spelled-in-Found.field-0) c.deref.ensures.value
-    c.in_ok-spelled-in-Found.ensures.spelled)
+    (falsified
+    (goal.at.returns-in_ok-spelled-in-Found-clause-fails_zero c).In_ok-spelled-in-Found).1
 
 pub returns-in-Refuted-clause-valid : goal.returns-in-Refuted-clause-valid
 returns-in-Refuted-clause-valid c =

@@ -4,7 +4,7 @@ use Rattle.sv_flat.specs.Views.{design_of}
 use Rattle.sv_obl.specs.declared.queries.Goal.{Goal}
 use Rattle.sv_obl.specs.DesignQueries.{IsGoalOf}
 use Rattle.sv_obl.specs.Views.{obligation_of, goal_form}
-use Rattle.sv_decide.specs.declared.failing.Asked.TheVariants.{Flow, Truth}
+use Rattle.sv_decide.specs.declared.failing.EvaluatedGoal.TheVariants.{Flow, Truth}
 use Rattle.sv_decide.specs.Simulating.{asked_in}
 use Rattle.sv_decide.proofs.AskedSignals.{goal_known}
 use Rattle.sv_decide.proofs.failing.asked_by.Goals as goal

@@ -4,7 +4,7 @@ use Rattle.sv_flat.specs.ByNumber.{by_number}
 use Rattle.sv_flat.specs.FlatSystem.{flat_system}
 use Rattle.sv_flat.specs.Views.{design_of}
 use Rattle.sv_obl.proofs.PieceFacts.{any_formed}
-use Rattle.sv_decide.specs.declared.failing.Asked.{Asked}
+use Rattle.sv_decide.specs.declared.failing.EvaluatedGoal.{EvaluatedGoal}
 use Rattle.sv_decide.specs.Simulating.{fails_by}
 use Rattle.sv_decide.proofs.failing.fails_by.Goals as goal
 
@@ -16,5 +16,5 @@ returns-in-Flow c =
     c.some_stays.ensures
     ∙ any_formed (λ (s : SigId). s.0)
     (λ t. not (system.flows (system.label t now) c.in-Flow.point)) c.args.reads.now
-    ∙ ap (λ (asked : Asked).
+    ∙ ap (λ (asked : EvaluatedGoal).
     fails_by design (map (λ (s : SigId). s.0) c.args.reads.now) now asked) (sym c.in-Flow.is)

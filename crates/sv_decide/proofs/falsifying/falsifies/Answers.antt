@@ -11,7 +11,7 @@ use Rattle.sv_obl.specs.Noninterference.{IsChecked}
 use Rattle.sv_obl.specs.Validity.{Falsifies, goal_frame}
 use Rattle.sv_obl.specs.Valuations.{valuation_of}
 use Rattle.sv_obl.specs.Views.{obligation_of, goal_form}
-use Rattle.sv_decide.specs.declared.failing.Asked.{Asked}
+use Rattle.sv_decide.specs.declared.failing.EvaluatedGoal.{EvaluatedGoal}
 use Rattle.sv_decide.specs.Simulating.{IsOfFrame, asked_in, shows_failing}
 use Rattle.sv_decide.proofs.FalsifiedCycles.{told_is}
 use Rattle.sv_decide.proofs.SettledCycles.{IsSettledNow}
@@ -25,7 +25,7 @@ module _ (flat d : Flat) (d_is : d ≡ flat) (checked : IsChecked (design_of fla
     (now_is : now_seen ≡ now)
     (of_frame : IsOfFrame (design_of flat) (valuation_of (design_of flat) v) frame
     (by_number there))
-    (settled : IsSettledNow flat v now) (asked : Asked)
+    (settled : IsSettledNow flat v now) (asked : EvaluatedGoal)
     (asked_is : asked ≡ asked_in (design_of d) (by_number there_seen) (goal_form query.goal))
     (told : Bool)
     (told_there : told ≡ shows_failing (design_of d) (obligation_of query) (by_number now_seen)
@@ -34,7 +34,8 @@ module _ (flat d : Flat) (d_is : d ≡ flat) (checked : IsChecked (design_of fla
       (asked_in (design_of flat) (by_number there) (goal_form query.goal))
   told_same =
       told_there
-      ∙ ap (λ (x : Asked). shows_failing (design_of d) (obligation_of query) (by_number now_seen) x)
+      ∙ ap (λ (x : EvaluatedGoal).
+      shows_failing (design_of d) (obligation_of query) (by_number now_seen) x)
       asked_is
       ∙ ap (λ (e : Flat). shows_failing (design_of e) (obligation_of query) (by_number now_seen)
       (asked_in (design_of e) (by_number there_seen) (goal_form query.goal))) d_is

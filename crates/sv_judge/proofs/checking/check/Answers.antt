@@ -5,7 +5,7 @@ use Rattle.sv_flat.specs.Views.{design_of}
 use Rattle.sv_proof.specs.Certificate.{AreLogs}
 use Rattle.sv_judge.specs.Answers.{WhereAccepted, WhereUnknown, IsNotUnknown}
 use Rattle.sv_judge.specs.Verdicts.{IsAccepted, AreRefutations, AreWithin, IsSpent}
-use Rattle.sv_judge.specs.Progress.{IsStop}
+use Rattle.sv_judge.specs.Progress.{IsEarlyStop}
 use Rattle.sv_judge.proofs.EndedFacts.{accepted, refutations, within, writable, none_kept}
 use Rattle.sv_judge.proofs.EndedFacts.{unknown}
 use Rattle.sv_judge.proofs.EndedFacts.{large, units}
@@ -75,25 +75,25 @@ returns-in-Ok-clause-units c = λ each.
 
 pub returns-in-Err-Fails-clause-fails : goal.returns-in-Err-Fails-clause-fails
 returns-in-Err-Fails-clause-fails c =
-    (subst (IsStop (design_of c.args.design.now) c.args.budget) c.in-Err-Fails.field-0-is
+    (subst (IsEarlyStop (design_of c.args.design.now) c.args.budget) c.in-Err-Fails.field-0-is
     c.in-Err-Fails.ensures.stop).falsified
 
 pub returns-in-Err-Fails-clause-query : goal.returns-in-Err-Fails-clause-query
 returns-in-Err-Fails-clause-query c =
-    (subst (IsStop (design_of c.args.design.now) c.args.budget) c.in-Err-Fails.field-0-is
+    (subst (IsEarlyStop (design_of c.args.design.now) c.args.budget) c.in-Err-Fails.field-0-is
     c.in-Err-Fails.ensures.stop).among
 
 pub returns-in-Err-Fails-clause-of_design : goal.returns-in-Err-Fails-clause-of_design
 returns-in-Err-Fails-clause-of_design c =
-    (subst (IsStop (design_of c.args.design.now) c.args.budget) c.in-Err-Fails.field-0-is
+    (subst (IsEarlyStop (design_of c.args.design.now) c.args.budget) c.in-Err-Fails.field-0-is
     c.in-Err-Fails.ensures.stop).query
 
 pub returns-in-Err-Fails-clause-placed : goal.returns-in-Err-Fails-clause-placed
 returns-in-Err-Fails-clause-placed c =
-    (subst (IsStop (design_of c.args.design.now) c.args.budget) c.in-Err-Fails.field-0-is
+    (subst (IsEarlyStop (design_of c.args.design.now) c.args.budget) c.in-Err-Fails.field-0-is
     c.in-Err-Fails.ensures.stop).placed
 
 pub returns-in-Err-TooLarge-clause-too_large : goal.returns-in-Err-TooLarge-clause-too_large
 returns-in-Err-TooLarge-clause-too_large c =
-    subst (IsStop (design_of c.args.design.now) c.args.budget) c.in-Err-TooLarge.field-0-is
+    subst (IsEarlyStop (design_of c.args.design.now) c.args.budget) c.in-Err-TooLarge.field-0-is
     c.in-Err-TooLarge.ensures.stop

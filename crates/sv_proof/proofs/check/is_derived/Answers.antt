@@ -8,7 +8,8 @@ use Rattle.sv_proof.proofs.check.is_derived.Goals as goal
 
 pub returns : goal.returns
 returns c =
-    let all = c.args.clauses.now ++ clauses_of (map plain_step c.args.earlier.now) in
+    let known = c.args.known.now in
+    let all = known.given.now ++ clauses_of (map plain_step known.earlier.now) in
     let chain = c.as_slice.result.now in
     let rest = between 1 (length chain) chain in
     let from = c.in-Some.from.now in

@@ -5,11 +5,11 @@ use Rattle.sv_proof.proofs.check.numbered.Goals as goal
 pub returns-then-place-earlier : goal.returns-then-place-earlier
 returns-then-place-earlier c =
     ap (λ z. Some z.clause) (sym c.index-earlier-place.is)
-    ∙ numbered_step c.args.clauses.now c.args.earlier.now c.args.number
+    ∙ numbered_step c.args.known.now.given.now c.args.known.now.earlier.now c.args.number
     c.index-earlier-place.result (omega arith) (omega arith) (omega arith)
     c.index-earlier-place.is
 
 pub returns : goal.returns
 returns c =
-    numbered_past c.args.clauses.now c.args.earlier.now c.args.number (omega arith) (omega arith)
-    (omega arith)
+    numbered_past c.args.known.now.given.now c.args.known.now.earlier.now c.args.number
+    (omega arith) (omega arith) (omega arith)

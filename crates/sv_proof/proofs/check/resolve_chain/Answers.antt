@@ -7,7 +7,8 @@ use Rattle.sv_proof.proofs.check.resolve_chain.Goals as goal
 
 pub chain-preserved : goal.chain-preserved
 chain-preserved c =
-    let all = c.args.clauses.now ++ clauses_of (map plain_step c.args.earlier.now) in
+    let known = c.args.known.now in
+    let all = known.given.now ++ clauses_of (map plain_step known.earlier.now) in
     let out = c.resolve_into.new.out.items in
     let found = rw c.in-Some-2.is at c.in_ok-_pivot.ensures.resolvent in
     let from_work = subst (λ z. IsResolvent z c.literals.result.now c.in-Some-2._pivot out)

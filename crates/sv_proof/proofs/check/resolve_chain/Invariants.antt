@@ -5,5 +5,5 @@ use Rattle.sv_proof.proofs.check.resolve_chain.Given as goal
 
 abbrev pub invariant-chain : goal.invariant-chain
 invariant-chain l =
-    GoesOn (l.clauses ++ clauses_of (map plain_step l.earlier)) l.fn.work.items l.chain l.work.items
-    l.number-index
+    GoesOn (l.known.given.now ++ clauses_of (map plain_step l.known.earlier.now))
+    l.fn.work.items l.chain l.work.items l.number-index

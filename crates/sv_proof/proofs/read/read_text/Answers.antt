@@ -5,8 +5,25 @@ use Rattle.std.proofs.lemmas.List.{nil_from_length}
 use Rattle.sv_proof.specs.Certificate.{plain_logs}
 use Rattle.sv_proof.proofs.Following.{no_next_unended, no_next_wrong}
 use Rattle.sv_proof.proofs.Beginning.{IsCountLine, broken_first, broken_second, broken_in_logs}
-use Rattle.sv_proof.proofs.Beginning.{broken_at_end, broken_behind, read_whole}
+use Rattle.sv_proof.proofs.Beginning.{IsHeaded, broken_at_end, broken_behind, read_whole}
 use Rattle.sv_proof.proofs.read.read_text.Goals as goal
+use Rattle.sv_proof.proofs.read.read_text.Goals.{In-Some-read_counted}
+
+-- the two lines before the logs
+headed : (c : In-Some-read_counted) →
+    IsHeaded c.args.bytes.now c.in-Some-split_first.rest.now c.in-Some-read_counted.count
+headed c =
+    let counted = c.in-Some-read_counted.ensures.some in
+    record {
+      first = c.in-Some.first.now;
+      rest = c.in-Some.rest.now;
+      second = c.in-Some-split_first.second.now;
+      splits = c.in-Some.ensures.some.0;
+      is_first = c.is_line.ensures.0 c.if-not-is_line.false;
+      splits_rest = c.in-Some-split_first.ensures.some.0;
+      is_second = counted.0;
+      few = counted.1;
+    }
 
 pub returns-in_default-clause-fault : goal.returns-in_default-clause-fault
 returns-in_default-clause-fault c =
@@ -38,37 +55,28 @@ returns-in_default-read_counted-clause-fault c =
 pub returns-in_err-logs-clause-fault : goal.returns-in_err-logs-clause-fault
 returns-in_err-logs-clause-fault c =
     let p = err_from_is_err_and c.from_residual.result c.from_residual.ensures.1 in
-    let counted = c.in-Some-read_counted.ensures.some in
     rw (p.1, p.2)
-    (broken_in_logs c.args.bytes.now c.in-Some.first.now c.in-Some.rest.now
-    c.in-Some-split_first.second.now c.in-Some-split_first.rest.now c.in-Some-read_counted.count
-    c.in-Some.ensures.some.0 (c.is_line.ensures.0 c.if-not-is_line.false)
-    c.in-Some-split_first.ensures.some.0 counted.0 counted.1 c.in_err-logs.field-0.0
-    c.in_err-logs.ensures.fault)
+    (broken_in_logs _ _ _ (headed (goal.at.returns-in_err-logs-clause-fault c).In-Some-read_counted)
+    c.in_err-logs.field-0.0 c.in_err-logs.ensures.fault)
 
 pub returns-in_default-split_first-2-clause-fault :
     goal.returns-in_default-split_first-2-clause-fault
 returns-in_default-split_first-2-clause-fault c =
-    let counted = c.in-Some-read_counted.ensures.some in
+    let s = (goal.at.returns-in_default-split_first-2-clause-fault c).In-Some-read_counted in
+    let head = headed s in
     let read = c.in_ok-logs.logs in
-    broken_at_end c.args.bytes.now c.in-Some.first.now c.in-Some.rest.now
-    c.in-Some-split_first.second.now c.in-Some-split_first.rest.now c.in-Some-read_counted.count
-    c.in-Some.ensures.some.0 (c.is_line.ensures.0 c.if-not-is_line.false)
-    c.in-Some-split_first.ensures.some.0 counted.0 counted.1
-    (plain_logs read.logs.items) read.rest.now c.in_ok-logs.ensures.logs c.in_ok-logs.ensures.count
+    broken_at_end _ _ _ head (plain_logs read.logs.items) read.rest.now
+    c.in_ok-logs.ensures.logs c.in_ok-logs.ensures.count
     read.line c.in_ok-logs.ensures.line
     (no_next_unended (λ last.
     last ≡ codes "end") read.rest.now (c.in_default-split_first-2.ensures.none refl))
 
 pub returns-then-not-is_line-2-clause-fault : goal.returns-then-not-is_line-2-clause-fault
 returns-then-not-is_line-2-clause-fault c =
-    let counted = c.in-Some-read_counted.ensures.some in
+    let head = headed (goal.at.returns-then-not-is_line-2-clause-fault c).In-Some-read_counted in
     let read = c.in_ok-logs.logs in
-    broken_at_end c.args.bytes.now c.in-Some.first.now c.in-Some.rest.now
-    c.in-Some-split_first.second.now c.in-Some-split_first.rest.now c.in-Some-read_counted.count
-    c.in-Some.ensures.some.0 (c.is_line.ensures.0 c.if-not-is_line.false)
-    c.in-Some-split_first.ensures.some.0 counted.0 counted.1
-    (plain_logs read.logs.items) read.rest.now c.in_ok-logs.ensures.logs c.in_ok-logs.ensures.count
+    broken_at_end _ _ _ head (plain_logs read.logs.items) read.rest.now
+    c.in_ok-logs.ensures.logs c.in_ok-logs.ensures.count
     read.line c.in_ok-logs.ensures.line
     (no_next_wrong (λ last. last ≡ codes "end") read.rest.now c.in-Some-split_first-2.last.now
     c.in-Some-split_first-2.rest.now c.in-Some-split_first-2.ensures.some.0
@@ -77,13 +85,10 @@ returns-then-not-is_line-2-clause-fault c =
 
 pub returns-then-not-is_empty-clause-fault : goal.returns-then-not-is_empty-clause-fault
 returns-then-not-is_empty-clause-fault c =
-    let counted = c.in-Some-read_counted.ensures.some in
+    let head = headed (goal.at.returns-then-not-is_empty-clause-fault c).In-Some-read_counted in
     let read = c.in_ok-logs.logs in
-    broken_behind c.args.bytes.now c.in-Some.first.now c.in-Some.rest.now
-    c.in-Some-split_first.second.now c.in-Some-split_first.rest.now c.in-Some-read_counted.count
-    c.in-Some.ensures.some.0 (c.is_line.ensures.0 c.if-not-is_line.false)
-    c.in-Some-split_first.ensures.some.0 counted.0 counted.1
-    (plain_logs read.logs.items) read.rest.now c.in_ok-logs.ensures.logs c.in_ok-logs.ensures.count
+    broken_behind _ _ _ head (plain_logs read.logs.items) read.rest.now
+    c.in_ok-logs.ensures.logs c.in_ok-logs.ensures.count
     c.in-Some-split_first-2.last.now c.in-Some-split_first-2.rest.now
     c.in-Some-split_first-2.ensures.some.0 (c.is_line-2.ensures.0 c.if-not-is_line-2.false)
     read.line c.in_ok-logs.ensures.line
@@ -93,13 +98,10 @@ returns-then-not-is_empty-clause-fault c =
 
 pub returns-clause-text : goal.returns-clause-text
 returns-clause-text c =
-    let counted = c.in-Some-read_counted.ensures.some in
+    let head = headed (goal.at.returns-clause-text c).In-Some-read_counted in
     let read = c.in_ok-logs.logs in
-    read_whole c.args.bytes.now c.in-Some.first.now c.in-Some.rest.now
-    c.in-Some-split_first.second.now c.in-Some-split_first.rest.now c.in-Some-read_counted.count
-    c.in-Some.ensures.some.0 (c.is_line.ensures.0 c.if-not-is_line.false)
-    c.in-Some-split_first.ensures.some.0 counted.0 counted.1
-    (plain_logs read.logs.items) read.rest.now c.in_ok-logs.ensures.logs c.in_ok-logs.ensures.count
+    read_whole _ _ _ head (plain_logs read.logs.items) read.rest.now
+    c.in_ok-logs.ensures.logs c.in_ok-logs.ensures.count
     c.in-Some-split_first-2.last.now c.in-Some-split_first-2.rest.now
     c.in-Some-split_first-2.ensures.some.0 (c.is_line-2.ensures.0 c.if-not-is_line-2.false)
     (nil_from_length c.in-Some-split_first-2.rest.now

@@ -5,17 +5,17 @@ use Rattle.sv_clause.specs.Logs.{ChainGives}
 use Rattle.sv_clause.specs.Units.{IsOpen}
 use Rattle.sv_clause.proofs.Merging.{neg-neg}
 use Rattle.sv_solve.specs.Codes.{IsOf}
-use Rattle.sv_solve.specs.ConflictClauses.{IsDraft}
+use Rattle.sv_solve.specs.ConflictClauses.{IsMinimized}
 use Rattle.sv_solve.specs.Search.{AllFalse, Derives}
 use Rattle.sv_solve.proofs.Asserting.{asserting}
 use Rattle.sv_solve.proofs.Clauses.{numbered_at, of_neg}
 use Rattle.sv_solve.proofs.Deriving.{derive_start, derive_first, later_start, learned_new}
 use Rattle.sv_solve.proofs.Deriving.{chain_like}
-use Rattle.sv_solve.proofs.Drafts.{draft_like, draft_late, draft_others}
+use Rattle.sv_solve.proofs.MinimizedClauses.{minimized_like, minimized_late, minimized_others}
 use Rattle.sv_solve.proofs.Learned.{learned_makes, learned_clause_of}
 use Rattle.sv_solve.proofs.Places.{stands_is, not_stands_take_le}
 use Rattle.sv_solve.proofs.analysis.learn.Goals as goal
-use Rattle.sv_solve.proofs.analysis.learn.Goals.{After-negated-first, In_ok-draft, In_ok-clause}
+use Rattle.sv_solve.proofs.analysis.learn.Goals.{After-negated-first, In_ok-minimized, In_ok-clause}
 
 pub resolve_to_first_uip-requires-clause-derives : goal.resolve_to_first_uip-requires-clause-derives
 resolve_to_first_uip-requires-clause-derives c =
@@ -85,64 +85,67 @@ minimize-requires-clause-derives c =
     c.in_ok-place.place c.in_ok-place.ensures.from c.in_ok-place.ensures.to
     c.in_ok-place.ensures.here c.in_ok-place.ensures.none c.in_ok-place.ensures.derives)
 
-all_false : (c : In_ok-draft)
+all_false : (c : In_ok-minimized)
     → stands (neg_ℤ c.negated-first.result) c.args.trail.now.literals ≡ true
     → IsOpen (take c.args.mark c.args.trail.now.literals) c.negated-first.result
-    → AllFalse c.args.trail.now.literals c.in_ok-draft.draft.literals.items
+    → AllFalse c.args.trail.now.literals c.in_ok-minimized.minimized.literals.items
 all_false c wrong free l e =
-    (draft_late c.args.trail.now.literals c.negated-first.result c.args.mark
-    c.in_ok-draft.draft.literals.items 0 c.in_ok-draft.draft.keep c.len-len.ensures.each_open
+    (minimized_late c.args.trail.now.literals c.negated-first.result c.args.mark
+    c.in_ok-minimized.minimized.literals.items 0 c.in_ok-minimized.minimized.keep
+    c.len-len.ensures.each_open
     (omega (arith, c.in_ok-place.ensures.from, c.in_ok-place.ensures.to)) (omega arith) wrong free
-    c.in_ok-draft.ensures.draft l e).1
+    c.in_ok-minimized.ensures.minimized l e).1
 
 pub clause_of-requires : goal.clause_of-requires
 clause_of-requires c =
     let a = (goal.at.clause_of-requires c).After-negated-first in
-    λ none. learned_makes c.args.trail.now.variables c.in_ok-draft.draft.literals.items
+    λ none. learned_makes c.args.trail.now.variables c.in_ok-minimized.minimized.literals.items
     c.args.trail.now.literals c.requires.small c.len-len.ensures.consistent c.len-len.ensures.of
-    (all_false (goal.at.clause_of-requires c).In_ok-draft (first_false a) (open_first a))
+    (all_false (goal.at.clause_of-requires c).In_ok-minimized (first_false a) (open_first a))
     (subst MakeNoClause c.deref.ensures.value none)
 
-same : (c : In_ok-clause) → SameLiterals c.in_ok-clause.clause c.in_ok-draft.draft.literals.items
+same : (c : In_ok-clause) →
+    SameLiterals c.in_ok-clause.clause c.in_ok-minimized.minimized.literals.items
 same c =
     subst (SameLiterals c.in_ok-clause.clause) c.deref.ensures.value c.in_ok-clause.ensures.same
 
--- the clause as it was drafted
-drafted : (c : In_ok-clause) →
-    IsDraft c.args.trail.now.literals c.negated-first.result c.in_ok-clause.clause 0
-    c.in_ok-draft.draft.keep c.args.mark
-drafted c =
-    draft_like c.args.trail.now.literals c.negated-first.result c.args.mark
-    c.in_ok-draft.draft.literals.items c.in_ok-clause.clause 0 c.in_ok-draft.draft.keep (same c)
-    c.in_ok-draft.ensures.draft
+-- the clause as it was minimized
+minimized : (c : In_ok-clause) →
+    IsMinimized c.args.trail.now.literals c.negated-first.result c.in_ok-clause.clause 0
+    c.in_ok-minimized.minimized.keep c.args.mark
+minimized c =
+    minimized_like c.args.trail.now.literals c.negated-first.result c.args.mark
+    c.in_ok-minimized.minimized.literals.items c.in_ok-clause.clause 0
+    c.in_ok-minimized.minimized.keep (same c) c.in_ok-minimized.ensures.minimized
 
 pub returns-clause-derived : goal.returns-clause-derived
 returns-clause-derived c =
     let s = same (goal.at.returns-clause-derived c).In_ok-clause in
     subst (λ chain. ChainGives c.args.clauses.now chain c.in_ok-clause.clause)
     (sym c.shrink_to_fit.ensures.items)
-    (chain_like c.args.clauses.now c.minimize.new.chain.items c.in_ok-draft.draft.literals.items
-    c.in_ok-clause.clause (λ l. sym (s l)) c.in_ok-draft.ensures.derives)
+    (chain_like c.args.clauses.now c.minimize.new.chain.items
+    c.in_ok-minimized.minimized.literals.items c.in_ok-clause.clause
+    (λ l. sym (s l)) c.in_ok-minimized.ensures.derives)
 
 pub returns-clause-new : goal.returns-clause-new
 returns-clause-new c =
     let trail = c.args.trail.now.literals in
-    let d = drafted (goal.at.returns-clause-new c).In_ok-clause in
+    let d = minimized (goal.at.returns-clause-new c).In_ok-clause in
     let size : c.args.mark ≤ length trail =
     omega (arith, c.in_ok-place.ensures.from, c.in_ok-place.ensures.to) in
     learned_new c.args.clauses.now trail c.in_ok-clause.clause c.negated-first.result c.args.mark
     c.requires.rest d.member (open_first (goal.at.returns-clause-new c).After-negated-first)
-    (draft_others trail c.negated-first.result c.args.mark c.in_ok-clause.clause 0
-    c.in_ok-draft.draft.keep c.args.mark size d.early (omega arith) d)
+    (minimized_others trail c.negated-first.result c.args.mark c.in_ok-clause.clause 0
+    c.in_ok-minimized.minimized.keep c.args.mark size d.early (omega arith) d)
 
 pub returns-clause-of : goal.returns-clause-of
 returns-clause-of c =
     let s = same (goal.at.returns-clause-of c).In_ok-clause in
     let a = (goal.at.returns-clause-of c).After-negated-first in
     learned_clause_of c.args.trail.now.variables c.in_ok-clause.clause
-    c.in_ok-draft.draft.literals.items c.args.trail.now.literals c.in_ok-clause.ensures.normal s
-    c.len-len.ensures.of
-    (all_false (goal.at.returns-clause-of c).In_ok-draft (first_false a) (open_first a))
+    c.in_ok-minimized.minimized.literals.items c.args.trail.now.literals
+    c.in_ok-clause.ensures.normal s c.len-len.ensures.of
+    (all_false (goal.at.returns-clause-of c).In_ok-minimized (first_false a) (open_first a))
 
 pub returns-clause-first : goal.returns-clause-first
 returns-clause-first c =
@@ -155,7 +158,7 @@ returns-clause-asserting c =
     let size : c.args.mark ≤ length trail =
     omega (arith, c.in_ok-place.ensures.from, c.in_ok-place.ensures.to) in
     asserting trail c.in_ok-clause.clause c.negated-first.result c.args.mark
-    c.in_ok-draft.draft.keep c.len-len.ensures.each_open size
+    c.in_ok-minimized.minimized.keep c.len-len.ensures.each_open size
     (open_first (goal.at.returns-clause-asserting c).After-negated-first)
-    c.in_ok-clause.ensures.normal (drafted (goal.at.returns-clause-asserting c).In_ok-clause)
+    c.in_ok-clause.ensures.normal (minimized (goal.at.returns-clause-asserting c).In_ok-clause)
     c.last_of-other.result c.last_of-other.ensures

@@ -1,4 +1,4 @@
--- A learned while it is drafted.
+-- A conflict clause while it is minimized.
 use Rattle.std.proofs.Common.{◌≡◌, ℕ, ◌+◌, ◌-◌, ◌<◌, ◌≤◌, true, false, ℤ, pos, neg_ℤ, List, [], ◌∷◌}
 use Rattle.std.proofs.Common.{◌++◌, refl, sym, ap, ◌∙◌, ⊎_elim, length, take, get_or, arith}
 use Rattle.std.specs.Ordering.{int_eq}
@@ -7,16 +7,16 @@ use Rattle.sv_clause.specs.Units.{IsOpen}
 use Rattle.sv_clause.proofs.Standing.{same_from_int_eq, int_eq-same, cases_int}
 use Rattle.sv_clause.proofs.Merging.{neg-neg}
 use Rattle.sv_solve.specs.Lists.{EachOpen}
-use Rattle.sv_solve.specs.ConflictClauses.{BecameFalse, IsDraft}
+use Rattle.sv_solve.specs.ConflictClauses.{BecameFalse, IsMinimized}
 use Rattle.sv_solve.specs.Search.{OthersFalse}
 use Rattle.sv_solve.proofs.Places.{stands_push_old, stands_push_new, stands_push_cases, stands_is}
 use Rattle.sv_solve.proofs.Places.{not_stands_take_le, or_nothing}
 use Rattle.sv_solve.proofs.Trails.{stands_before}
 
 module _ (trail : List ℤ) (first : ℤ) (mark : ℕ) where
-  pub draft_start : (literals : List ℤ) (bound : ℕ) → literals ≡ first ∷ [] →
-      IsDraft trail first literals bound 0 mark
-  draft_start literals bound is =
+  pub minimized_start : (literals : List ℤ) (bound : ℕ) → literals ≡ first ∷ [] →
+      IsMinimized trail first literals bound 0 mark
+  minimized_start literals bound is =
       record {
         early = omega arith;
         reach = λ h. absurd (omega arith);
@@ -33,9 +33,10 @@ module _ (trail : List ℤ) (first : ℤ) (mark : ℕ) where
       BecameFalse trail l from' to
   earlier l from from' to le (i, low, high, at) = (i, omega arith, high, at)
 
-  pub draft_down : (literals : List ℤ) (bound p keep : ℕ) → p ≤ bound →
-      IsDraft trail first literals bound keep mark → IsDraft trail first literals p keep mark
-  draft_down literals bound p keep le d =
+  pub minimized_down : (literals : List ℤ) (bound p keep : ℕ) → p ≤ bound →
+      IsMinimized trail first literals bound keep mark
+      → IsMinimized trail first literals p keep mark
+  minimized_down literals bound p keep le d =
       record {
         early = d.early;
         reach = λ h. let r = d.reach h in omega (arith, r);
@@ -45,10 +46,10 @@ module _ (trail : List ℤ) (first : ℤ) (mark : ℕ) where
       }
 
   -- one literal more, where there is another already
-  pub draft_more : (literals now : List ℤ) (bound p keep : ℕ) → bound ≡ p + 1 → 0 < keep →
+  pub minimized_more : (literals now : List ℤ) (bound p keep : ℕ) → bound ≡ p + 1 → 0 < keep →
       now ≡ literals ++ neg_ℤ (get_or trail p (pos 0)) ∷ [] →
-      IsDraft trail first literals bound keep mark → IsDraft trail first now p keep mark
-  draft_more literals now bound p keep at some is d =
+      IsMinimized trail first literals bound keep mark → IsMinimized trail first now p keep mark
+  minimized_more literals now bound p keep at some is d =
       let t = get_or trail p (pos 0) in
       let r = d.reach some in
       record {
@@ -66,11 +67,11 @@ module _ (trail : List ℤ) (first : ℤ) (mark : ℕ) where
       }
 
   -- the first one beside the first literal
-  pub draft_other : (literals now : List ℤ) (bound p keep : ℕ) → bound ≡ p + 1 → p < mark → keep ≡ 0
-      → now ≡ literals ++ neg_ℤ (get_or trail p (pos 0)) ∷ []
-      → IsDraft trail first literals bound keep mark
-      → IsDraft trail first now p (p + 1) mark
-  draft_other literals now bound p keep at below none is d =
+  pub minimized_other : (literals now : List ℤ) (bound p keep : ℕ) → bound ≡ p + 1 → p < mark
+      → keep ≡ 0 → now ≡ literals ++ neg_ℤ (get_or trail p (pos 0)) ∷ []
+      → IsMinimized trail first literals bound keep mark
+      → IsMinimized trail first now p (p + 1) mark
+  minimized_other literals now bound p keep at below none is d =
       let t = get_or trail p (pos 0) in
       let last : p + 1 - 1 ≡ p = omega arith in
       record {
@@ -87,9 +88,10 @@ module _ (trail : List ℤ) (first : ℤ) (mark : ℕ) where
             ∙ ap (stands (neg_ℤ t)) is ∙ stands_push_new (neg_ℤ t) literals;
       }
 
-  pub draft_like : (literals clause : List ℤ) (bound keep : ℕ) → SameLiterals clause literals →
-      IsDraft trail first literals bound keep mark → IsDraft trail first clause bound keep mark
-  draft_like literals clause bound keep same d =
+  pub minimized_like : (literals clause : List ℤ) (bound keep : ℕ) → SameLiterals clause literals →
+      IsMinimized trail first literals bound keep mark
+      → IsMinimized trail first clause bound keep mark
+  minimized_like literals clause bound keep same d =
       record {
         early = d.early;
         reach = d.reach;
@@ -98,13 +100,13 @@ module _ (trail : List ℤ) (first : ℤ) (mark : ℕ) where
         latest = λ h. same (neg_ℤ (get_or trail (keep - 1) (pos 0))) ∙ d.latest h;
       }
 
-  -- a drafted literal became false from the bound on
-  pub draft_late : (literals : List ℤ) (bound keep : ℕ) → EachOpen trail → mark ≤ length trail
+  -- a literal that is kept became false from the bound on
+  pub minimized_late : (literals : List ℤ) (bound keep : ℕ) → EachOpen trail → mark ≤ length trail
       → bound ≤ mark → stands (neg_ℤ first) trail ≡ true → IsOpen (take mark trail) first
-      → IsDraft trail first literals bound keep mark
+      → IsMinimized trail first literals bound keep mark
       → (l : ℤ) → stands l literals ≡ true → (stands (neg_ℤ l) (take bound trail) ≡ false)
       × (stands (neg_ℤ l) trail ≡ true)
-  draft_late literals bound keep o size le wrong free d l e =
+  minimized_late literals bound keep o size le wrong free d l e =
       ⊎_elim
       (λ same. (
         ap (λ z. stands (neg_ℤ z) (take bound trail)) same
@@ -123,10 +125,10 @@ module _ (trail : List ℤ) (first : ℤ) (mark : ℕ) where
       ))
       (cases_int l first)
 
-  pub draft_others : (literals : List ℤ) (bound keep to : ℕ) → mark ≤ length trail → keep ≤ to →
-      to ≤ mark → IsDraft trail first literals bound keep mark →
+  pub minimized_others : (literals : List ℤ) (bound keep to : ℕ) → mark ≤ length trail → keep ≤ to →
+      to ≤ mark → IsMinimized trail first literals bound keep mark →
       OthersFalse (take to trail) literals first
-  draft_others literals bound keep to size le early d l e ne =
+  minimized_others literals bound keep to size le early d l e ne =
       let b = d.others l e ne in
       let high : b.0 < keep = b.2 in
       stands_before trail b.0 to (neg_ℤ l) (omega arith) (omega arith) b.3

@@ -1,7 +1,7 @@
 use Rattle.std.proofs.Common.{subst}
 use Rattle.sv_solve.specs.Search.{IsConsistent}
 use Rattle.sv_solve.proofs.Trails.{consistent_from}
-use Rattle.sv_solve.proofs.trail.Trail.len.Goals as goal
+use Rattle.sv_solve.proofs.trail.AssignmentTrail.len.Goals as goal
 
 pub returns-clause-consistent : goal.returns-clause-consistent
 returns-clause-consistent c =

@@ -21,6 +21,7 @@ ghost use Rattle.sv_blast.specs.TargetWords.{target_word, IsReady, AreReady};
 
 use crate::arms::{Arm, chosen_back, copied, push_arm};
 use crate::expressions::{expression, is_true};
+use crate::fan_in::FanIn;
 use crate::followed::followed_word;
 use crate::tables::WordTable;
 use std::alloc::{AllocError, Global};
@@ -28,7 +29,7 @@ use sv_circuits::{falsity, filled, replaced};
 use sv_design::Design;
 use sv_flat::{FExpr, Piece, ProcKind, SigId, Signal};
 use sv_gates::{GateFault, Gates, Literal};
-use sv_obl::{Bodies, BodySlice};
+use sv_obl::BodySlice;
 
 // Whether a process of this kind is clocked.
 fn is_clocked(kind: ProcKind) -> bool
@@ -125,14 +126,14 @@ fn with_pieces(
 
 // What a statement is encoded for: one target, where each signal has its word of a table.
 #[derive(Clone, Copy)]
-struct Encoder<'a> {
+struct SliceEncoder<'a> {
     alloc: Global,
     signals: &'a [Signal],
     words: &'a WordTable,
     target: SigId,
 }
 
-impl Encoder<'_> {
+impl SliceEncoder<'_> {
     // The target's word after an assignment.
     fn after_assignment(
         &self,
@@ -253,35 +254,34 @@ impl Encoder<'_> {
 pub fn settled(
     alloc: Global,
     gates: &mut Gates,
-    design: &Design,
-    bodies: &Bodies,
-    words: &WordTable,
+    fan_in: &FanIn,
     target: SigId,
 ) -> Result<Vec<Literal>, GateFault>
-    requires driven { IsTrue (is_register (design_of design.now) target.0
-        || is_combinational (design_of design.now) target.0) }
-    requires bodies { AreBodiesOf (design_of design.now) bodies.now }
-    requires words { StandForReads (design_of design.now) gates.old.variables (words_of words.now)
-        target.0 }
-    ensures made { IfOk result (λ word. settled_word (design_of design.now) (words_of words.now)
-        target.0 gates.old ≡ (gates.new, word.items)) }
+    requires driven { IsTrue (is_register (design_of fan_in.now.design.now) target.0
+        || is_combinational (design_of fan_in.now.design.now) target.0) }
+    requires bodies { AreBodiesOf (design_of fan_in.now.design.now) fan_in.now.bodies.now }
+    requires words { StandForReads (design_of fan_in.now.design.now) gates.old.variables
+        (words_of fan_in.now.words.now) target.0 }
+    ensures made { IfOk result (λ word. settled_word (design_of fan_in.now.design.now)
+        (words_of fan_in.now.words.now) target.0 gates.old ≡ (gates.new, word.items)) }
     ensures within { IfOk result (λ word.
-        IsWordOf (design_of design.now) target.0 gates.new.variables word.items) }
+        IsWordOf (design_of fan_in.now.design.now) target.0 gates.new.variables word.items) }
     ensures begins { Begins gates.old gates.new }
     ensures full { IsErrOf result GateFault.Full → most_variables
-        < ((settled_word (design_of design.now) (words_of words.now) target.0
+        < ((settled_word (design_of fan_in.now.design.now) (words_of fan_in.now.words.now) target.0
         gates.old).0).variables }
 {
+    let design = fan_in.design;
     let signals = design.signals();
-    if let Some(body) = bodies.marked(design, target) {
-        return followed_word(alloc, gates, design, bodies, body, words, target);
+    if let Some(body) = fan_in.bodies.marked(design, target) {
+        return followed_word(alloc, gates, fan_in, body, target);
     }
-    let slice = bodies.slice(alloc, design, target)?;
-    let word = starting(alloc, gates, design, words, target)?;
-    let encoder = Encoder {
+    let slice = fan_in.bodies.slice(alloc, design, target)?;
+    let word = starting(alloc, gates, design, fan_in.words, target)?;
+    let encoder = SliceEncoder {
         alloc,
         signals,
-        words,
+        words: fan_in.words,
         target,
     };
     encoder.after_slice(&slice, gates, word)

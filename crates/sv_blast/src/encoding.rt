@@ -23,9 +23,10 @@ ghost use Rattle.sv_blast.specs.WordTables.{words_of};
 use crate::coded::{BitPlace, BlastFault, Coded};
 use crate::cones::{given_in, inputs_in, next_cone, now_cone, registers_in, settled_in};
 use crate::expressions::is_true;
+use crate::fan_in::FanIn;
 use crate::framed::{Framed, Truth, last_mark};
 use crate::frames::{make_fresh, make_next, make_settled};
-use crate::goals::{target_label, violation};
+use crate::goals::{Unrolled, target_label, violation};
 use crate::labels::signal_labels;
 use crate::places::add_places;
 use crate::sizes::{frames_size, size_with};
@@ -143,15 +144,12 @@ impl<'a, 'b, 'c, 'd> Encoder<'a, 'b, 'c, 'd> {
         make_fresh(self.alloc, gates, self.design, &inputs, &mut words)?;
         add_places(bits, true, &words, &inputs)?;
         let registers = registers_in(self.alloc, self.design, &self.next_cone)?;
-        make_next(
-            self.alloc,
-            gates,
-            self.design,
-            self.bodies,
-            now,
-            &registers,
-            &mut words,
-        )?;
+        let fan_in = FanIn {
+            design: self.design,
+            bodies: self.bodies,
+            words: now,
+        };
+        make_next(self.alloc, gates, &fan_in, &registers, &mut words)?;
         let settled = settled_in(self.alloc, self.design, &self.next_cone)?;
         make_settled(
             self.alloc,
@@ -230,18 +228,14 @@ impl<'a, 'b, 'c, 'd> Encoder<'a, 'b, 'c, 'd> {
     {
         know_design(self.design);
         let goal = &self.query.goal;
-        let target = target_label(self.alloc, gates, self.design, now, next, goal)?;
+        let unrolled = Unrolled {
+            design: self.design,
+            now_words: now,
+            next_words: next,
+        };
+        let target = target_label(self.alloc, gates, &unrolled, goal)?;
         let reads = signal_labels(self.alloc, gates, self.design, now, &self.query.reads)?;
-        let fails = violation(
-            self.alloc,
-            gates,
-            self.design,
-            now,
-            next,
-            &target,
-            &reads,
-            goal,
-        )?;
+        let fails = violation(self.alloc, gates, &unrolled, &target, &reads, goal)?;
         Ok(fails)
     }
 

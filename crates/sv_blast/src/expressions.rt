@@ -13,8 +13,8 @@ ghost use Rattle.sv_blast.specs.NodeWords.{operand_of, cut_of};
 
 use crate::constants::bit_at;
 use crate::operators::{
-    binary_at, chosen_at, extended_at, filled_at, number_at, one_bit, part_at, repeated_at,
-    replaced_at, unary_at,
+    OperandWords, Patch, binary_at, chosen_at, extended_at, filled_at, number_at, one_bit, part_at,
+    repeated_at, replaced_at, unary_at,
 };
 use crate::tables::WordTable;
 use std::alloc::Global;
@@ -123,7 +123,12 @@ impl Names<'_> {
                 let class = class_of(*op);
                 let first = self.operand(alloc, gates, class, left)?;
                 let second = self.operand(alloc, gates, class, right)?;
-                binary_at(alloc, gates, width, *op, left.signed, &first, &second)
+                let operands = OperandWords {
+                    signed: left.signed,
+                    left: &first,
+                    right: &second,
+                };
+                binary_at(alloc, gates, width, *op, &operands)
             }
             FNode::Choice(_, cond, yes, no) => {
                 let condition = self.is_true(alloc, gates, cond)?;
@@ -155,7 +160,12 @@ impl Names<'_> {
             FNode::Mend(signal, old, high, low, piece) => {
                 let word = self.cut(alloc, gates, *signal, old)?;
                 let piece = self.expression(alloc, gates, piece)?;
-                Ok(replaced_at(alloc, gates, width, signed, *high, *low, &word, &piece)?)
+                let patch = Patch {
+                    high: *high,
+                    low: *low,
+                    piece: &piece,
+                };
+                Ok(replaced_at(alloc, gates, width, signed, &word, &patch)?)
             }
             FNode::Slice(value, high, low) => {
                 let word = self.expression(alloc, gates, value)?;

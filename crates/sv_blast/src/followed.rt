@@ -34,6 +34,7 @@ ghost use Rattle.sv_blast.specs.WordTables.{words_of, StandForReads};
 
 use crate::arms::copied;
 use crate::expressions::{expression, is_true};
+use crate::fan_in::FanIn;
 use crate::followed_arms::{CopyWord, WordsArm, push_arm, put_words, words_at};
 use crate::marks::has_mark;
 use crate::tables::WordTable;
@@ -466,32 +467,31 @@ impl<'a> Followed<'a> {
 pub fn followed_word(
     alloc: Global,
     gates: &mut Gates,
-    design: &Design,
-    bodies: &Bodies,
+    fan_in: &FanIn,
     body: &Marked,
-    words: &WordTable,
     target: SigId,
 ) -> Result<Vec<Literal>, GateFault>
-    requires driven { IsTrue (is_register (design_of design.now) target.0
-        || is_combinational (design_of design.now) target.0) }
-    requires body { IsMarkedFor (design_of design.now) target.0 (Some body) }
-    requires copies { HasCopies (design_of design.now) bodies.now }
-    requires words { StandForReads (design_of design.now) gates.old.variables (words_of words.now)
-        target.0 }
-    ensures made { IfOk result (λ word. settled_word (design_of design.now) (words_of words.now)
-        target.0 gates.old ≡ (gates.new, word.items)) }
+    requires driven { IsTrue (is_register (design_of fan_in.now.design.now) target.0
+        || is_combinational (design_of fan_in.now.design.now) target.0) }
+    requires body { IsMarkedFor (design_of fan_in.now.design.now) target.0 (Some body) }
+    requires copies { HasCopies (design_of fan_in.now.design.now) fan_in.now.bodies.now }
+    requires words { StandForReads (design_of fan_in.now.design.now) gates.old.variables
+        (words_of fan_in.now.words.now) target.0 }
+    ensures made { IfOk result (λ word. settled_word (design_of fan_in.now.design.now)
+        (words_of fan_in.now.words.now) target.0 gates.old ≡ (gates.new, word.items)) }
     ensures within { IfOk result (λ word.
-        IsWordOf (design_of design.now) target.0 gates.new.variables word.items) }
+        IsWordOf (design_of fan_in.now.design.now) target.0 gates.new.variables word.items) }
     ensures begins { Begins gates.old gates.new }
     ensures full { IsErrOf result GateFault.Full → most_variables
-        < ((settled_word (design_of design.now) (words_of words.now) target.0
+        < ((settled_word (design_of fan_in.now.design.now) (words_of fan_in.now.words.now) target.0
         gates.old).0).variables }
 {
     let _some = gates.variables();
+    let design = fan_in.design;
     know_design(design);
     let follows = design.follows(alloc, target)?;
-    let followed = Followed::new(alloc, design, bodies, &follows, target);
-    let mut own = followed.read_words(words)?;
+    let followed = Followed::new(alloc, design, fan_in.bodies, &follows, target);
+    let mut own = followed.read_words(fan_in.words)?;
     followed.clear_copies(gates, &mut own)?;
     followed.after(body, gates, &mut own)?;
     Ok(copied(alloc, own.word(followed.copy_of(target)))?)

@@ -12,6 +12,7 @@ ghost use Rattle.sv_blast.specs.Steps.{AreReady, settled_in_turn, next_in_turn};
 ghost use Rattle.sv_blast.specs.WordTables.{words_of, StandsOf};
 
 use crate::bodies::settled;
+use crate::fan_in::FanIn;
 use crate::tables::WordTable;
 use std::alloc::Global;
 use sv_circuits::fresh;
@@ -67,7 +68,12 @@ pub fn make_settled(
         gates.old).0).variables }
 {
     for signal in signals {
-        let word = settled(alloc, gates, design, bodies, words, *signal)?;
+        let fan_in = FanIn {
+            design,
+            bodies,
+            words: &*words,
+        };
+        let word = settled(alloc, gates, &fan_in, *signal)?;
         words.put(alloc, *signal, word)?;
     }
     Ok(())
@@ -78,28 +84,27 @@ pub fn make_settled(
 pub fn make_next(
     alloc: Global,
     gates: &mut Gates,
-    design: &Design,
-    bodies: &Bodies,
-    now: &WordTable,
+    fan_in: &FanIn,
     registers: &[SigId],
     words: &mut WordTable,
 ) -> Result<(), GateFault>
-    requires bodies { AreBodiesOf (design_of design.now) bodies.now }
-    requires registers { All (λ s. IsTrue (is_register (design_of design.now) s))
+    requires bodies { AreBodiesOf (design_of fan_in.now.design.now) fan_in.now.bodies.now }
+    requires registers { All (λ s. IsTrue (is_register (design_of fan_in.now.design.now) s))
         (numbers registers.now) }
     requires read { (s t : ℕ) → Contains (numbers registers.now) s →
-        IsTrue (is_read_for (design_of design.now) s t) →
-        StandsOf (design_of design.now).signals gates.old.variables (words_of now.now) t }
-    ensures made { OnOk result (next_in_turn (design_of design.now) (words_of now.now)
-        (numbers registers.now) (words_of words.old) gates.old
+        IsTrue (is_read_for (design_of fan_in.now.design.now) s t) →
+        StandsOf (design_of fan_in.now.design.now).signals gates.old.variables
+        (words_of fan_in.now.words.now) t }
+    ensures made { OnOk result (next_in_turn (design_of fan_in.now.design.now)
+        (words_of fan_in.now.words.now) (numbers registers.now) (words_of words.old) gates.old
         ≡ (gates.new, words_of words.new)) }
     ensures begins { Begins gates.old gates.new }
     ensures full { IsErrOf result GateFault.Full → most_variables
-        < ((next_in_turn (design_of design.now) (words_of now.now) (numbers registers.now)
-        (words_of words.old) gates.old).0).variables }
+        < ((next_in_turn (design_of fan_in.now.design.now) (words_of fan_in.now.words.now)
+        (numbers registers.now) (words_of words.old) gates.old).0).variables }
 {
     for register in registers {
-        let word = settled(alloc, gates, design, bodies, now, *register)?;
+        let word = settled(alloc, gates, fan_in, *register)?;
         words.put(alloc, *register, word)?;
     }
     Ok(())

@@ -17,6 +17,14 @@ use sv_design::Design;
 use sv_gates::{GateFault, Gates, Literal};
 use sv_obl::{Frame, Goal};
 
+/// A design unrolled over two cycles: the words of its signals in this one and in the next one.
+#[derive(Clone, Copy)]
+pub struct Unrolled<'a> {
+    pub design: &'a Design,
+    pub now_words: &'a WordTable,
+    pub next_words: &'a WordTable,
+}
+
 // The words of a frame.
 fn words_in<'a>(frame: Frame, now: &'a WordTable, next: &'a WordTable) -> &'a WordTable
     ensures { words_of result.now ≡ words_in frame (words_of now.now) (words_of next.now) }
@@ -32,35 +40,38 @@ fn words_in<'a>(frame: Frame, now: &'a WordTable, next: &'a WordTable) -> &'a Wo
 pub fn target_label(
     alloc: Global,
     gates: &mut Gates,
-    design: &Design,
-    now: &WordTable,
-    next: &WordTable,
+    unrolled: &Unrolled,
     goal: &Goal,
 ) -> Result<Vec<PointLiteral>, GateFault>
-    requires { IsTargetReady (design_of design.now) gates.old.variables (words_of now.now)
-        (words_of next.now) (goal_form goal.now) }
-    ensures made { IfOk result (λ label. target_label (design_of design.now) (words_of now.now)
-        (words_of next.now) (goal_form goal.now) gates.old ≡ (gates.new, label_form label.items)) }
+    requires { IsTargetReady (design_of unrolled.now.design.now) gates.old.variables
+        (words_of unrolled.now.now_words.now) (words_of unrolled.now.next_words.now)
+        (goal_form goal.now) }
+    ensures made { IfOk result (λ label. target_label (design_of unrolled.now.design.now)
+        (words_of unrolled.now.now_words.now) (words_of unrolled.now.next_words.now)
+        (goal_form goal.now) gates.old ≡ (gates.new, label_form label.items)) }
     ensures within { IfOk result (λ label.
         AreWithin gates.new.variables (label_form label.items)) }
     ensures points { IfOk result (λ label.
-        All (λ p. p.point.0 < length design.now.lattice) label.items) }
+        All (λ p. p.point.0 < length unrolled.now.design.now.lattice) label.items) }
     ensures begins { Begins gates.old gates.new }
     ensures full { IsErrOf result GateFault.Full → most_variables
-        < ((target_label (design_of design.now) (words_of now.now) (words_of next.now)
-        (goal_form goal.now) gates.old).0).variables }
+        < ((target_label (design_of unrolled.now.design.now) (words_of unrolled.now.now_words.now)
+        (words_of unrolled.now.next_words.now) (goal_form goal.now) gates.old).0).variables }
 {
+    let design = unrolled.design;
     match goal {
         Goal::Flow {
             target,
             frame: Frame::Now,
-        } => signal_label(alloc, gates, design, now, *target),
+        } => signal_label(alloc, gates, design, unrolled.now_words, *target),
         Goal::Flow {
             target,
             frame: Frame::Next,
-        } => signal_label(alloc, gates, design, next, *target),
+        } => signal_label(alloc, gates, design, unrolled.next_words, *target),
         Goal::Holds { .. } => Ok(Vec::new(alloc)),
-        Goal::Selector { signal } => signal_label(alloc, gates, design, now, *signal),
+        Goal::Selector { signal } => {
+            signal_label(alloc, gates, design, unrolled.now_words, *signal)
+        }
     }
 }
 
@@ -69,38 +80,39 @@ pub fn target_label(
 pub fn violation(
     alloc: Global,
     gates: &mut Gates,
-    design: &Design,
-    now: &WordTable,
-    next: &WordTable,
+    unrolled: &Unrolled,
     target: &[PointLiteral],
     reads: &[Vec<PointLiteral>],
     goal: &Goal,
 ) -> Result<Literal, GateFault>
-    requires held { IsHeldReady (design_of design.now) gates.old.variables (words_of now.now)
-        (words_of next.now) (goal_form goal.now) }
-    requires points { All (All (λ p. p.point.0 < length design.now.lattice))
+    requires held { IsHeldReady (design_of unrolled.now.design.now) gates.old.variables
+        (words_of unrolled.now.now_words.now) (words_of unrolled.now.next_words.now)
+        (goal_form goal.now) }
+    requires points { All (All (λ p. p.point.0 < length unrolled.now.design.now.lattice))
         (map (λ label. label.items) reads.now) }
-    requires target_points { All (λ p. p.point.0 < length design.now.lattice) target.now }
+    requires target_points { All (λ p. p.point.0 < length unrolled.now.design.now.lattice)
+        target.now }
     requires labels { All (AreWithin gates.old.variables)
         (map (λ label. label_form label.items) reads.now) }
     requires target { AreWithin gates.old.variables (label_form target.now) }
-    ensures made { IfOk result (λ literal. violation (design_of design.now) (words_of now.now)
-        (words_of next.now) (label_form target.now)
-        (map (λ label. label_form label.items) reads.now) (goal_form goal.now) gates.old
-        ≡ (gates.new, literal)) }
+    ensures made { IfOk result (λ literal. violation (design_of unrolled.now.design.now)
+        (words_of unrolled.now.now_words.now) (words_of unrolled.now.next_words.now)
+        (label_form target.now) (map (λ label. label_form label.items) reads.now)
+        (goal_form goal.now) gates.old ≡ (gates.new, literal)) }
     ensures within { IfOk result (IsLiteral gates.new.variables) }
     ensures begins { Begins gates.old gates.new }
     ensures full { IsErrOf result GateFault.Full → most_variables
-        < ((violation (design_of design.now) (words_of now.now) (words_of next.now)
-        (label_form target.now) (map (λ label. label_form label.items) reads.now)
-        (goal_form goal.now) gates.old).0).variables }
+        < ((violation (design_of unrolled.now.design.now) (words_of unrolled.now.now_words.now)
+        (words_of unrolled.now.next_words.now) (label_form target.now)
+        (map (λ label. label_form label.items) reads.now) (goal_form goal.now)
+        gates.old).0).variables }
 {
     match goal {
-        Goal::Flow { .. } => some_stays(gates, design, reads, target),
+        Goal::Flow { .. } => some_stays(gates, unrolled.design, reads, target),
         Goal::Holds { expr, frame } => {
-            let words = words_in(*frame, now, next);
-            Ok(is_true(alloc, gates, design.signals(), words, expr)?.negated())
+            let words = words_in(*frame, unrolled.now_words, unrolled.next_words);
+            Ok(is_true(alloc, gates, unrolled.design.signals(), words, expr)?.negated())
         }
-        Goal::Selector { .. } => some_stays(gates, design, reads, target),
+        Goal::Selector { .. } => some_stays(gates, unrolled.design, reads, target),
     }
 }

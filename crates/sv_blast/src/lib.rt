@@ -26,6 +26,7 @@ mod constants;
 mod decoding;
 mod encoding;
 mod expressions;
+mod fan_in;
 mod followed;
 mod followed_arms;
 mod followed_sizes;

@@ -98,27 +98,33 @@ pub fn repeated_at(
     filled_at(alloc, gates, width, &copies)
 }
 
-/// A word with its bits from `high` down to `low` replaced by the low bits of a piece. An error
-/// says that memory ran out.
+/// What is put into a word: the low bits of a piece, in place of those from `high` down to `low`.
+#[derive(Clone, Copy)]
+pub struct Patch<'a> {
+    pub high: u8,
+    pub low: u8,
+    pub piece: &'a [Literal],
+}
+
+/// A word with a patch put in. An error says that memory ran out.
 pub fn replaced_at(
     alloc: Global,
     gates: &Gates,
     width: u8,
     signed: bool,
-    high: u8,
-    low: u8,
     word: &[Literal],
-    piece: &[Literal],
+    patch: &Patch,
 ) -> Result<Vec<Literal>, AllocError>
-    requires low { low ≤ high }
+    requires low { patch.now.low ≤ patch.now.high }
     requires word { IsWord gates.now.variables word.now }
-    requires piece { IsWord gates.now.variables piece.now }
-    ensures made { IfOk result (λ made.
-        made.items ≡ extended_word signed width (replaced_word high low word.now piece.now)) }
+    requires piece { IsWord gates.now.variables patch.now.piece.now }
+    ensures made { IfOk result (λ made. made.items ≡ extended_word signed width
+        (replaced_word patch.now.high patch.now.low word.now patch.now.piece.now)) }
     ensures within { IfOk result (λ made. IsWord gates.now.variables made.items) }
 {
     let _some = falsity(gates);
-    let whole = replaced(alloc, usize::from(high), usize::from(low), word, piece)?;
+    let (high, low) = (usize::from(patch.high), usize::from(patch.low));
+    let whole = replaced(alloc, high, low, word, patch.piece)?;
     extended_at(alloc, gates, width, signed, &whole)
 }
 
@@ -143,27 +149,42 @@ pub fn unary_at(
     Ok(filled_at(alloc, gates, width, &word)?)
 }
 
-/// The word of a binary operator, where the type of its left operand is signed or not.
+/// The words of a binary operator's operands, and whether the type of the left one is signed.
+#[derive(Clone, Copy)]
+pub struct OperandWords<'a> {
+    pub signed: bool,
+    pub left: &'a [Literal],
+    pub right: &'a [Literal],
+}
+
+/// The word of a binary operator.
 /// `Full` says that variables ran out, `OutOfMemory` that memory did; then some gates may stay.
 pub fn binary_at(
     alloc: Global,
     gates: &mut Gates,
     width: u8,
     op: BinOp,
-    signed: bool,
-    left: &[Literal],
-    right: &[Literal],
+    operands: &OperandWords,
 ) -> Result<Vec<Literal>, GateFault>
-    requires left { IsWord gates.old.variables left.now }
-    requires right { IsWord gates.old.variables right.now }
+    requires left { IsWord gates.old.variables operands.now.left.now }
+    requires right { IsWord gates.old.variables operands.now.right.now }
     ensures made { IfOk result (λ word. filled_to width
-        (binary_word op signed left.now right.now) gates.old ≡ (gates.new, word.items)) }
+        (binary_word op operands.now.signed operands.now.left.now operands.now.right.now)
+        gates.old ≡ (gates.new, word.items)) }
     ensures within { IfOk result (λ word. IsWord gates.new.variables word.items) }
     ensures begins { Begins gates.old gates.new }
-    ensures full { IsErrOf result GateFault.Full
-        → most_variables < ((binary_word op signed left.now right.now gates.old).0).variables }
+    ensures full { IsErrOf result GateFault.Full → most_variables
+        < ((binary_word op operands.now.signed operands.now.left.now operands.now.right.now
+        gates.old).0).variables }
 {
-    let word = binary(alloc, gates, op, signed, left, right)?;
+    let word = binary(
+        alloc,
+        gates,
+        op,
+        operands.signed,
+        operands.left,
+        operands.right,
+    )?;
     Ok(filled_at(alloc, gates, width, &word)?)
 }
 

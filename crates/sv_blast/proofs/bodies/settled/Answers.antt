@@ -41,36 +41,36 @@ module _ (flat : Flat) (is : IsDesign (design_of flat)) (s : ℕ)
 
 pub marked-requires-clause-known : goal.marked-requires-clause-known
 marked-requires-clause-known c =
-    target_known c.args.design.now c.signals-signals.ensures.design c.args.target.0
+    target_known c.args.fan_in.now.design.now c.signals-signals.ensures.design c.args.target.0
     c.requires.driven
 
 pub slice-requires-clause-known : goal.slice-requires-clause-known
 slice-requires-clause-known c =
-    target_known c.args.design.now c.signals-signals.ensures.design c.args.target.0
+    target_known c.args.fan_in.now.design.now c.signals-signals.ensures.design c.args.target.0
     c.requires.driven
 
 pub starting-requires-clause-known : goal.starting-requires-clause-known
 starting-requires-clause-known c =
-    target_known c.args.design.now c.signals-signals.ensures.design c.args.target.0
+    target_known c.args.fan_in.now.design.now c.signals-signals.ensures.design c.args.target.0
     c.requires.driven
 
 pub after_slice-requires-clause-ready : goal.after_slice-requires-clause-ready
 after_slice-requires-clause-ready c =
     let n = c.args.gates.now.variables in
-    let words = words_of c.args.words.now in
+    let words = words_of c.args.fan_in.now.words.now in
     let body = slice_statement c.in_ok-slice.slice in
     subst (λ signals. AreReady (signal_forms signals) n words body)
     (sym c.signals-signals.ensures.signals)
-    (slice_names (design_of c.args.design.now) c.signals-signals.ensures.design c.args.target.0
-    c.requires.driven (subst (IsMarkedFor (design_of c.args.design.now) c.args.target.0)
+    (slice_names (design_of c.args.fan_in.now.design.now) c.signals-signals.ensures.design c.args.target.0
+    c.requires.driven (subst (IsMarkedFor (design_of c.args.fan_in.now.design.now) c.args.target.0)
     c.in_default.is c.marked.ensures.body) n words c.requires.words body
     c.in_ok-slice.ensures)
 
 pub returns-clause-made : goal.returns-clause-made
 returns-clause-made c =
-    let whole = from_slice c.args.design.now c.signals-signals.ensures.design c.args.target.0
-    c.requires.driven (subst (IsMarkedFor (design_of c.args.design.now) c.args.target.0)
-    c.in_default.is c.marked.ensures.body) (words_of c.args.words.now) c.args.gates.now
+    let whole = from_slice c.args.fan_in.now.design.now c.signals-signals.ensures.design c.args.target.0
+    c.requires.driven (subst (IsMarkedFor (design_of c.args.fan_in.now.design.now) c.args.target.0)
+    c.in_default.is c.marked.ensures.body) (words_of c.args.fan_in.now.words.now) c.args.gates.now
     (slice_statement c.in_ok-slice.slice) c.in_ok-slice.ensures c.signals-signals.result.now
     c.signals-signals.ensures.signals c.in_ok-word.word.items c.in_ok-word.ensures.made in
     subst (λ (z : Formula × Word).
@@ -79,9 +79,9 @@ returns-clause-made c =
 
 pub returns-clause-full : goal.returns-clause-full
 returns-clause-full c =
-    let whole = from_slice c.args.design.now c.signals-signals.ensures.design c.args.target.0
-    c.requires.driven (subst (IsMarkedFor (design_of c.args.design.now) c.args.target.0)
-    c.in_default.is c.marked.ensures.body) (words_of c.args.words.now) c.args.gates.now
+    let whole = from_slice c.args.fan_in.now.design.now c.signals-signals.ensures.design c.args.target.0
+    c.requires.driven (subst (IsMarkedFor (design_of c.args.fan_in.now.design.now) c.args.target.0)
+    c.in_default.is c.marked.ensures.body) (words_of c.args.fan_in.now.words.now) c.args.gates.now
     (slice_statement c.in_ok-slice.slice) c.in_ok-slice.ensures c.signals-signals.result.now
     c.signals-signals.ensures.signals c.in_ok-word.word.items c.in_ok-word.ensures.made in
     λ e. subst (λ (z : Formula × Word). most_variables < z.0.variables) (sym whole)

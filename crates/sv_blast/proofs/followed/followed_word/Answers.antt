@@ -19,27 +19,27 @@ use Rattle.sv_blast.proofs.followed.followed_word.Goals as goal
 
 pub follows-requires : goal.follows-requires
 follows-requires c =
-    driven_known c.args.design.now c.args.target.0 c.know_design.ensures.checked c.requires.driven
+    driven_known c.args.fan_in.now.design.now c.args.target.0 c.know_design.ensures.checked c.requires.driven
 
 pub new-followed-requires-clause-known : goal.new-followed-requires-clause-known
 new-followed-requires-clause-known c =
-    driven_known c.args.design.now c.args.target.0 c.know_design.ensures.checked c.requires.driven
+    driven_known c.args.fan_in.now.design.now c.args.target.0 c.know_design.ensures.checked c.requires.driven
 
 pub after-requires : goal.after-requires
 after-requires c =
     let self = c.new-followed.result in
-    let design = design_of c.args.design.now in
+    let design = design_of c.args.fan_in.now.design.now in
     let s = c.args.target.0 in
-    let target = call_target c.args.design.now c.args.target.0 c.know_design.ensures.checked
+    let target = call_target c.args.fan_in.now.design.now c.args.target.0 c.know_design.ensures.checked
     c.args.body
     c.requires.body c.new-followed.result c.new-followed.ensures.signals
     c.new-followed.ensures.reads _ (c.new-followed.ensures.follows ∙ c.deref.ensures.value)
     c.in_ok-follows.ensures.follows c.requires.driven in
-    let stand = call_stand c.args.design.now c.args.target.0 c.know_design.ensures.checked
+    let stand = call_stand c.args.fan_in.now.design.now c.args.target.0 c.know_design.ensures.checked
     c.args.body
     c.requires.body c.new-followed.result c.new-followed.ensures.signals
     c.new-followed.ensures.reads _ (c.new-followed.ensures.follows ∙ c.deref.ensures.value)
-    c.in_ok-follows.ensures.follows c.requires.driven (words_of c.args.words.now)
+    c.in_ok-follows.ensures.follows c.requires.driven (words_of c.args.fan_in.now.words.now)
     (words_of c.in_ok-own.own) (words_of c.clear_copies.new.words) c.in_ok-own.ensures
     c.in_ok-clear_copies.ensures.others c.in_ok-clear_copies.ensures.copies in
     record {
@@ -53,19 +53,19 @@ after-requires c =
 
 pub copy_of-requires-clause-follows : goal.copy_of-requires-clause-follows
 copy_of-requires-clause-follows c =
-    target_followed (design_of c.args.design.now) c.args.target.0 c.args.body.now
+    target_followed (design_of c.args.fan_in.now.design.now) c.args.target.0 c.args.body.now
     c.new-followed.result
-    (call_target c.args.design.now c.args.target.0 c.know_design.ensures.checked c.args.body
+    (call_target c.args.fan_in.now.design.now c.args.target.0 c.know_design.ensures.checked c.args.body
     c.requires.body c.new-followed.result c.new-followed.ensures.signals
     c.new-followed.ensures.reads _ (c.new-followed.ensures.follows ∙ c.deref.ensures.value)
     c.in_ok-follows.ensures.follows c.requires.driven)
 
 pub returns-in_err-after-clause-full : goal.returns-in_err-after-clause-full
 returns-in_err-after-clause-full c =
-    let made = call_made c.args.design.now c.args.target.0 c.know_design.ensures.checked c.args.body
+    let made = call_made c.args.fan_in.now.design.now c.args.target.0 c.know_design.ensures.checked c.args.body
     c.requires.body c.new-followed.result c.new-followed.ensures.signals
     c.new-followed.ensures.reads _ (c.new-followed.ensures.follows ∙ c.deref.ensures.value)
-    c.in_ok-follows.ensures.follows c.requires.driven (words_of c.args.words.now)
+    c.in_ok-follows.ensures.follows c.requires.driven (words_of c.args.fan_in.now.words.now)
     (words_of c.in_ok-own.own) (words_of c.clear_copies.new.words) c.in_ok-own.ensures
     c.in_ok-clear_copies.ensures.others c.in_ok-clear_copies.ensures.copies c.args.gates.now in
     let same : IsErrOf c.from_residual-in_err-after.result Full → IsErrOf c.after.result Full =
@@ -75,10 +75,10 @@ returns-in_err-after-clause-full c =
 
 pub returns-clause-made : goal.returns-clause-made
 returns-clause-made c =
-    call_made c.args.design.now c.args.target.0 c.know_design.ensures.checked c.args.body
+    call_made c.args.fan_in.now.design.now c.args.target.0 c.know_design.ensures.checked c.args.body
     c.requires.body c.new-followed.result c.new-followed.ensures.signals
     c.new-followed.ensures.reads _ (c.new-followed.ensures.follows ∙ c.deref.ensures.value)
-    c.in_ok-follows.ensures.follows c.requires.driven (words_of c.args.words.now)
+    c.in_ok-follows.ensures.follows c.requires.driven (words_of c.args.fan_in.now.words.now)
     (words_of c.in_ok-own.own) (words_of c.clear_copies.new.words) c.in_ok-own.ensures
     c.in_ok-clear_copies.ensures.others c.in_ok-clear_copies.ensures.copies c.args.gates.now
     ∙ ap (λ (z : Formula × Words).
@@ -89,10 +89,10 @@ returns-clause-made c =
 
 pub returns-clause-within : goal.returns-clause-within
 returns-clause-within c =
-    let design = design_of c.args.design.now in
+    let design = design_of c.args.fan_in.now.design.now in
     let s = c.args.target.0 in
     let self = c.new-followed.result in
-    let target = call_target c.args.design.now c.args.target.0 c.know_design.ensures.checked
+    let target = call_target c.args.fan_in.now.design.now c.args.target.0 c.know_design.ensures.checked
     c.args.body
     c.requires.body c.new-followed.result c.new-followed.ensures.signals
     c.new-followed.ensures.reads _ (c.new-followed.ensures.follows ∙ c.deref.ensures.value)

@@ -10,11 +10,13 @@ use Rattle.sv_blast.proofs.goals.target_label.Goals as goal
 pub signal_label-requires-clause-words : goal.signal_label-requires-clause-words
 signal_label-requires-clause-words c =
     let is : goal_form c.args.goal.now ≡ flow c.in-Flow-default-Now.target.0 Now = search rules in
-    (subst (IsTargetReady (design_of c.args.design.now) c.args.gates.now.variables
-    (words_of c.args.now.now) (words_of c.args.next.now)) is c.requires).1
+    (subst (IsTargetReady (design_of c.args.unrolled.now.design.now) c.args.gates.now.variables
+    (words_of c.args.unrolled.now.now_words.now) (words_of c.args.unrolled.now.next_words.now)) is
+    c.requires).1
 
 pub signal_label-requires-in-Flow-default-Next-clause-words : goal.signal_label-requires-in-Flow-default-Next-clause-words
 signal_label-requires-in-Flow-default-Next-clause-words c =
     let is : goal_form c.args.goal.now ≡ flow c.in-Flow-default-Next.target.0 Next = search rules in
-    (subst (IsTargetReady (design_of c.args.design.now) c.args.gates.now.variables
-    (words_of c.args.now.now) (words_of c.args.next.now)) is c.requires).1
+    (subst (IsTargetReady (design_of c.args.unrolled.now.design.now) c.args.gates.now.variables
+    (words_of c.args.unrolled.now.now_words.now) (words_of c.args.unrolled.now.next_words.now)) is
+    c.requires).1

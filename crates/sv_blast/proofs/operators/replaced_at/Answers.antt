@@ -8,5 +8,5 @@ extended_at-requires c =
     let some : 1 ≤ c.args.gates.now.variables = omega (arith, c.falsity-some.ensures.within) in
     subst (IsWord c.args.gates.now.variables)
     (sym (c.deref.ensures.value ∙ c.in_ok-whole.ensures))
-    (replaced_is c.args.gates.now.variables c.from.result c.from-2.result c.args.word.now
-    c.args.piece.now some c.requires.word c.requires.piece)
+    (replaced_is c.args.gates.now.variables c.from-high.result c.from-low.result c.args.word.now
+    c.args.patch.now.piece.now some c.requires.word c.requires.piece)

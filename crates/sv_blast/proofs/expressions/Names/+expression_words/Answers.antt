@@ -322,7 +322,7 @@ expression-expression-requires-in-Mend t c = (
 
 pub expression-replaced_at-requires-clause-word : goal.expression-replaced_at-requires-clause-word
 expression-replaced_at-requires-clause-word t c =
-    subst (IsWord c.expression-in-Mend.new.gates.variables) (sym c.deref-in-Mend-3.ensures.value)
+    subst (IsWord c.expression-in-Mend.new.gates.variables) (sym c.deref-in-Mend-4.ensures.value)
     (word_up _ _ c.in_ok-word-in-Mend.word.items c.in_ok-piece-in-Mend.ensures.begins.grows
     c.in_ok-word-in-Mend.ensures.within)
 

@@ -6,7 +6,7 @@ use Rattle.sv_obl.specs.BodySlices.{slice_statement}
 use Rattle.sv_blast.specs.TargetWords.{target_word}
 use Rattle.sv_blast.specs.WordTables.{words_of}
 use Rattle.sv_blast.proofs.TargetSteps.{DownAt}
-use Rattle.sv_blast.proofs.bodies.Encoder.+statements.Given as goal
+use Rattle.sv_blast.proofs.bodies.SliceEncoder.+statements.Given as goal
 
 abbrev pub decreases-after_slice : goal.decreases-after_slice
 decreases-after_slice l = 2 * size-BodySlice l.slice.now + 1

@@ -5,7 +5,7 @@ use Rattle.sv_circuits.specs.Circuits.{IsWord}
 use Rattle.sv_circuits.proofs.WordKeeps.{word_up}
 use Rattle.sv_blast.specs.TargetWords.{with_piece_of}
 use Rattle.sv_blast.proofs.TargetSteps.{pieces_ordered, pieces_kept}
-use Rattle.sv_blast.proofs.bodies.Encoder.after_assignment.Goals as goal
+use Rattle.sv_blast.proofs.bodies.SliceEncoder.after_assignment.Goals as goal
 
 pub with_pieces-requires : goal.with_pieces-requires
 with_pieces-requires c =

@@ -20,7 +20,7 @@ use Rattle.sv_blast.proofs.ArmSteps.{stand_up}
 use Rattle.sv_blast.proofs.SliceWords.{ready_up}
 use Rattle.sv_blast.proofs.TargetSteps.{DownAt, first_full, rest_full, condition_full, arm_full}
 use Rattle.sv_blast.proofs.TargetSteps.{branch_opened}
-use Rattle.sv_blast.proofs.bodies.Encoder.+statements.Goals as goal
+use Rattle.sv_blast.proofs.bodies.SliceEncoder.+statements.Goals as goal
 
 pub after_plain-returns-in_err-middle-in-Chain-clause-full :
     goal.after_plain-returns-in_err-middle-in-Chain-clause-full

@@ -23,13 +23,13 @@ pub struct Register {
 
 /// The line before the cycles, the widths of the inputs, and the registers.
 #[derive(Debug, Drop)]
-pub struct Form {
+pub struct StimulusForm {
     pub header: Vec<u8>,
     pub inputs: Vec<u8>,
     pub registers: Vec<Register>,
 }
 
-impl Model for Form {
+impl Model for StimulusForm {
     ghost use Rattle.sv_trace.specs.Forms.{StimForm};
 
     ghost Value = { StimForm };
@@ -41,16 +41,16 @@ impl Model for Form {
     } };
 }
 
-impl Form {
+impl StimulusForm {
     /// The form of a design. It fails where memory runs out.
-    pub fn new(alloc: Global, design: &Design) -> Result<Form, AllocError>
+    pub fn new(alloc: Global, design: &Design) -> Result<StimulusForm, AllocError>
         ensures form { IfOk result (λ form. form ≡ form_of (design_of design.now)) }
         ensures plain { IfOk result (λ form. is_start form.header ≡ false) }
     {
         let signals = design.signals();
         let inputs = design.inputs();
         let registers = design.registers();
-        Ok(Form {
+        Ok(StimulusForm {
             header: header_line(alloc, signals, inputs)?,
             inputs: widths_of(alloc, signals, inputs)?,
             registers: registers_of(alloc, signals, registers)?,

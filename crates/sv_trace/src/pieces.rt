@@ -6,7 +6,7 @@ ghost use Rattle.sv_trace.specs.Steps.{IsTooLong, Stands, LineEnded, PieceRead, 
 
 use crate::faults::StimFault;
 use crate::fields::split_first;
-use crate::forms::Form;
+use crate::forms::StimulusForm;
 use crate::state::{ReaderState, read_line};
 use std::alloc::Global;
 use sv_texts::StimKind;
@@ -18,7 +18,7 @@ const MAX_LINE: usize = 1_048_576;
 /// rest.
 pub fn read_piece(
     alloc: Global,
-    form: &Form,
+    form: &StimulusForm,
     state: &mut ReaderState,
     kept: &mut Vec<u8>,
     piece: &[u8],
@@ -47,7 +47,7 @@ pub fn read_piece(
 // Reads a line that ends with these bytes.
 fn end_line(
     alloc: Global,
-    form: &Form,
+    form: &StimulusForm,
     state: &mut ReaderState,
     kept: &mut Vec<u8>,
     line: &[u8],
@@ -92,7 +92,7 @@ fn keep(kept: &mut Vec<u8>, bytes: &[u8], line: u64) -> Result<(), StimFault>
 /// Reads what is kept as the last line, if it has a byte, and asks for the header.
 pub fn read_end(
     alloc: Global,
-    form: &Form,
+    form: &StimulusForm,
     state: &mut ReaderState,
     kept: &[u8],
 ) -> Result<(), StimFault>

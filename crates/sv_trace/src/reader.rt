@@ -13,7 +13,7 @@ ghost use Rattle.sv_trace.specs.Reading.{IfFull, KeepsCycles};
 ghost use Rattle.sv_trace.specs.Stimulus.{is_start, read_front, read_whole, LinesRead};
 
 use crate::faults::StimFault;
-use crate::forms::Form;
+use crate::forms::StimulusForm;
 use crate::pieces::{read_end, read_piece};
 use crate::state::ReaderState;
 use std::alloc::{AllocError, Global};
@@ -26,7 +26,7 @@ use sv_design::Design;
 #[derive(Drop)]
 pub struct StimReader {
     alloc: Global,
-    form: Form,
+    form: StimulusForm,
     state: ReaderState,
     kept: Vec<u8>,
     fault: Option<StimFault>,
@@ -65,12 +65,12 @@ impl StimReader {
         ensures line { IfOk result (λ reader. reader.said.line ≡ 1) }
         ensures rest { IfOk result (λ reader. reader.rest ≡ []) }
     {
-        let form = Form::new(alloc, design)?;
+        let form = StimulusForm::new(alloc, design)?;
         StimReader::with_form(alloc, form)
     }
 
     // A reader that looks for this form, and has read nothing.
-    fn with_form(alloc: Global, form: Form) -> Result<StimReader, AllocError>
+    fn with_form(alloc: Global, form: StimulusForm) -> Result<StimReader, AllocError>
         requires { is_start form.header ≡ false }
         ensures form { IfOk result (λ reader. reader.form ≡ form) }
         ensures fed { IfOk result (HasFed [] []) }

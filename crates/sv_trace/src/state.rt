@@ -8,7 +8,7 @@ ghost use Rattle.sv_trace.specs.Stimulus.{words};
 
 use crate::cycles::read_cycle;
 use crate::faults::StimFault;
-use crate::forms::Form;
+use crate::forms::StimulusForm;
 use crate::starts::{read_start, start_rest};
 use std::alloc::Global;
 use std::collections::VecDeque;
@@ -28,7 +28,7 @@ pub struct ReaderState {
 /// Reads a whole line.
 pub fn read_line(
     alloc: Global,
-    form: &Form,
+    form: &StimulusForm,
     state: &mut ReaderState,
     line: &[u8],
 ) -> Result<(), StimFault>
@@ -59,7 +59,7 @@ pub fn read_line(
 // Reads the line of a cycle.
 fn push_cycle(
     alloc: Global,
-    form: &Form,
+    form: &StimulusForm,
     state: &mut ReaderState,
     line: &[u8],
 ) -> Result<(), StimFault>
@@ -85,7 +85,7 @@ fn push_cycle(
 }
 
 // Reads a line before the header.
-fn put_start(form: &Form, state: &mut ReaderState, line: &[u8]) -> Result<(), StimFault>
+fn put_start(form: &StimulusForm, state: &mut ReaderState, line: &[u8]) -> Result<(), StimFault>
     requires said { IsSaid form.now (said_of state.old) }
     requires room { state.old.line + 1 < 2 ^ 64 }
     ensures said { IsSaid form.now (said_of state.new) }

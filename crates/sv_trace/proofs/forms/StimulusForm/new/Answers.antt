@@ -2,7 +2,7 @@ use Rattle.sv_flat.specs.FlatSystem.{flat_system}
 use Rattle.sv_flat.specs.Processes.{is_register}
 use Rattle.sv_flat.specs.Views.{design_of}
 use Rattle.sv_trace.proofs.FormFacts.{all_known}
-use Rattle.sv_trace.proofs.forms.Form.new.Goals as goal
+use Rattle.sv_trace.proofs.forms.StimulusForm.new.Goals as goal
 
 pub header_line-requires : goal.header_line-requires
 header_line-requires c =

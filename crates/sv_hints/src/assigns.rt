@@ -1,7 +1,7 @@
 // What is said of assignments, of signals without a driver, and of circles of signals.
 use crate::cases::{Case, owned};
 use crate::instances::{instance_of, own_name};
-use crate::names::{Declared, first_declaration};
+use crate::names::{NamedItem, first_declaration};
 use crate::origins::{item_at, module_in};
 use crate::rows::Row;
 use crate::sentences::{Hole, told};
@@ -29,7 +29,7 @@ pub fn wrong_assign(alloc: Global, case: &Case, text: Option<&Text>) -> Result<S
 // The declaration of a signal of a name in a module.
 fn signal_in<'a>(module: &'a Module, name: &[u8]) -> Option<&'a Decl> {
     match first_declaration(module, name) {
-        Some(Declared::Signal(decl)) => Some(decl),
+        Some(NamedItem::Signal(decl)) => Some(decl),
         _ => None,
     }
 }

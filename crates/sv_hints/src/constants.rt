@@ -1,6 +1,6 @@
 // Constants and lengths of a module, as far as they hang on nothing that an instance sets.
 use crate::maps::is_negative;
-use crate::names::{Declared, first_declaration};
+use crate::names::{NamedItem, first_declaration};
 use std::alloc::{AllocError, Global};
 use sv_ast::{Expr, Item, Module, Overrides, Param, Select, Span, Target, Text};
 use sv_num::{BinOp, OpClass, Place, UnOp, class_of};
@@ -149,7 +149,7 @@ impl<'t> Constants<'t> {
     /// How many bits the signal of a name has.
     pub fn width(&self, name: &[u8]) -> Option<u64> {
         match first_declaration(self.module, name)? {
-            Declared::Signal(decl) => match &decl.span {
+            NamedItem::Signal(decl) => match &decl.span {
                 Some(span) => self.width_of(span),
                 None => Some(1),
             },

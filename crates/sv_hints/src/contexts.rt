@@ -48,7 +48,7 @@ fn behind(tokens: &[Token]) -> &[Token] {
 
 // What a token does to the forms that are open.
 #[derive(Clone, Copy)]
-enum Nesting {
+enum Bracket {
     Opens,
     Shuts,
     Neither,
@@ -59,13 +59,13 @@ const OPENING: [&[u8]; 5] = [b"(", b"[", b"{", b"begin", b"case"];
 
 const SHUTTING: [&[u8]; 5] = [b")", b"]", b"}", b"end", b"endcase"];
 
-fn nesting_of(bytes: &[u8]) -> Nesting {
+fn bracket_of(bytes: &[u8]) -> Bracket {
     if is_among(bytes, &OPENING) {
-        Nesting::Opens
+        Bracket::Opens
     } else if is_among(bytes, &SHUTTING) {
-        Nesting::Shuts
+        Bracket::Shuts
     } else {
-        Nesting::Neither
+        Bracket::Neither
     }
 }
 
@@ -74,13 +74,13 @@ fn nesting_of(bytes: &[u8]) -> Nesting {
 pub fn last_open(text: &[u8], tokens: &[Token]) -> Option<usize> {
     let mut shut = 0usize;
     for number in (0..tokens.len()).rev() {
-        match nesting_of(bytes_at(text, tokens, Some(number))) {
-            Nesting::Opens => match shut.checked_sub(1) {
+        match bracket_of(bytes_at(text, tokens, Some(number))) {
+            Bracket::Opens => match shut.checked_sub(1) {
                 Some(less) => shut = less,
                 None => return Some(number),
             },
-            Nesting::Shuts => shut = shut.saturating_add(1),
-            Nesting::Neither => {}
+            Bracket::Shuts => shut = shut.saturating_add(1),
+            Bracket::Neither => {}
         }
     }
     None
@@ -271,11 +271,11 @@ pub fn is_in_value(text: &[u8], tokens: &[Token], parameter: Place, place: Place
 // its end, or no value was before.
 fn depth_of_value(depth: Option<u64>, word: &[u8]) -> Option<u64> {
     let before = depth?;
-    match nesting_of(word) {
-        Nesting::Opens => Some(before.saturating_add(1)),
-        Nesting::Shuts => before.checked_sub(1),
-        Nesting::Neither if before == 0 && ends_value(word) => None,
-        Nesting::Neither => Some(before),
+    match bracket_of(word) {
+        Bracket::Opens => Some(before.saturating_add(1)),
+        Bracket::Shuts => before.checked_sub(1),
+        Bracket::Neither if before == 0 && ends_value(word) => None,
+        Bracket::Neither => Some(before),
     }
 }
 
@@ -343,13 +343,13 @@ fn is_in_joined_target(spot: Spot) -> bool {
 fn behind_select(spot: Spot) -> &[Token] {
     let mut depth = 0usize;
     for (number, token) in spot.behind.iter().enumerate() {
-        match nesting_of(bytes_of(spot.text, token)) {
-            Nesting::Opens => depth = depth.saturating_add(1),
-            Nesting::Shuts if depth <= 1 => {
+        match bracket_of(bytes_of(spot.text, token)) {
+            Bracket::Opens => depth = depth.saturating_add(1),
+            Bracket::Shuts if depth <= 1 => {
                 return behind(spot.behind.get(number..).unwrap_or(&[]));
             }
-            Nesting::Shuts => depth = depth.saturating_sub(1),
-            Nesting::Neither => {}
+            Bracket::Shuts => depth = depth.saturating_sub(1),
+            Bracket::Neither => {}
         }
     }
     &[]

@@ -2,7 +2,7 @@
 use crate::cases::Case;
 use crate::constants::place_of;
 use crate::instances::{instance_of, master_of, own_name};
-use crate::names::{Declared, first_declaration, port_named};
+use crate::names::{NamedItem, first_declaration, port_named};
 use crate::origins::{is_up_to, item_at, module_at};
 use crate::rows::{Row, shown};
 use crate::sentences::{Hole, told};
@@ -195,7 +195,7 @@ fn no_signal<'t>(
              wide as that, as in `wire {};`",
             &[name, Hole::Name(around.name.bytes()), port, name],
         ),
-        Some(Declared::Parameter(_)) => told(
+        Some(NamedItem::Parameter(_)) => told(
             alloc,
             "the output `{}` is linked to the parameter `{}`: link a `wire`",
             &[port, name],
@@ -294,7 +294,7 @@ fn value_too_many(alloc: Global, master: &Module) -> Result<String, AllocError> 
 fn not_settable(alloc: Global, name: &[u8], master: &Module) -> Result<String, AllocError> {
     let module = shown(alloc, master.name.bytes())?;
     match first_declaration(master, name) {
-        Some(Declared::Parameter(place)) => local_parameter(alloc, name, place, module.as_str()),
+        Some(NamedItem::Parameter(place)) => local_parameter(alloc, name, place, module.as_str()),
         _ => no_parameter(alloc, name, master, module.as_str()),
     }
 }

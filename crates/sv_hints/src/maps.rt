@@ -193,23 +193,23 @@ fn each_count(map: &MapText) -> Option<(u64, u64)> {
 
 // What is wrong with a map: its ranges, a key at a place, one that has a row already, or a point.
 #[derive(Clone, Copy)]
-enum Fault<'t> {
+enum MapFault<'t> {
     Range(&'static str),
     Key(&'static str, Place),
     Twice(Place, Place),
     Point(&'t Name),
 }
 
-fn fault_words(alloc: Global, text: &Text, fault: Fault) -> Result<String, AllocError> {
+fn fault_words(alloc: Global, text: &Text, fault: MapFault) -> Result<String, AllocError> {
     match fault {
-        Fault::Range(words) => owned(alloc, words),
-        Fault::Key(sentence, place) => told(alloc, sentence, &[Hole::Place(place)]),
-        Fault::Twice(place, earlier) => told(
+        MapFault::Range(words) => owned(alloc, words),
+        MapFault::Key(sentence, place) => told(alloc, sentence, &[Hole::Place(place)]),
+        MapFault::Twice(place, earlier) => told(
             alloc,
             "the key at {} has a row already, at {}",
             &[Hole::Place(place), Hole::Place(earlier)],
         ),
-        Fault::Point(point) => no_point(alloc, text, point.bytes()),
+        MapFault::Point(point) => no_point(alloc, text, point.bytes()),
     }
 }
 
@@ -224,9 +224,9 @@ pub fn no_point(alloc: Global, text: &Text, name: &[u8]) -> Result<String, Alloc
 }
 
 // What is wrong with a map.
-fn map_fault<'t>(text: &Text, map: &'t MapText) -> Option<Fault<'t>> {
+fn map_fault<'t>(text: &Text, map: &'t MapText) -> Option<MapFault<'t>> {
     let Some(counts) = counts_of(map) else {
-        return Some(Fault::Range(range_fault(map)));
+        return Some(MapFault::Range(range_fault(map)));
     };
     if let Some(fault) = rows_fault(text, map, counts) {
         return Some(fault);
@@ -246,7 +246,7 @@ fn range_fault(map: &MapText) -> &'static str {
 }
 
 // What is wrong with the rows of a map.
-fn rows_fault<'t>(text: &Text, map: &'t MapText, counts: (u64, u64)) -> Option<Fault<'t>> {
+fn rows_fault<'t>(text: &Text, map: &'t MapText, counts: (u64, u64)) -> Option<MapFault<'t>> {
     for (number, row) in map.rows.iter().enumerate() {
         let earlier = map.rows.get(..number).unwrap_or(&[]);
         if let Some(fault) = row_fault(text, row, earlier, map.second.is_some(), counts) {
@@ -263,12 +263,12 @@ fn row_fault<'t>(
     earlier: &[MapRow],
     is_double: bool,
     counts: (u64, u64),
-) -> Option<Fault<'t>> {
+) -> Option<MapFault<'t>> {
     if let Some(sentence) = key_fault(row, is_double, counts) {
-        return Some(Fault::Key(sentence, row.1));
+        return Some(MapFault::Key(sentence, row.1));
     }
     match earlier_row(earlier, &row.0, &row.2) {
-        Some(place) => Some(Fault::Twice(row.1, place)),
+        Some(place) => Some(MapFault::Twice(row.1, place)),
         None => point_fault(text, &row.3),
     }
 }
@@ -287,11 +287,11 @@ fn key_fault(row: &MapRow, is_double: bool, counts: (u64, u64)) -> Option<&'stat
 }
 
 // That there is no such point.
-fn point_fault<'t>(text: &Text, point: &'t Name) -> Option<Fault<'t>> {
+fn point_fault<'t>(text: &Text, point: &'t Name) -> Option<MapFault<'t>> {
     if has_point(text, point.bytes()) {
         None
     } else {
-        Some(Fault::Point(point))
+        Some(MapFault::Point(point))
     }
 }
 

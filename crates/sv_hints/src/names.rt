@@ -13,30 +13,30 @@ use sv_num::{Name, Place};
 
 /// What a name in a module was declared as, first.
 #[derive(Clone, Copy)]
-pub enum Declared<'a> {
+pub enum NamedItem<'a> {
     Parameter(Place),
     Signal(&'a Decl),
     Other(Place),
 }
 
-impl<'a> Declared<'a> {
+impl<'a> NamedItem<'a> {
     /// Where.
     pub fn place(&self) -> Place {
         match self {
-            Declared::Parameter(place) => *place,
-            Declared::Signal(decl) => decl.place,
-            Declared::Other(place) => *place,
+            NamedItem::Parameter(place) => *place,
+            NamedItem::Signal(decl) => decl.place,
+            NamedItem::Other(place) => *place,
         }
     }
 }
 
 /// What a name in a module is declared as first.
-pub fn first_declaration<'a>(module: &'a Module, name: &[u8]) -> Option<Declared<'a>> {
+pub fn first_declaration<'a>(module: &'a Module, name: &[u8]) -> Option<NamedItem<'a>> {
     if let Some(place) = parameter_named(&module.params, name) {
-        return Some(Declared::Parameter(place));
+        return Some(NamedItem::Parameter(place));
     }
     match port_named(module, name) {
-        Some(port) => Some(Declared::Signal(port)),
+        Some(port) => Some(NamedItem::Signal(port)),
         None => declared_in(&module.items, name),
     }
 }
@@ -62,7 +62,7 @@ pub fn port_named<'a>(module: &'a Module, name: &[u8]) -> Option<&'a Decl> {
 }
 
 // What the items of a module declare a name as first.
-fn declared_in<'a>(items: &'a [Item], name: &[u8]) -> Option<Declared<'a>> {
+fn declared_in<'a>(items: &'a [Item], name: &[u8]) -> Option<NamedItem<'a>> {
     for item in items {
         if let Some(found) = declared_by(item, name) {
             return Some(found);
@@ -72,13 +72,13 @@ fn declared_in<'a>(items: &'a [Item], name: &[u8]) -> Option<Declared<'a>> {
 }
 
 // What an item declares the name as.
-fn declared_by<'a>(item: &'a Item, name: &[u8]) -> Option<Declared<'a>> {
+fn declared_by<'a>(item: &'a Item, name: &[u8]) -> Option<NamedItem<'a>> {
     match item {
-        Item::Param(param) if param.name.bytes() == name => Some(Declared::Parameter(param.place)),
-        Item::Decl(decl) if decl.name.bytes() == name => Some(Declared::Signal(decl)),
-        Item::Memory(memory) if memory.name.bytes() == name => Some(Declared::Other(memory.place)),
+        Item::Param(param) if param.name.bytes() == name => Some(NamedItem::Parameter(param.place)),
+        Item::Decl(decl) if decl.name.bytes() == name => Some(NamedItem::Signal(decl)),
+        Item::Memory(memory) if memory.name.bytes() == name => Some(NamedItem::Other(memory.place)),
         Item::Instance(instance) if instance.name.bytes() == name => {
-            Some(Declared::Other(instance.name_place))
+            Some(NamedItem::Other(instance.name_place))
         }
         _ => None,
     }
@@ -145,15 +145,15 @@ pub fn unknown_name(alloc: Global, case: &Case, text: Option<&Text>) -> Result<S
 // Of a name that stands for nothing here, in a module.
 fn unknown_in(alloc: Global, case: &Case, module: &Module) -> Result<String, AllocError> {
     match first_declaration(module, case.name()) {
-        Some(Declared::Parameter(place)) if is_up_to(place, case.place) => {
+        Some(NamedItem::Parameter(place)) if is_up_to(place, case.place) => {
             earlier_parameter(alloc, case, place)
         }
-        Some(Declared::Parameter(place)) => told(
+        Some(NamedItem::Parameter(place)) => told(
             alloc,
             "the parameter `{}` is declared later, at {}: declare it before it is used",
             &[Hole::Name(case.name()), Hole::Place(place)],
         ),
-        Some(Declared::Other(_)) => told(
+        Some(NamedItem::Other(_)) => told(
             alloc,
             "`{}` is an instance, and a signal is wanted here",
             &[Hole::Name(case.name())],
@@ -416,7 +416,7 @@ fn count_at(map: &MapText, name: &[u8], label: Table) -> Option<u64> {
 
 // Whether a name in a module is a signal's.
 fn is_signal(module: &Module, name: &[u8]) -> bool {
-    matches!(first_declaration(module, name), Some(Declared::Signal(_)))
+    matches!(first_declaration(module, name), Some(NamedItem::Signal(_)))
 }
 
 // Of a map that there is not.
@@ -462,7 +462,7 @@ fn no_selector<'a>(
     let name = Hole::Name(name);
     let map = Hole::Name(map);
     match declared {
-        Some(Declared::Parameter(_)) => told(
+        Some(NamedItem::Parameter(_)) => told(
             alloc,
             "a signal picks the row of the label map `{}`, and `{}` is a parameter: make it an \
              input, linked to a constant",

@@ -14,7 +14,7 @@ use sv_num::{Place, Rule};
 // What is sought at a place: a bit, by the place of its index, or a part; what has too many bits;
 // or a replication by the place of its count.
 #[derive(Clone, Copy)]
-enum Sought {
+enum SoughtPart {
     Select(Place),
     Length(Place),
     Count(Place),
@@ -22,7 +22,7 @@ enum Sought {
 
 // What is found there.
 #[derive(Clone, Copy)]
-enum Found<'t> {
+enum FoundPart<'t> {
     Bit(&'t [u8], &'t Expr),
     Part(&'t [u8], &'t Expr, &'t Expr),
     Expr(&'t Expr),
@@ -30,7 +30,10 @@ enum Found<'t> {
 }
 
 // The first of two that there is.
-fn first_of<'t>(first: Option<Found<'t>>, second: Option<Found<'t>>) -> Option<Found<'t>> {
+fn first_of<'t>(
+    first: Option<FoundPart<'t>>,
+    second: Option<FoundPart<'t>>,
+) -> Option<FoundPart<'t>> {
     match first {
         Some(found) => Some(found),
         None => second,
@@ -39,7 +42,7 @@ fn first_of<'t>(first: Option<Found<'t>>, second: Option<Found<'t>>) -> Option<F
 
 // What is found in an expression, in its operands first.
 #[cycle(in_expr)]
-fn in_expr(expr: &Expr, sought: Sought) -> Option<Found<'_>> {
+fn in_expr(expr: &Expr, sought: SoughtPart) -> Option<FoundPart<'_>> {
     let inside = match expr {
         Expr::Number(_, _) => None,
         Expr::Name(_, _) => None,
@@ -58,7 +61,7 @@ fn in_expr(expr: &Expr, sought: Sought) -> Option<Found<'_>> {
 }
 
 #[cycle(in_expr)]
-fn in_exprs(exprs: &[Expr], sought: Sought) -> Option<Found<'_>> {
+fn in_exprs(exprs: &[Expr], sought: SoughtPart) -> Option<FoundPart<'_>> {
     for expr in exprs {
         if let Some(found) = in_expr(expr, sought) {
             return Some(found);
@@ -68,37 +71,37 @@ fn in_exprs(exprs: &[Expr], sought: Sought) -> Option<Found<'_>> {
 }
 
 // The expression itself, where it is what is sought.
-fn as_sought(expr: &Expr, sought: Sought) -> Option<Found<'_>> {
+fn as_sought(expr: &Expr, sought: SoughtPart) -> Option<FoundPart<'_>> {
     match sought {
-        Sought::Select(place) => as_select(expr, place),
-        Sought::Length(place) => as_long(expr, place),
-        Sought::Count(place) => as_count(expr, place),
+        SoughtPart::Select(place) => as_select(expr, place),
+        SoughtPart::Length(place) => as_long(expr, place),
+        SoughtPart::Count(place) => as_count(expr, place),
     }
 }
 
-fn as_select(expr: &Expr, place: Place) -> Option<Found<'_>> {
+fn as_select(expr: &Expr, place: Place) -> Option<FoundPart<'_>> {
     match expr {
         Expr::Bit(name, _, index) if place_of(index) == place => {
-            Some(Found::Bit(name.bytes(), index))
+            Some(FoundPart::Bit(name.bytes(), index))
         }
         Expr::Part(name, at, high, low) if *at == place => {
-            Some(Found::Part(name.bytes(), high, low))
+            Some(FoundPart::Part(name.bytes(), high, low))
         }
         _ => None,
     }
 }
 
-fn as_long(expr: &Expr, place: Place) -> Option<Found<'_>> {
+fn as_long(expr: &Expr, place: Place) -> Option<FoundPart<'_>> {
     match expr {
-        Expr::Join(at, _) if *at == place => Some(Found::Expr(expr)),
-        Expr::Repeat(at, _, _) if *at == place => Some(Found::Expr(expr)),
+        Expr::Join(at, _) if *at == place => Some(FoundPart::Expr(expr)),
+        Expr::Repeat(at, _, _) if *at == place => Some(FoundPart::Expr(expr)),
         _ => None,
     }
 }
 
-fn as_count(expr: &Expr, place: Place) -> Option<Found<'_>> {
+fn as_count(expr: &Expr, place: Place) -> Option<FoundPart<'_>> {
     match expr {
-        Expr::Repeat(_, count, _) if place_of(count) == place => Some(Found::Expr(count)),
+        Expr::Repeat(_, count, _) if place_of(count) == place => Some(FoundPart::Expr(count)),
         _ => None,
     }
 }
@@ -108,17 +111,17 @@ fn in_assignment<'t>(
     targets: &'t [Target],
     at: Place,
     value: &'t Expr,
-    sought: Sought,
-) -> Option<Found<'t>> {
+    sought: SoughtPart,
+) -> Option<FoundPart<'t>> {
     let of_targets = match sought {
-        Sought::Select(place) => in_targets(targets, place),
-        Sought::Length(place) if at == place => Some(Found::Targets(targets)),
+        SoughtPart::Select(place) => in_targets(targets, place),
+        SoughtPart::Length(place) if at == place => Some(FoundPart::Targets(targets)),
         _ => None,
     };
     first_of(of_targets, in_expr(value, sought))
 }
 
-fn in_targets(targets: &[Target], place: Place) -> Option<Found<'_>> {
+fn in_targets(targets: &[Target], place: Place) -> Option<FoundPart<'_>> {
     for target in targets {
         if let Some(found) = in_target(target, place) {
             return Some(found);
@@ -127,13 +130,13 @@ fn in_targets(targets: &[Target], place: Place) -> Option<Found<'_>> {
     None
 }
 
-fn in_target(target: &Target, place: Place) -> Option<Found<'_>> {
+fn in_target(target: &Target, place: Place) -> Option<FoundPart<'_>> {
     match &target.select {
         Select::Bit(index) if place_of(index) == place => {
-            Some(Found::Bit(target.name.bytes(), index))
+            Some(FoundPart::Bit(target.name.bytes(), index))
         }
         Select::Part(high, low) if target.place == place => {
-            Some(Found::Part(target.name.bytes(), high, low))
+            Some(FoundPart::Part(target.name.bytes(), high, low))
         }
         _ => None,
     }
@@ -141,7 +144,7 @@ fn in_target(target: &Target, place: Place) -> Option<Found<'_>> {
 
 // What is found in a statement.
 #[cycle(in_statement)]
-fn in_statement(stmt: &Stmt, sought: Sought) -> Option<Found<'_>> {
+fn in_statement(stmt: &Stmt, sought: SoughtPart) -> Option<FoundPart<'_>> {
     match stmt {
         Stmt::Null => None,
         Stmt::Assign {
@@ -166,7 +169,7 @@ fn in_statement(stmt: &Stmt, sought: Sought) -> Option<Found<'_>> {
 }
 
 #[cycle(in_statement)]
-fn in_statements(stmts: &[Stmt], sought: Sought) -> Option<Found<'_>> {
+fn in_statements(stmts: &[Stmt], sought: SoughtPart) -> Option<FoundPart<'_>> {
     for stmt in stmts {
         if let Some(found) = in_statement(stmt, sought) {
             return Some(found);
@@ -176,7 +179,7 @@ fn in_statements(stmts: &[Stmt], sought: Sought) -> Option<Found<'_>> {
 }
 
 #[cycle(in_statement)]
-fn in_arms(arms: &[Arm], sought: Sought) -> Option<Found<'_>> {
+fn in_arms(arms: &[Arm], sought: SoughtPart) -> Option<FoundPart<'_>> {
     for arm in arms {
         let in_arm = in_statement(&arm.body, sought);
         if let Some(found) = first_of(in_exprs(&arm.items, sought), in_arm) {
@@ -187,7 +190,7 @@ fn in_arms(arms: &[Arm], sought: Sought) -> Option<Found<'_>> {
 }
 
 // What is found in an item.
-fn in_item(item: &Item, sought: Sought) -> Option<Found<'_>> {
+fn in_item(item: &Item, sought: SoughtPart) -> Option<FoundPart<'_>> {
     match item {
         Item::Param(param) => in_expr(&param.value, sought),
         Item::Decl(decl) => in_expr(decl.value.as_ref()?, sought),
@@ -203,14 +206,14 @@ fn in_item(item: &Item, sought: Sought) -> Option<Found<'_>> {
 }
 
 // What is found in the links of an instance.
-fn in_links(instance: &Instance, sought: Sought) -> Option<Found<'_>> {
+fn in_links(instance: &Instance, sought: SoughtPart) -> Option<FoundPart<'_>> {
     match &instance.links {
         Links::Ordered(links) => in_exprs(links, sought),
         Links::Named(links) => in_named_links(links, sought),
     }
 }
 
-fn in_named_links(links: &[NamedLink], sought: Sought) -> Option<Found<'_>> {
+fn in_named_links(links: &[NamedLink], sought: SoughtPart) -> Option<FoundPart<'_>> {
     for link in links {
         if let Some(expr) = &link.2 {
             if let Some(found) = in_expr(expr, sought) {
@@ -222,7 +225,7 @@ fn in_named_links(links: &[NamedLink], sought: Sought) -> Option<Found<'_>> {
 }
 
 // What is found in the item around a place.
-fn found_at(module: &Module, place: Place, sought: Sought) -> Option<Found<'_>> {
+fn found_at(module: &Module, place: Place, sought: SoughtPart) -> Option<FoundPart<'_>> {
     in_item(item_at(module, place)?, sought)
 }
 
@@ -265,16 +268,16 @@ fn in_module(
 ) -> Result<String, AllocError> {
     match rule {
         Rule::TooWide => {
-            let found = found_at(module, place, Sought::Length(place));
+            let found = found_at(module, place, SoughtPart::Length(place));
             too_wide(alloc, length_of(constants, found))
         }
         Rule::BadCount => {
-            let found = found_at(module, place, Sought::Count(place));
+            let found = found_at(module, place, SoughtPart::Count(place));
             bad_count(alloc, count_in(constants, found))
         }
         Rule::BadRange => bad_range(alloc, bounds_of(constants, range_at(module, place))),
         _ => {
-            let found = found_at(module, place, Sought::Select(place));
+            let found = found_at(module, place, SoughtPart::Select(place));
             bad_select(alloc, constants, found)
         }
     }
@@ -284,11 +287,11 @@ fn in_module(
 fn bad_select(
     alloc: Global,
     constants: &Constants,
-    found: Option<Found>,
+    found: Option<FoundPart>,
 ) -> Result<String, AllocError> {
     match found {
-        Some(Found::Bit(name, index)) => outside(alloc, constants, name, index),
-        Some(Found::Part(name, high, low)) => {
+        Some(FoundPart::Bit(name, index)) => outside(alloc, constants, name, index),
+        Some(FoundPart::Part(name, high, low)) => {
             let bounds = (constants.value(high), constants.value(low));
             wrong_part(alloc, constants, name, bounds)
         }
@@ -395,10 +398,10 @@ fn too_wide(alloc: Global, length: Option<u64>) -> Result<String, AllocError> {
 }
 
 // How many bits has what is found to have too many.
-fn length_of(constants: &Constants, found: Option<Found>) -> Option<u64> {
+fn length_of(constants: &Constants, found: Option<FoundPart>) -> Option<u64> {
     match found? {
-        Found::Expr(expr) => constants.length(expr),
-        Found::Targets(targets) => constants.targets_length(targets),
+        FoundPart::Expr(expr) => constants.length(expr),
+        FoundPart::Targets(targets) => constants.targets_length(targets),
         _ => None,
     }
 }
@@ -418,9 +421,9 @@ fn bad_count(alloc: Global, count: Option<u64>) -> Result<String, AllocError> {
 }
 
 // The value of what is found to be a count.
-fn count_in(constants: &Constants, found: Option<Found>) -> Option<u64> {
+fn count_in(constants: &Constants, found: Option<FoundPart>) -> Option<u64> {
     match found? {
-        Found::Expr(count) => constants.value(count),
+        FoundPart::Expr(count) => constants.value(count),
         _ => None,
     }
 }

@@ -109,13 +109,13 @@ fn some_driven_at(stmts: &[FStmt], signal: usize) -> Option<Place> {
 
 /// A link by a whole name to an input port: the port and the signal that is linked to it.
 #[derive(Clone, Copy)]
-pub struct Link {
+pub struct SourceLink {
     pub port: usize,
     pub source: usize,
 }
 
 /// The link that a process is, if it is one by a whole name to an input port.
-pub fn link_in(process: &Process) -> Option<Link> {
+pub fn link_in(process: &Process) -> Option<SourceLink> {
     if process.kind != ProcKind::PortIn {
         return None;
     }
@@ -126,7 +126,7 @@ pub fn link_in(process: &Process) -> Option<Link> {
         return None;
     };
     match value.node {
-        FNode::Signal(source, _) => Some(Link {
+        FNode::Signal(source, _) => Some(SourceLink {
             port: piece.signal.0 as usize,
             source: source.0 as usize,
         }),

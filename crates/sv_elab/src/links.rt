@@ -315,10 +315,10 @@ pub fn add_links(
 ) -> Result<(), Fault>
     requires places { HavePlaces ports }
     requires shaped { IsTrue (are_shaped_links (link_trees links.now)) }
-    ensures found { OnOk result ((links_walk (names_of outer.now) (ports_form ports)
+    ensures found { OnOk result ((links_walk (names_of outer.now) (ports_form ports.entry)
         (map process_form processes.old.items) (link_trees links.now)).end
         ≡ Ok (map process_form processes.new.items)) }
-    ensures broken { IfErr result (IsBreach (links_walk (names_of outer.now) (ports_form ports)
+    ensures broken { IfErr result (IsBreach (links_walk (names_of outer.now) (ports_form ports.entry)
         (map process_form processes.old.items) (link_trees links.now)).end) }
 {
     match links {

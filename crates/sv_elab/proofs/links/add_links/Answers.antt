@@ -21,7 +21,7 @@ returns-in-Named-clause-found c =
     let same = ap (λ (l : Links). (links_walk names ports ps (link_trees l)).end) c.in-Named.is
     ∙ links_by_name names ports ps (map named_link c.in-Named.links.items)
     ∙ ap (λ ls. (named_links_walk names ports [] ps (map named_link ls)).end)
-    (sym c.deref-in-Named.ensures.value) in
+    (sym c.deref.ensures.value) in
     on_weaker c.add_named.result _ _ (λ h. same ∙ h) c.add_named.ensures.found
 
 pub returns-in-Named-clause-broken : goal.returns-in-Named-clause-broken
@@ -32,7 +32,7 @@ returns-in-Named-clause-broken c =
     let same = ap (λ (l : Links). (links_walk names ports ps (link_trees l)).end) c.in-Named.is
     ∙ links_by_name names ports ps (map named_link c.in-Named.links.items)
     ∙ ap (λ ls. (named_links_walk names ports [] ps (map named_link ls)).end)
-    (sym c.deref-in-Named.ensures.value) in
+    (sym c.deref.ensures.value) in
     err_weaker c.add_named.result _ _ (λ f h.
     breach_on f _ _ (λ s e. same ∙ e) h) c.add_named.ensures.broken
 

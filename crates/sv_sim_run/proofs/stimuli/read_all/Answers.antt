@@ -13,6 +13,8 @@ use Rattle.sv_sim_run.proofs.Pieces.{handed_on, full_no_read, full_no_write, rea
 use Rattle.sv_sim_run.proofs.Pieces.{takes_no_more, piece_length, piece_fits, piece_few}
 use Rattle.sv_sim_run.proofs.Pieces.{still_open, open_twice}
 use Rattle.sv_sim_run.proofs.Pieces.{some_taken}
+use Rattle.sv_sim_run.proofs.PieceTurns.{turn_way, turn_on, turn_takes, turn_ends, turn_stops}
+use Rattle.sv_sim_run.proofs.PieceTurns.{turn_open, turn_stops_open}
 use Rattle.sv_sim_run.proofs.StepFacts.{rose_then}
 use Rattle.sv_sim_run.proofs.stimuli.read_all.Goals as goal
 

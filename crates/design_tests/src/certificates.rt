@@ -5,7 +5,7 @@ use std::alloc::Global;
 use std::test::Fail;
 use sv_accept::{AcceptFault, accept};
 use sv_design::Design;
-use sv_obl::obligations;
+use sv_paths::obligations;
 use sv_proof::{LogFault, read_proof};
 
 // A log for each of the two obligations.

@@ -8,7 +8,8 @@ use std::alloc::Global;
 use std::test::Fail;
 use sv_decide::{Decided, decide, falsifies};
 use sv_design::Design;
-use sv_obl::{Query, obligations};
+use sv_obl::Query;
+use sv_paths::obligations;
 use sv_report::{Verdict, verdict_json, verdict_text};
 use sv_sim::Sim;
 

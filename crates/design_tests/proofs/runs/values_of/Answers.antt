@@ -8,10 +8,10 @@ use Rattle.design_tests.proofs.runs.values_of.Goals as goal
 
 pub value-requires : goal.value-requires
 value-requires c =
-    let seen = c.seen.result.now in
+    let seen = c.seen-signal-items.result.now in
     let k = c.loop-signal.signal-index in
     subst (λ (flat : Flat).
     Contains (system_signals (design_of flat)) (get_or seen k (record { 0 = 0 })).0)
     (sym c.requires)
-    (listed_at seen (system_signals (design_of c.args.design.now)) c.seen.ensures.seen k
+    (listed_at seen (system_signals (design_of c.args.design.now)) c.seen-signal-items.ensures.seen k
     c.loop-signal-test.true)

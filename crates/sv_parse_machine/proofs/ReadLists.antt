@@ -1,8 +1,9 @@
 -- Lists end with their signs where no comma comes, and symbols that begin with a name or a sign
 -- begin as these do.
 use Rattle.std.proofs.Common.{◌≡◌, ℕ, Bool, true, false, List, [], ◌∷◌, ◌++◌, length, refl, sym, ap}
-use Rattle.std.proofs.Common.{subst, ◌∙◌}
+use Rattle.std.proofs.Common.{Option, None, Some, subst, ◌∙◌}
 use Rattle.sv_token.specs.declared.keywords.WordKind.TheVariants as words
+use Rattle.sv_token.specs.declared.signs.SignKind.{SignKind}
 use Rattle.sv_token.specs.declared.signs.SignKind.TheVariants as signs
 use Rattle.sv_token.specs.Lexemes.{Lexeme, word, identifier, sign, Placed}
 use Rattle.sv_token.specs.Words.{is_refused_word}
@@ -61,242 +62,178 @@ same_inner start y z (t ∷ ts) first second next = record {
       (step all_limits (length ts) below t.lexeme) r)) next;
 }
 
-next_by : (P Q : Lexeme → Type 0) → ((x : Lexeme) → P x → Q x) → (ts : List Placed) → NextIs P ts →
-    NextIs Q ts
-next_by P Q f [] next = tt
-next_by P Q f (t ∷ ts) next = f t.lexeme next
+alike_if : (P : Lexeme → Type 0) (y z : Outer) → may_be_empty (outer y) ≡ false
+    → may_be_empty (outer z) ≡ false → ((x : Lexeme) → P x → outer_on y x ≡ outer_on z x)
+    → (ts : List Placed) → NextIs P ts → Reads (outer y ∷ []) (outer z ∷ []) ts ts
+alike_if P y z first second row [] next = same_outer y z [] first second tt
+alike_if P y z first second row (t ∷ ts) next =
+    same_outer y z (t ∷ ts) first second (row t.lexeme next)
+
+inner_alike_if : (k : SignKind) (start : ℕ) (y z : Inner) → may_be_empty (inner start y) ≡ false
+    → may_be_empty (inner start z) ≡ false
+    → ((x : Lexeme) → IsNot (sign k) x → inner_on y x ≡ inner_on z x)
+    → (ts : List Placed) → NextIsNot (sign k) ts
+    → Reads (inner start y ∷ []) (inner start z ∷ []) ts ts
+inner_alike_if k start y z first second row [] next = same_inner start y z [] first second tt
+inner_alike_if k start y z first second row (t ∷ ts) next =
+    same_inner start y z (t ∷ ts) first second (row t.lexeme next)
 
 -- ---- lists without a further comma
 
-row_more_values : (x : Lexeme) → IsNot (sign signs.Comma) x →
-    outer_on more_values x ≡ outer_on (punctuation signs.CloseParenthesis) x
-row_more_values (sign signs.Comma) other = absurd (other refl)
-row_more_values (sign signs.CloseParenthesis) other = refl
-row_more_values x other = refl
+-- the sign behind the list, if the symbol is a list
+abbrev list_end : Outer → Option SignKind
+list_end more_values = Some signs.CloseParenthesis
+list_end more_header_parameters = Some signs.CloseParenthesis
+list_end more_ports = Some signs.CloseParenthesis
+list_end more_named_overrides = Some signs.CloseParenthesis
+list_end more_named_links = Some signs.CloseParenthesis
+list_end more_parameters = Some signs.Semicolon
+list_end more_wires = Some signs.Semicolon
+list_end more_assigned = Some signs.Semicolon
+list_end more_instances = Some signs.Semicolon
+list_end (more_targets n) = Some signs.CloseBrace
+list_end (more_choices n) = Some signs.Colon
+list_end (more_names signs.Semicolon) = Some signs.Semicolon
+list_end (more_names signs.CloseBrace) = Some signs.CloseBrace
+list_end y = None
+
+abbrev IsLikeItsEnd : Option SignKind → Outer → Lexeme → Type 0
+IsLikeItsEnd None y x = Unit {0}
+IsLikeItsEnd (Some s) y x = outer_on y x ≡ outer_on (punctuation s) x
+
+row_list : (y : Outer) (x : Lexeme) → IsNot (sign signs.Comma) x → IsLikeItsEnd (list_end y) y x
+row_list more_values (sign signs.Comma) other = absurd (other refl)
+row_list more_values x other = refl
+row_list more_header_parameters (sign signs.Comma) other = absurd (other refl)
+row_list more_header_parameters x other = refl
+row_list more_ports (sign signs.Comma) other = absurd (other refl)
+row_list more_ports x other = refl
+row_list more_named_overrides (sign signs.Comma) other = absurd (other refl)
+row_list more_named_overrides x other = refl
+row_list more_named_links (sign signs.Comma) other = absurd (other refl)
+row_list more_named_links x other = refl
+row_list more_parameters (sign signs.Comma) other = absurd (other refl)
+row_list more_parameters x other = refl
+row_list more_wires (sign signs.Comma) other = absurd (other refl)
+row_list more_wires x other = refl
+row_list more_assigned (sign signs.Comma) other = absurd (other refl)
+row_list more_assigned x other = refl
+row_list more_instances (sign signs.Comma) other = absurd (other refl)
+row_list more_instances x other = refl
+row_list (more_targets n) (sign signs.Comma) other = absurd (other refl)
+row_list (more_targets n) x other = refl
+row_list (more_choices n) (sign signs.Comma) other = absurd (other refl)
+row_list (more_choices n) x other = refl
+row_list (more_names signs.Semicolon) (sign signs.Comma) other = absurd (other refl)
+row_list (more_names signs.Semicolon) x other = refl
+row_list (more_names signs.CloseBrace) (sign signs.Comma) other = absurd (other refl)
+row_list (more_names signs.CloseBrace) x other = refl
+row_list y x other = tt
+
+ends_list : (y : Outer) (s : SignKind) → may_be_empty (outer y) ≡ false
+    → ((x : Lexeme) → IsNot (sign signs.Comma) x → outer_on y x ≡ outer_on (punctuation s) x)
+    → (ts : List Placed) → NextIsNot (sign signs.Comma) ts
+    → Reads (outer y ∷ []) (outer (punctuation s) ∷ []) ts ts
+ends_list y s full row = alike_if (IsNot (sign signs.Comma)) y (punctuation s) full refl row
 
 pub ends_more_values : (ts : List Placed) → NextIsNot (sign signs.Comma) ts →
     Reads (outer more_values ∷ []) (outer (punctuation signs.CloseParenthesis) ∷ []) ts ts
-ends_more_values ts other =
-    same_outer more_values (punctuation signs.CloseParenthesis) ts refl refl
-    (next_by (IsNot (sign signs.Comma)) (λ x.
-    outer_on more_values x ≡ outer_on (punctuation signs.CloseParenthesis) x) row_more_values
-    ts other)
-
-row_more_header_parameters : (x : Lexeme) → IsNot (sign signs.Comma) x →
-    outer_on more_header_parameters x ≡ outer_on (punctuation signs.CloseParenthesis) x
-row_more_header_parameters (sign signs.Comma) other = absurd (other refl)
-row_more_header_parameters (sign signs.CloseParenthesis) other = refl
-row_more_header_parameters x other = refl
+ends_more_values = ends_list more_values signs.CloseParenthesis refl (row_list more_values)
 
 pub ends_more_header_parameters : (ts : List Placed) → NextIsNot (sign signs.Comma) ts →
-    Reads (outer more_header_parameters ∷ [])
-    (outer (punctuation signs.CloseParenthesis) ∷ []) ts ts
-ends_more_header_parameters ts other =
-    same_outer more_header_parameters (punctuation signs.CloseParenthesis) ts refl refl
-    (next_by (IsNot (sign signs.Comma)) (λ x.
-    outer_on more_header_parameters x ≡
-    outer_on (punctuation signs.CloseParenthesis) x) row_more_header_parameters ts other)
-
-row_more_ports : (x : Lexeme) → IsNot (sign signs.Comma) x →
-    outer_on more_ports x ≡ outer_on (punctuation signs.CloseParenthesis) x
-row_more_ports (sign signs.Comma) other = absurd (other refl)
-row_more_ports (sign signs.CloseParenthesis) other = refl
-row_more_ports x other = refl
+    Reads (outer more_header_parameters ∷ []) (outer (punctuation signs.CloseParenthesis) ∷ []) ts
+    ts
+ends_more_header_parameters =
+    ends_list more_header_parameters signs.CloseParenthesis refl (row_list more_header_parameters)
 
 pub ends_more_ports : (ts : List Placed) → NextIsNot (sign signs.Comma) ts →
     Reads (outer more_ports ∷ []) (outer (punctuation signs.CloseParenthesis) ∷ []) ts ts
-ends_more_ports ts other =
-    same_outer more_ports (punctuation signs.CloseParenthesis) ts refl refl
-    (next_by (IsNot (sign signs.Comma)) (λ x.
-    outer_on more_ports x ≡ outer_on (punctuation signs.CloseParenthesis) x) row_more_ports
-    ts other)
-
-row_more_parameters : (x : Lexeme) → IsNot (sign signs.Comma) x →
-    outer_on more_parameters x ≡ outer_on (punctuation signs.Semicolon) x
-row_more_parameters (sign signs.Comma) other = absurd (other refl)
-row_more_parameters (sign signs.Semicolon) other = refl
-row_more_parameters x other = refl
-
-pub ends_more_parameters : (ts : List Placed) → NextIsNot (sign signs.Comma) ts →
-    Reads (outer more_parameters ∷ []) (outer (punctuation signs.Semicolon) ∷ []) ts ts
-ends_more_parameters ts other =
-    same_outer more_parameters (punctuation signs.Semicolon) ts refl refl
-    (next_by (IsNot (sign signs.Comma)) (λ x.
-    outer_on more_parameters x ≡ outer_on (punctuation signs.Semicolon) x) row_more_parameters
-    ts other)
-
-row_more_wires : (x : Lexeme) → IsNot (sign signs.Comma) x →
-    outer_on more_wires x ≡ outer_on (punctuation signs.Semicolon) x
-row_more_wires (sign signs.Comma) other = absurd (other refl)
-row_more_wires (sign signs.Semicolon) other = refl
-row_more_wires x other = refl
-
-pub ends_more_wires : (ts : List Placed) → NextIsNot (sign signs.Comma) ts →
-    Reads (outer more_wires ∷ []) (outer (punctuation signs.Semicolon) ∷ []) ts ts
-ends_more_wires ts other =
-    same_outer more_wires (punctuation signs.Semicolon) ts refl refl
-    (next_by (IsNot (sign signs.Comma)) (λ x.
-    outer_on more_wires x ≡ outer_on (punctuation signs.Semicolon) x) row_more_wires ts other)
-
-row_more_assigned : (x : Lexeme) → IsNot (sign signs.Comma) x →
-    outer_on more_assigned x ≡ outer_on (punctuation signs.Semicolon) x
-row_more_assigned (sign signs.Comma) other = absurd (other refl)
-row_more_assigned (sign signs.Semicolon) other = refl
-row_more_assigned x other = refl
-
-pub ends_more_assigned : (ts : List Placed) → NextIsNot (sign signs.Comma) ts →
-    Reads (outer more_assigned ∷ []) (outer (punctuation signs.Semicolon) ∷ []) ts ts
-ends_more_assigned ts other =
-    same_outer more_assigned (punctuation signs.Semicolon) ts refl refl
-    (next_by (IsNot (sign signs.Comma)) (λ x.
-    outer_on more_assigned x ≡ outer_on (punctuation signs.Semicolon) x) row_more_assigned
-    ts other)
-
-row_more_named_overrides : (x : Lexeme) → IsNot (sign signs.Comma) x →
-    outer_on more_named_overrides x ≡ outer_on (punctuation signs.CloseParenthesis) x
-row_more_named_overrides (sign signs.Comma) other = absurd (other refl)
-row_more_named_overrides (sign signs.CloseParenthesis) other = refl
-row_more_named_overrides x other = refl
+ends_more_ports = ends_list more_ports signs.CloseParenthesis refl (row_list more_ports)
 
 pub ends_more_named_overrides : (ts : List Placed) → NextIsNot (sign signs.Comma) ts →
     Reads (outer more_named_overrides ∷ []) (outer (punctuation signs.CloseParenthesis) ∷ []) ts ts
-ends_more_named_overrides ts other =
-    same_outer more_named_overrides (punctuation signs.CloseParenthesis) ts refl refl
-    (next_by (IsNot (sign signs.Comma)) (λ x.
-    outer_on more_named_overrides x ≡
-    outer_on (punctuation signs.CloseParenthesis) x) row_more_named_overrides ts other)
-
-row_more_named_links : (x : Lexeme) → IsNot (sign signs.Comma) x →
-    outer_on more_named_links x ≡ outer_on (punctuation signs.CloseParenthesis) x
-row_more_named_links (sign signs.Comma) other = absurd (other refl)
-row_more_named_links (sign signs.CloseParenthesis) other = refl
-row_more_named_links x other = refl
+ends_more_named_overrides =
+    ends_list more_named_overrides signs.CloseParenthesis refl (row_list more_named_overrides)
 
 pub ends_more_named_links : (ts : List Placed) → NextIsNot (sign signs.Comma) ts →
     Reads (outer more_named_links ∷ []) (outer (punctuation signs.CloseParenthesis) ∷ []) ts ts
-ends_more_named_links ts other =
-    same_outer more_named_links (punctuation signs.CloseParenthesis) ts refl refl
-    (next_by (IsNot (sign signs.Comma)) (λ x.
-    outer_on more_named_links x ≡
-    outer_on (punctuation signs.CloseParenthesis) x) row_more_named_links ts other)
+ends_more_named_links =
+    ends_list more_named_links signs.CloseParenthesis refl (row_list more_named_links)
 
-row_more_instances : (x : Lexeme) → IsNot (sign signs.Comma) x →
-    outer_on more_instances x ≡ outer_on (punctuation signs.Semicolon) x
-row_more_instances (sign signs.Comma) other = absurd (other refl)
-row_more_instances (sign signs.Semicolon) other = refl
-row_more_instances x other = refl
+pub ends_more_parameters : (ts : List Placed) → NextIsNot (sign signs.Comma) ts →
+    Reads (outer more_parameters ∷ []) (outer (punctuation signs.Semicolon) ∷ []) ts ts
+ends_more_parameters = ends_list more_parameters signs.Semicolon refl (row_list more_parameters)
+
+pub ends_more_wires : (ts : List Placed) → NextIsNot (sign signs.Comma) ts →
+    Reads (outer more_wires ∷ []) (outer (punctuation signs.Semicolon) ∷ []) ts ts
+ends_more_wires = ends_list more_wires signs.Semicolon refl (row_list more_wires)
+
+pub ends_more_assigned : (ts : List Placed) → NextIsNot (sign signs.Comma) ts →
+    Reads (outer more_assigned ∷ []) (outer (punctuation signs.Semicolon) ∷ []) ts ts
+ends_more_assigned = ends_list more_assigned signs.Semicolon refl (row_list more_assigned)
 
 pub ends_more_instances : (ts : List Placed) → NextIsNot (sign signs.Comma) ts →
     Reads (outer more_instances ∷ []) (outer (punctuation signs.Semicolon) ∷ []) ts ts
-ends_more_instances ts other =
-    same_outer more_instances (punctuation signs.Semicolon) ts refl refl
-    (next_by (IsNot (sign signs.Comma)) (λ x.
-    outer_on more_instances x ≡ outer_on (punctuation signs.Semicolon) x) row_more_instances
-    ts other)
-
-row_more_targets : (n : ℕ) (x : Lexeme) → IsNot (sign signs.Comma) x →
-    outer_on (more_targets n) x ≡ outer_on (punctuation signs.CloseBrace) x
-row_more_targets n (sign signs.Comma) other = absurd (other refl)
-row_more_targets n (sign signs.CloseBrace) other = refl
-row_more_targets n x other = refl
+ends_more_instances = ends_list more_instances signs.Semicolon refl (row_list more_instances)
 
 pub ends_more_targets : (n : ℕ) (ts : List Placed) → NextIsNot (sign signs.Comma) ts →
     Reads (outer (more_targets n) ∷ []) (outer (punctuation signs.CloseBrace) ∷ []) ts ts
-ends_more_targets n ts other =
-    same_outer (more_targets n) (punctuation signs.CloseBrace) ts refl refl
-    (next_by (IsNot (sign signs.Comma)) (λ x.
-    outer_on (more_targets n) x ≡
-    outer_on (punctuation signs.CloseBrace) x) (row_more_targets n) ts other)
-
-row_more_choices : (n : ℕ) (x : Lexeme) → IsNot (sign signs.Comma) x →
-    outer_on (more_choices n) x ≡ outer_on (punctuation signs.Colon) x
-row_more_choices n (sign signs.Comma) other = absurd (other refl)
-row_more_choices n (sign signs.Colon) other = refl
-row_more_choices n x other = refl
+ends_more_targets n = ends_list (more_targets n) signs.CloseBrace refl (row_list (more_targets n))
 
 pub ends_more_choices : (n : ℕ) (ts : List Placed) → NextIsNot (sign signs.Comma) ts →
     Reads (outer (more_choices n) ∷ []) (outer (punctuation signs.Colon) ∷ []) ts ts
-ends_more_choices n ts other =
-    same_outer (more_choices n) (punctuation signs.Colon) ts refl refl
-    (next_by (IsNot (sign signs.Comma)) (λ x.
-    outer_on (more_choices n) x ≡
-    outer_on (punctuation signs.Colon) x) (row_more_choices n) ts other)
-
-row_listed : (x : Lexeme) → IsNot (sign signs.Comma) x →
-    outer_on (more_names signs.Semicolon) x ≡ outer_on (punctuation signs.Semicolon) x
-row_listed (sign signs.Comma) other = absurd (other refl)
-row_listed (sign signs.Semicolon) other = refl
-row_listed x other = refl
+ends_more_choices n = ends_list (more_choices n) signs.Colon refl (row_list (more_choices n))
 
 pub ends_listed : (ts : List Placed) → NextIsNot (sign signs.Comma) ts →
     Reads (outer (more_names signs.Semicolon) ∷ []) (outer (punctuation signs.Semicolon) ∷ []) ts ts
-ends_listed ts other =
-    same_outer (more_names signs.Semicolon) (punctuation signs.Semicolon) ts refl refl
-    (next_by (IsNot (sign signs.Comma)) (λ x.
-    outer_on (more_names signs.Semicolon) x ≡
-    outer_on (punctuation signs.Semicolon) x) row_listed ts other)
-
-row_joined : (x : Lexeme) → IsNot (sign signs.Comma) x →
-    outer_on (more_names signs.CloseBrace) x ≡ outer_on (punctuation signs.CloseBrace) x
-row_joined (sign signs.Comma) other = absurd (other refl)
-row_joined (sign signs.CloseBrace) other = refl
-row_joined x other = refl
+ends_listed =
+    ends_list (more_names signs.Semicolon) signs.Semicolon refl
+    (row_list (more_names signs.Semicolon))
 
 pub ends_joined : (ts : List Placed) → NextIsNot (sign signs.Comma) ts →
-    Reads (outer (more_names signs.CloseBrace) ∷ [])
-    (outer (punctuation signs.CloseBrace) ∷ []) ts ts
-ends_joined ts other =
-    same_outer (more_names signs.CloseBrace) (punctuation signs.CloseBrace) ts refl refl
-    (next_by (IsNot (sign signs.Comma)) (λ x.
-    outer_on (more_names signs.CloseBrace) x ≡
-    outer_on (punctuation signs.CloseBrace) x) row_joined ts other)
+    Reads (outer (more_names signs.CloseBrace) ∷ []) (outer (punctuation signs.CloseBrace) ∷ [])
+    ts ts
+ends_joined =
+    ends_list (more_names signs.CloseBrace) signs.CloseBrace refl
+    (row_list (more_names signs.CloseBrace))
 
 row_behind_reg_name : (x : Lexeme) → IsNot (sign signs.Comma) x × IsNot (sign signs.OpenBracket) x →
     outer_on behind_reg_name x ≡ outer_on (punctuation signs.Semicolon) x
 row_behind_reg_name (sign signs.Comma) others = absurd (others.0 refl)
 row_behind_reg_name (sign signs.OpenBracket) others = absurd (others.1 refl)
-row_behind_reg_name (sign signs.Semicolon) others = refl
 row_behind_reg_name x others = refl
 
 -- a `reg` that is no memory, and the last of its list
 pub ends_behind_reg_name : (ts : List Placed)
     → NextIs (λ x. IsNot (sign signs.Comma) x × IsNot (sign signs.OpenBracket) x) ts
     → Reads (outer behind_reg_name ∷ []) (outer (punctuation signs.Semicolon) ∷ []) ts ts
-ends_behind_reg_name ts others =
-    same_outer behind_reg_name (punctuation signs.Semicolon) ts refl refl
-    (next_by (λ x. IsNot (sign signs.Comma) x × IsNot (sign signs.OpenBracket) x) (λ x.
-    outer_on behind_reg_name x ≡ outer_on (punctuation signs.Semicolon) x)
-    row_behind_reg_name ts others)
+ends_behind_reg_name =
+    alike_if (λ x. IsNot (sign signs.Comma) x × IsNot (sign signs.OpenBracket) x) behind_reg_name
+    (punctuation signs.Semicolon) refl refl row_behind_reg_name
 
 -- ---- braces of expressions
 
 row_members : (n : ℕ) (x : Lexeme) → IsNot (sign signs.Comma) x →
     inner_on (members n) x ≡ inner_on inner_brace x
 row_members n (sign signs.Comma) other = absurd (other refl)
-row_members n (sign signs.CloseBrace) other = refl
 row_members n x other = refl
 
 pub ends_members : (start n : ℕ) (ts : List Placed) → NextIsNot (sign signs.Comma) ts →
     Reads (inner start (members n) ∷ []) (inner start inner_brace ∷ []) ts ts
-ends_members start n ts other =
-    same_inner start (members n) inner_brace ts refl refl
-    (next_by (IsNot (sign signs.Comma)) (λ x.
-    inner_on (members n) x ≡ inner_on inner_brace x) (row_members n) ts other)
+ends_members start n =
+    inner_alike_if signs.Comma start (members n) inner_brace refl refl (row_members n)
 
 row_first_member : (n : ℕ) (x : Lexeme) → IsNot (sign signs.OpenBrace) x →
     inner_on (members_or_count n) x ≡ inner_on (members n) x
 row_first_member n (sign signs.OpenBrace) other = absurd (other refl)
-row_first_member n (sign signs.Comma) other = refl
-row_first_member n (sign signs.CloseBrace) other = refl
 row_first_member n x other = refl
 
 -- a join, where no second brace comes
 pub no_count : (start n : ℕ) (ts : List Placed) → NextIsNot (sign signs.OpenBrace) ts →
     Reads (inner start (members_or_count n) ∷ []) (inner start (members n) ∷ []) ts ts
-no_count start n ts other =
-    same_inner start (members_or_count n) (members n) ts refl refl
-    (next_by (IsNot (sign signs.OpenBrace)) (λ x.
-    inner_on (members_or_count n) x ≡ inner_on (members n) x) (row_first_member n) ts other)
+no_count start n =
+    inner_alike_if signs.OpenBrace start (members_or_count n) (members n) refl refl
+    (row_first_member n)
 
 -- ---- symbols that begin with a name or a sign
 

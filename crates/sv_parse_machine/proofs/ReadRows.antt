@@ -24,14 +24,23 @@ use Rattle.sv_parse_machine.specs.Symbols.{reg_name, behind_reg_name, label_sele
 use Rattle.sv_parse_machine.specs.Symbols.{assigned, value_or_release, later_assigned, more_assigned}
 use Rattle.sv_parse_machine.specs.Symbols.{event, event_inside, more_named_overrides, more_named_links}
 use Rattle.sv_parse_machine.specs.Symbols.{more_instances, bits_end, more_targets, assigns, more_choices}
+use Rattle.sv_parse_machine.specs.Symbols.{Expected}
 use Rattle.sv_parse_machine.specs.Symbols.{Outer, outer, something, an_edge, a_port, takes, stuck}
 use Rattle.sv_parse_machine.specs.Symbols.{unless_refused}
 use Rattle.sv_parse_machine.specs.StatementTable.{is_sign, is_star, is_less_equal, taken_if}
 use Rattle.sv_parse_machine.specs.ModuleTable.{star_in_event}
-use Rattle.sv_parse_machine.specs.Machine.{outer_on, outside_on, stuck_at, too_deep}
+use Rattle.sv_parse_machine.specs.Machine.{may_be_empty, outer_on, outside_on, stuck_at, too_deep}
+use Rattle.sv_parse_machine.specs.Reads.{NextIs}
 use Rattle.sv_parse_machine.specs.Reads.{IsNot, NextIsNot, IsNoName, NextIsNoName, IsNoNumber}
 use Rattle.sv_parse_machine.specs.Reads.{NextIsNoNumber, IsNoOperator, NextIsNoOperator, Reads, Halts}
 use Rattle.sv_parse_machine.proofs.ReadSteps.{takes_token, takes_level, level_is_too_deep, is_stuck}
+use Rattle.sv_parse_machine.proofs.ReadSteps.{halts_then}
+use Rattle.sv_parse_machine.proofs.ReadLists.{ends_more_values, ends_more_header_parameters}
+use Rattle.sv_parse_machine.proofs.ReadLists.{ends_more_ports, ends_more_named_overrides}
+use Rattle.sv_parse_machine.proofs.ReadLists.{ends_more_named_links, ends_more_parameters}
+use Rattle.sv_parse_machine.proofs.ReadLists.{ends_more_wires, ends_more_assigned}
+use Rattle.sv_parse_machine.proofs.ReadLists.{ends_more_instances, ends_more_targets}
+use Rattle.sv_parse_machine.proofs.ReadLists.{ends_more_choices, ends_listed, ends_joined}
 
 -- ---- tokens that come
 
@@ -85,6 +94,14 @@ level_too_deep y w level ys ts rest more row (p, at) =
     subst (λ us. Halts (outer y ∷ []) us too_deep (length us)) (sym at)
     (level_is_too_deep y level ys (record { lexeme = word w; place = p }) rest more row)
 
+-- ---- where no token goes on with a symbol
+
+halts_if : (P : Lexeme → Type 0) (y : Outer) (e : Expected) → may_be_empty (outer y) ≡ false
+    → ((x : Lexeme) → P x → outer_on y x ≡ stuck e) → (ts : List Placed) → NextIs P ts
+    → Halts (outer y ∷ []) ts (stuck_at e) (length ts)
+halts_if P y e full row [] none = is_stuck y e [] full tt
+halts_if P y e full row (t ∷ ts) none = is_stuck y e (t ∷ ts) full (row t.lexeme none)
+
 -- ---- punctuation, names and numbers that have to come
 
 pub punctuation_read : (s : SignKind) (ts rest : List Placed) → is_sign s s ≡ true →
@@ -120,9 +137,15 @@ row_punctuation s x other = refl
 
 pub halts_punctuation : (s : SignKind) (ts : List Placed) → NextIsNot (sign s) ts →
     Halts (outer (punctuation s) ∷ []) ts (stuck_at something) (length ts)
-halts_punctuation s [] other = is_stuck (punctuation s) something [] refl tt
-halts_punctuation s (t ∷ ts) other =
-    is_stuck (punctuation s) something (t ∷ ts) refl (row_punctuation s t.lexeme other)
+halts_punctuation s = halts_if (IsNot (sign s)) (punctuation s) something refl (row_punctuation s)
+
+-- a list that is over, where its sign does not come
+halts_at_end : (y : Outer) (s : SignKind) (ts : List Placed)
+    → Reads (outer y ∷ []) (outer (punctuation s) ∷ []) ts ts → NextIsNot (sign s) ts
+    → Halts (outer y ∷ []) ts (stuck_at something) (length ts)
+halts_at_end y s ts ends other =
+    halts_then (outer y ∷ []) (outer (punctuation s) ∷ []) ts ts (stuck_at something) (length ts)
+    ends (halts_punctuation s ts other)
 
 refused_or_not : (b : Bool) (ys : List Outer) → (IsTrue (not b) → ⊥) →
     unless_refused b (takes 0 0 ys) ≡ stuck something
@@ -144,18 +167,11 @@ no_less_equal o none = refl
 
 -- ---- symbol by symbol: what it is where none of its tokens comes
 
-row_more_values : (x : Lexeme) → IsNot (sign signs.Comma) x →
-    IsNot (sign signs.CloseParenthesis) x → outer_on more_values x ≡ stuck something
-row_more_values (sign signs.Comma) no_0 no_1 = absurd (no_0 refl)
-row_more_values (sign signs.CloseParenthesis) no_0 no_1 = absurd (no_1 refl)
-row_more_values x no_0 no_1 = refl
-
 pub halts_more_values : (ts : List Placed) → NextIsNot (sign signs.Comma) ts →
     NextIsNot (sign signs.CloseParenthesis) ts →
     Halts (outer more_values ∷ []) ts (stuck_at something) (length ts)
-halts_more_values [] no_0 no_1 = is_stuck more_values something [] refl tt
-halts_more_values (t ∷ ts) no_0 no_1 =
-    is_stuck more_values something (t ∷ ts) refl (row_more_values t.lexeme no_0 no_1)
+halts_more_values ts no_0 no_1 =
+    halts_at_end more_values signs.CloseParenthesis ts (ends_more_values ts no_0) no_1
 
 row_lattice_lines : (x : Lexeme) → IsNot (word words.Point) x → IsNoName x →
     IsNot (word words.Endlattice) x → outer_on lattice_lines x ≡ stuck something
@@ -182,9 +198,7 @@ row_map_name x no_0 = refl
 
 pub halts_map_name : (ts : List Placed) → NextIsNoName ts →
     Halts (outer map_name ∷ []) ts (stuck_at something) (length ts)
-halts_map_name [] no_0 = is_stuck map_name something [] refl tt
-halts_map_name (t ∷ ts) no_0 =
-    is_stuck map_name something (t ∷ ts) refl (row_map_name t.lexeme no_0)
+halts_map_name = halts_if IsNoName map_name something refl row_map_name
 
 row_end_of_map : (x : Lexeme) → IsNot (word words.Endlabelmap) x →
     outer_on end_of_map x ≡ stuck something
@@ -193,9 +207,8 @@ row_end_of_map x no_0 = refl
 
 pub halts_end_of_map : (ts : List Placed) → NextIsNot (word words.Endlabelmap) ts →
     Halts (outer end_of_map ∷ []) ts (stuck_at something) (length ts)
-halts_end_of_map [] no_0 = is_stuck end_of_map something [] refl tt
-halts_end_of_map (t ∷ ts) no_0 =
-    is_stuck end_of_map something (t ∷ ts) refl (row_end_of_map t.lexeme no_0)
+halts_end_of_map =
+    halts_if (IsNot (word words.Endlabelmap)) end_of_map something refl row_end_of_map
 
 row_rows : (x : Lexeme) → IsNoNumber x → IsNot (word words.Default) x →
     IsNot (word words.Endlabelmap) x → outer_on rows x ≡ stuck something
@@ -218,9 +231,8 @@ row_header_parameter x no_0 = refl
 
 pub halts_header_parameter : (ts : List Placed) → NextIsNot (word words.Parameter) ts →
     Halts (outer header_parameter ∷ []) ts (stuck_at something) (length ts)
-halts_header_parameter [] no_0 = is_stuck header_parameter something [] refl tt
-halts_header_parameter (t ∷ ts) no_0 =
-    is_stuck header_parameter something (t ∷ ts) refl (row_header_parameter t.lexeme no_0)
+halts_header_parameter =
+    halts_if (IsNot (word words.Parameter)) header_parameter something refl row_header_parameter
 
 row_later_header_parameter : (x : Lexeme) → IsNot (word words.Parameter) x → IsNoName x →
     outer_on later_header_parameter x ≡ stuck something
@@ -236,19 +248,12 @@ halts_later_header_parameter (t ∷ ts) no_0 no_1 =
     is_stuck later_header_parameter something (t ∷ ts) refl
     (row_later_header_parameter t.lexeme no_0 no_1)
 
-row_more_header_parameters : (x : Lexeme) → IsNot (sign signs.Comma) x →
-    IsNot (sign signs.CloseParenthesis) x → outer_on more_header_parameters x ≡ stuck something
-row_more_header_parameters (sign signs.Comma) no_0 no_1 = absurd (no_0 refl)
-row_more_header_parameters (sign signs.CloseParenthesis) no_0 no_1 = absurd (no_1 refl)
-row_more_header_parameters x no_0 no_1 = refl
-
 pub halts_more_header_parameters : (ts : List Placed) → NextIsNot (sign signs.Comma) ts →
     NextIsNot (sign signs.CloseParenthesis) ts →
     Halts (outer more_header_parameters ∷ []) ts (stuck_at something) (length ts)
-halts_more_header_parameters [] no_0 no_1 = is_stuck more_header_parameters something [] refl tt
-halts_more_header_parameters (t ∷ ts) no_0 no_1 =
-    is_stuck more_header_parameters something (t ∷ ts) refl
-    (row_more_header_parameters t.lexeme no_0 no_1)
+halts_more_header_parameters ts no_0 no_1 =
+    halts_at_end more_header_parameters signs.CloseParenthesis ts
+    (ends_more_header_parameters ts no_0) no_1
 
 row_label_end : (x : Lexeme) → IsNot (sign signs.CloseBrace) x →
     IsNot (sign signs.OpenParenthesis) x → outer_on label_end x ≡ stuck something
@@ -277,18 +282,11 @@ halts_later_port [] no_0 no_1 no_2 = is_stuck later_port something [] refl tt
 halts_later_port (t ∷ ts) no_0 no_1 no_2 =
     is_stuck later_port something (t ∷ ts) refl (row_later_port t.lexeme no_0 no_1 no_2)
 
-row_more_ports : (x : Lexeme) → IsNot (sign signs.Comma) x → IsNot (sign signs.CloseParenthesis) x →
-    outer_on more_ports x ≡ stuck something
-row_more_ports (sign signs.Comma) no_0 no_1 = absurd (no_0 refl)
-row_more_ports (sign signs.CloseParenthesis) no_0 no_1 = absurd (no_1 refl)
-row_more_ports x no_0 no_1 = refl
-
 pub halts_more_ports : (ts : List Placed) → NextIsNot (sign signs.Comma) ts →
     NextIsNot (sign signs.CloseParenthesis) ts →
     Halts (outer more_ports ∷ []) ts (stuck_at something) (length ts)
-halts_more_ports [] no_0 no_1 = is_stuck more_ports something [] refl tt
-halts_more_ports (t ∷ ts) no_0 no_1 =
-    is_stuck more_ports something (t ∷ ts) refl (row_more_ports t.lexeme no_0 no_1)
+halts_more_ports ts no_0 no_1 =
+    halts_at_end more_ports signs.CloseParenthesis ts (ends_more_ports ts no_0) no_1
 
 row_ports : (x : Lexeme) → IsNot (word words.Input) x → IsNot (word words.Output) x →
     IsNot (sign signs.CloseParenthesis) x → outer_on ports x ≡ stuck a_port
@@ -304,31 +302,17 @@ halts_ports [] no_0 no_1 no_2 = is_stuck ports a_port [] refl tt
 halts_ports (t ∷ ts) no_0 no_1 no_2 =
     is_stuck ports a_port (t ∷ ts) refl (row_ports t.lexeme no_0 no_1 no_2)
 
-row_more_parameters : (x : Lexeme) → IsNot (sign signs.Comma) x → IsNot (sign signs.Semicolon) x →
-    outer_on more_parameters x ≡ stuck something
-row_more_parameters (sign signs.Comma) no_0 no_1 = absurd (no_0 refl)
-row_more_parameters (sign signs.Semicolon) no_0 no_1 = absurd (no_1 refl)
-row_more_parameters x no_0 no_1 = refl
-
 pub halts_more_parameters : (ts : List Placed) → NextIsNot (sign signs.Comma) ts →
     NextIsNot (sign signs.Semicolon) ts →
     Halts (outer more_parameters ∷ []) ts (stuck_at something) (length ts)
-halts_more_parameters [] no_0 no_1 = is_stuck more_parameters something [] refl tt
-halts_more_parameters (t ∷ ts) no_0 no_1 =
-    is_stuck more_parameters something (t ∷ ts) refl (row_more_parameters t.lexeme no_0 no_1)
-
-row_more_wires : (x : Lexeme) → IsNot (sign signs.Comma) x → IsNot (sign signs.Semicolon) x →
-    outer_on more_wires x ≡ stuck something
-row_more_wires (sign signs.Comma) no_0 no_1 = absurd (no_0 refl)
-row_more_wires (sign signs.Semicolon) no_0 no_1 = absurd (no_1 refl)
-row_more_wires x no_0 no_1 = refl
+halts_more_parameters ts no_0 no_1 =
+    halts_at_end more_parameters signs.Semicolon ts (ends_more_parameters ts no_0) no_1
 
 pub halts_more_wires : (ts : List Placed) → NextIsNot (sign signs.Comma) ts →
     NextIsNot (sign signs.Semicolon) ts →
     Halts (outer more_wires ∷ []) ts (stuck_at something) (length ts)
-halts_more_wires [] no_0 no_1 = is_stuck more_wires something [] refl tt
-halts_more_wires (t ∷ ts) no_0 no_1 =
-    is_stuck more_wires something (t ∷ ts) refl (row_more_wires t.lexeme no_0 no_1)
+halts_more_wires ts no_0 no_1 =
+    halts_at_end more_wires signs.Semicolon ts (ends_more_wires ts no_0) no_1
 
 row_behind_reg_name : (x : Lexeme) → IsNot (sign signs.OpenBracket) x → IsNot (sign signs.Comma) x →
     IsNot (sign signs.Semicolon) x → outer_on behind_reg_name x ≡ stuck something
@@ -353,9 +337,7 @@ row_memory_name x no_0 = refl
 
 pub halts_memory_name : (ts : List Placed) → NextIsNoName ts →
     Halts (outer memory_name ∷ []) ts (stuck_at something) (length ts)
-halts_memory_name [] no_0 = is_stuck memory_name something [] refl tt
-halts_memory_name (t ∷ ts) no_0 =
-    is_stuck memory_name something (t ∷ ts) refl (row_memory_name t.lexeme no_0)
+halts_memory_name = halts_if IsNoName memory_name something refl row_memory_name
 
 row_label_selector : (x : Lexeme) → IsNot (sign signs.Hash) x → IsNoName x →
     outer_on label_selector x ≡ stuck something
@@ -379,9 +361,7 @@ row_reg_name x no_0 = refl
 
 pub halts_reg_name : (ts : List Placed) → NextIsNoName ts →
     Halts (outer reg_name ∷ []) ts (stuck_at something) (length ts)
-halts_reg_name [] no_0 = is_stuck reg_name something [] refl tt
-halts_reg_name (t ∷ ts) no_0 =
-    is_stuck reg_name something (t ∷ ts) refl (row_reg_name t.lexeme no_0)
+halts_reg_name = halts_if IsNoName reg_name something refl row_reg_name
 
 row_reg_label_end : (x : Lexeme) → IsNot (sign signs.CloseBrace) x →
     IsNot (sign signs.OpenParenthesis) x → outer_on reg_label_end x ≡ stuck something
@@ -423,18 +403,11 @@ halts_later_assigned [] no_0 no_1 = is_stuck later_assigned something [] refl tt
 halts_later_assigned (t ∷ ts) no_0 no_1 =
     is_stuck later_assigned something (t ∷ ts) refl (row_later_assigned t.lexeme no_0 no_1)
 
-row_more_assigned : (x : Lexeme) → IsNot (sign signs.Comma) x → IsNot (sign signs.Semicolon) x →
-    outer_on more_assigned x ≡ stuck something
-row_more_assigned (sign signs.Comma) no_0 no_1 = absurd (no_0 refl)
-row_more_assigned (sign signs.Semicolon) no_0 no_1 = absurd (no_1 refl)
-row_more_assigned x no_0 no_1 = refl
-
 pub halts_more_assigned : (ts : List Placed) → NextIsNot (sign signs.Comma) ts →
     NextIsNot (sign signs.Semicolon) ts →
     Halts (outer more_assigned ∷ []) ts (stuck_at something) (length ts)
-halts_more_assigned [] no_0 no_1 = is_stuck more_assigned something [] refl tt
-halts_more_assigned (t ∷ ts) no_0 no_1 =
-    is_stuck more_assigned something (t ∷ ts) refl (row_more_assigned t.lexeme no_0 no_1)
+halts_more_assigned ts no_0 no_1 =
+    halts_at_end more_assigned signs.Semicolon ts (ends_more_assigned ts no_0) no_1
 
 row_assigned : (x : Lexeme) → IsNoName x → IsNot (sign signs.OpenBrace) x →
     outer_on assigned x ≡ stuck something
@@ -477,45 +450,24 @@ halts_event [] no_0 no_1 = is_stuck event something [] refl tt
 halts_event (t ∷ ts) no_0 no_1 =
     is_stuck event something (t ∷ ts) refl (row_event t.lexeme no_0 no_1)
 
-row_more_named_overrides : (x : Lexeme) → IsNot (sign signs.Comma) x →
-    IsNot (sign signs.CloseParenthesis) x → outer_on more_named_overrides x ≡ stuck something
-row_more_named_overrides (sign signs.Comma) no_0 no_1 = absurd (no_0 refl)
-row_more_named_overrides (sign signs.CloseParenthesis) no_0 no_1 = absurd (no_1 refl)
-row_more_named_overrides x no_0 no_1 = refl
-
 pub halts_more_named_overrides : (ts : List Placed) → NextIsNot (sign signs.Comma) ts →
     NextIsNot (sign signs.CloseParenthesis) ts →
     Halts (outer more_named_overrides ∷ []) ts (stuck_at something) (length ts)
-halts_more_named_overrides [] no_0 no_1 = is_stuck more_named_overrides something [] refl tt
-halts_more_named_overrides (t ∷ ts) no_0 no_1 =
-    is_stuck more_named_overrides something (t ∷ ts) refl
-    (row_more_named_overrides t.lexeme no_0 no_1)
-
-row_more_named_links : (x : Lexeme) → IsNot (sign signs.Comma) x →
-    IsNot (sign signs.CloseParenthesis) x → outer_on more_named_links x ≡ stuck something
-row_more_named_links (sign signs.Comma) no_0 no_1 = absurd (no_0 refl)
-row_more_named_links (sign signs.CloseParenthesis) no_0 no_1 = absurd (no_1 refl)
-row_more_named_links x no_0 no_1 = refl
+halts_more_named_overrides ts no_0 no_1 =
+    halts_at_end more_named_overrides signs.CloseParenthesis ts
+    (ends_more_named_overrides ts no_0) no_1
 
 pub halts_more_named_links : (ts : List Placed) → NextIsNot (sign signs.Comma) ts →
     NextIsNot (sign signs.CloseParenthesis) ts →
     Halts (outer more_named_links ∷ []) ts (stuck_at something) (length ts)
-halts_more_named_links [] no_0 no_1 = is_stuck more_named_links something [] refl tt
-halts_more_named_links (t ∷ ts) no_0 no_1 =
-    is_stuck more_named_links something (t ∷ ts) refl (row_more_named_links t.lexeme no_0 no_1)
-
-row_more_instances : (x : Lexeme) → IsNot (sign signs.Comma) x → IsNot (sign signs.Semicolon) x →
-    outer_on more_instances x ≡ stuck something
-row_more_instances (sign signs.Comma) no_0 no_1 = absurd (no_0 refl)
-row_more_instances (sign signs.Semicolon) no_0 no_1 = absurd (no_1 refl)
-row_more_instances x no_0 no_1 = refl
+halts_more_named_links ts no_0 no_1 =
+    halts_at_end more_named_links signs.CloseParenthesis ts (ends_more_named_links ts no_0) no_1
 
 pub halts_more_instances : (ts : List Placed) → NextIsNot (sign signs.Comma) ts →
     NextIsNot (sign signs.Semicolon) ts →
     Halts (outer more_instances ∷ []) ts (stuck_at something) (length ts)
-halts_more_instances [] no_0 no_1 = is_stuck more_instances something [] refl tt
-halts_more_instances (t ∷ ts) no_0 no_1 =
-    is_stuck more_instances something (t ∷ ts) refl (row_more_instances t.lexeme no_0 no_1)
+halts_more_instances ts no_0 no_1 =
+    halts_at_end more_instances signs.Semicolon ts (ends_more_instances ts no_0) no_1
 
 row_bits_end : (n : ℕ) (x : Lexeme) → IsNot (sign signs.CloseBracket) x →
     IsNot (sign signs.Colon) x → outer_on (bits_end n) x ≡ stuck something
@@ -530,31 +482,17 @@ halts_bits_end n [] no_0 no_1 = is_stuck (bits_end n) something [] refl tt
 halts_bits_end n (t ∷ ts) no_0 no_1 =
     is_stuck (bits_end n) something (t ∷ ts) refl (row_bits_end n t.lexeme no_0 no_1)
 
-row_more_targets : (n : ℕ) (x : Lexeme) → IsNot (sign signs.Comma) x →
-    IsNot (sign signs.CloseBrace) x → outer_on (more_targets n) x ≡ stuck something
-row_more_targets n (sign signs.Comma) no_0 no_1 = absurd (no_0 refl)
-row_more_targets n (sign signs.CloseBrace) no_0 no_1 = absurd (no_1 refl)
-row_more_targets n x no_0 no_1 = refl
-
 pub halts_more_targets : (n : ℕ) (ts : List Placed) → NextIsNot (sign signs.Comma) ts →
     NextIsNot (sign signs.CloseBrace) ts →
     Halts (outer (more_targets n) ∷ []) ts (stuck_at something) (length ts)
-halts_more_targets n [] no_0 no_1 = is_stuck (more_targets n) something [] refl tt
-halts_more_targets n (t ∷ ts) no_0 no_1 =
-    is_stuck (more_targets n) something (t ∷ ts) refl (row_more_targets n t.lexeme no_0 no_1)
-
-row_more_choices : (n : ℕ) (x : Lexeme) → IsNot (sign signs.Comma) x → IsNot (sign signs.Colon) x →
-    outer_on (more_choices n) x ≡ stuck something
-row_more_choices n (sign signs.Comma) no_0 no_1 = absurd (no_0 refl)
-row_more_choices n (sign signs.Colon) no_0 no_1 = absurd (no_1 refl)
-row_more_choices n x no_0 no_1 = refl
+halts_more_targets n ts no_0 no_1 =
+    halts_at_end (more_targets n) signs.CloseBrace ts (ends_more_targets n ts no_0) no_1
 
 pub halts_more_choices : (n : ℕ) (ts : List Placed) → NextIsNot (sign signs.Comma) ts →
     NextIsNot (sign signs.Colon) ts →
     Halts (outer (more_choices n) ∷ []) ts (stuck_at something) (length ts)
-halts_more_choices n [] no_0 no_1 = is_stuck (more_choices n) something [] refl tt
-halts_more_choices n (t ∷ ts) no_0 no_1 =
-    is_stuck (more_choices n) something (t ∷ ts) refl (row_more_choices n t.lexeme no_0 no_1)
+halts_more_choices n ts no_0 no_1 =
+    halts_at_end (more_choices n) signs.Colon ts (ends_more_choices n ts no_0) no_1
 
 row_one_module : (x : Lexeme) → IsNot (word words.Module) x →
     outer_on one_module x ≡ stuck something
@@ -563,9 +501,7 @@ row_one_module x no_0 = refl
 
 pub halts_one_module : (ts : List Placed) → NextIsNot (word words.Module) ts →
     Halts (outer one_module ∷ []) ts (stuck_at something) (length ts)
-halts_one_module [] no_0 = is_stuck one_module something [] refl tt
-halts_one_module (t ∷ ts) no_0 =
-    is_stuck one_module something (t ∷ ts) refl (row_one_module t.lexeme no_0)
+halts_one_module = halts_if (IsNot (word words.Module)) one_module something refl row_one_module
 
 row_plain_name : (x : Lexeme) → IsNoName x → outer_on plain_name x ≡ stuck something
 row_plain_name (identifier x) no_0 = refused_or_not (is_refused_word x) [] (no_0 x refl)
@@ -573,9 +509,7 @@ row_plain_name x no_0 = refl
 
 pub halts_plain_name : (ts : List Placed) → NextIsNoName ts →
     Halts (outer plain_name ∷ []) ts (stuck_at something) (length ts)
-halts_plain_name [] no_0 = is_stuck plain_name something [] refl tt
-halts_plain_name (t ∷ ts) no_0 =
-    is_stuck plain_name something (t ∷ ts) refl (row_plain_name t.lexeme no_0)
+halts_plain_name = halts_if IsNoName plain_name something refl row_plain_name
 
 row_plain_number : (x : Lexeme) → IsNoNumber x → outer_on plain_number x ≡ stuck something
 row_plain_number (numeral v) no_0 = absurd (no_0 v refl)
@@ -583,9 +517,7 @@ row_plain_number x no_0 = refl
 
 pub halts_plain_number : (ts : List Placed) → NextIsNoNumber ts →
     Halts (outer plain_number ∷ []) ts (stuck_at something) (length ts)
-halts_plain_number [] no_0 = is_stuck plain_number something [] refl tt
-halts_plain_number (t ∷ ts) no_0 =
-    is_stuck plain_number something (t ∷ ts) refl (row_plain_number t.lexeme no_0)
+halts_plain_number = halts_if IsNoNumber plain_number something refl row_plain_number
 
 row_less_equal : (x : Lexeme) → IsNoOperator Le x → outer_on less_equal x ≡ stuck something
 row_less_equal (sign (signs.Operator o)) no_0 = no_less_equal (binary_operator o) (no_0 o refl)
@@ -593,9 +525,7 @@ row_less_equal x no_0 = refl
 
 pub halts_less_equal : (ts : List Placed) → NextIsNoOperator Le ts →
     Halts (outer less_equal ∷ []) ts (stuck_at something) (length ts)
-halts_less_equal [] no_0 = is_stuck less_equal something [] refl tt
-halts_less_equal (t ∷ ts) no_0 =
-    is_stuck less_equal something (t ∷ ts) refl (row_less_equal t.lexeme no_0)
+halts_less_equal = halts_if (IsNoOperator Le) less_equal something refl row_less_equal
 
 row_assigns : (x : Lexeme) → IsNot (sign signs.Equals) x → IsNoOperator Le x →
     outer_on assigns x ≡ stuck something
@@ -610,30 +540,14 @@ halts_assigns (t ∷ ts) no_0 no_1 =
     is_stuck assigns something (t ∷ ts) refl (row_assigns t.lexeme no_0 no_1)
 
 -- a list of names and its sign
-row_listed : (x : Lexeme) → IsNot (sign signs.Comma) x → IsNot (sign signs.Semicolon) x →
-    outer_on (more_names signs.Semicolon) x ≡ stuck something
-row_listed (sign signs.Comma) no_comma no_end = absurd (no_comma refl)
-row_listed (sign signs.Semicolon) no_comma no_end = absurd (no_end refl)
-row_listed x no_comma no_end = refl
-
 pub halts_listed : (ts : List Placed) → NextIsNot (sign signs.Comma) ts
     → NextIsNot (sign signs.Semicolon) ts
     → Halts (outer (more_names signs.Semicolon) ∷ []) ts (stuck_at something) (length ts)
-halts_listed [] no_comma no_end = is_stuck (more_names signs.Semicolon) something [] refl tt
-halts_listed (t ∷ ts) no_comma no_end =
-    is_stuck (more_names signs.Semicolon) something (t ∷ ts) refl
-    (row_listed t.lexeme no_comma no_end)
-
-row_joined : (x : Lexeme) → IsNot (sign signs.Comma) x → IsNot (sign signs.CloseBrace) x →
-    outer_on (more_names signs.CloseBrace) x ≡ stuck something
-row_joined (sign signs.Comma) no_comma no_end = absurd (no_comma refl)
-row_joined (sign signs.CloseBrace) no_comma no_end = absurd (no_end refl)
-row_joined x no_comma no_end = refl
+halts_listed ts no_0 no_1 =
+    halts_at_end (more_names signs.Semicolon) signs.Semicolon ts (ends_listed ts no_0) no_1
 
 pub halts_joined : (ts : List Placed) → NextIsNot (sign signs.Comma) ts
     → NextIsNot (sign signs.CloseBrace) ts
     → Halts (outer (more_names signs.CloseBrace) ∷ []) ts (stuck_at something) (length ts)
-halts_joined [] no_comma no_end = is_stuck (more_names signs.CloseBrace) something [] refl tt
-halts_joined (t ∷ ts) no_comma no_end =
-    is_stuck (more_names signs.CloseBrace) something (t ∷ ts) refl
-    (row_joined t.lexeme no_comma no_end)
+halts_joined ts no_0 no_1 =
+    halts_at_end (more_names signs.CloseBrace) signs.CloseBrace ts (ends_joined ts no_0) no_1

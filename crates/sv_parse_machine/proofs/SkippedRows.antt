@@ -1,6 +1,6 @@
 -- For each symbol outside expressions that may be left out, or that an expression may begin: what
 -- reading it comes to where no token of its own comes.
-use Rattle.std.proofs.Common.{◌≡◌, ℕ, ◌+◌, ◌≤◌, Bool, List, [], ◌∷◌, length, refl, arith}
+use Rattle.std.proofs.Common.{◌≡◌, ℕ, ◌+◌, ◌≤◌, Bool, true, List, [], ◌∷◌, length, refl, arith}
 use Rattle.sv_token.specs.declared.keywords.WordKind.TheVariants as words
 use Rattle.sv_token.specs.declared.signs.SignKind.TheVariants as signs
 use Rattle.sv_token.specs.Lexemes.{Lexeme, word, sign, Placed}
@@ -12,11 +12,18 @@ use Rattle.sv_parse_machine.specs.Symbols.{perhaps_range, perhaps_label, perhaps
 use Rattle.sv_parse_machine.specs.Symbols.{perhaps_value, value_or_release, more_assigned}
 use Rattle.sv_parse_machine.specs.Symbols.{perhaps_overrides, overrides, links, link, statement}
 use Rattle.sv_parse_machine.specs.Symbols.{perhaps_block_name, perhaps_else, perhaps_bits, arms}
-use Rattle.sv_parse_machine.specs.Symbols.{more_choices, perhaps_colon, outer, over}
+use Rattle.sv_parse_machine.specs.Symbols.{more_choices, perhaps_colon, Outer, outer, over}
 use Rattle.sv_parse_machine.specs.ExpressionTable.{expression_on}
-use Rattle.sv_parse_machine.specs.Machine.{outer_on}
+use Rattle.sv_parse_machine.specs.Machine.{outer_on, may_be_empty}
 use Rattle.sv_parse_machine.specs.Reads.{IsNot, NextIsNot, Reads}
 use Rattle.sv_parse_machine.proofs.ReadSteps.{skips, expression_from, begins_expression}
+
+-- where one token alone keeps the symbol from being over
+skips_without : (k : Lexeme) (y : Outer) → may_be_empty (outer y) ≡ true
+    → ((x : Lexeme) → IsNot k x → outer_on y x ≡ over) → (ts : List Placed) → NextIsNot k ts
+    → Reads (outer y ∷ []) [] ts ts
+skips_without k y empty row [] other = skips y [] empty tt
+skips_without k y empty row (t ∷ ts) other = skips y (t ∷ ts) empty (row t.lexeme other)
 
 row_perhaps_lattice : (x : Lexeme) → IsNot (word words.Lattice) x →
     outer_on perhaps_lattice x ≡ over
@@ -25,9 +32,7 @@ row_perhaps_lattice x no_0 = refl
 
 pub skips_perhaps_lattice : (ts : List Placed) → NextIsNot (word words.Lattice) ts →
     Reads (outer perhaps_lattice ∷ []) [] ts ts
-skips_perhaps_lattice [] no_0 = skips perhaps_lattice [] refl tt
-skips_perhaps_lattice (t ∷ ts) no_0 =
-    skips perhaps_lattice (t ∷ ts) refl (row_perhaps_lattice t.lexeme no_0)
+skips_perhaps_lattice = skips_without (word words.Lattice) perhaps_lattice refl row_perhaps_lattice
 
 row_perhaps_key_range : (x : Lexeme) → IsNot (sign signs.OpenBracket) x →
     outer_on perhaps_key_range x ≡ over
@@ -36,9 +41,8 @@ row_perhaps_key_range x no_0 = refl
 
 pub skips_perhaps_key_range : (ts : List Placed) → NextIsNot (sign signs.OpenBracket) ts →
     Reads (outer perhaps_key_range ∷ []) [] ts ts
-skips_perhaps_key_range [] no_0 = skips perhaps_key_range [] refl tt
-skips_perhaps_key_range (t ∷ ts) no_0 =
-    skips perhaps_key_range (t ∷ ts) refl (row_perhaps_key_range t.lexeme no_0)
+skips_perhaps_key_range =
+    skips_without (sign signs.OpenBracket) perhaps_key_range refl row_perhaps_key_range
 
 row_perhaps_second_key : (x : Lexeme) → IsNot (sign signs.Comma) x →
     outer_on perhaps_second_key x ≡ over
@@ -47,9 +51,8 @@ row_perhaps_second_key x no_0 = refl
 
 pub skips_perhaps_second_key : (ts : List Placed) → NextIsNot (sign signs.Comma) ts →
     Reads (outer perhaps_second_key ∷ []) [] ts ts
-skips_perhaps_second_key [] no_0 = skips perhaps_second_key [] refl tt
-skips_perhaps_second_key (t ∷ ts) no_0 =
-    skips perhaps_second_key (t ∷ ts) refl (row_perhaps_second_key t.lexeme no_0)
+skips_perhaps_second_key =
+    skips_without (sign signs.Comma) perhaps_second_key refl row_perhaps_second_key
 
 row_perhaps_maps : (x : Lexeme) → IsNot (word words.Labelmap) x → outer_on perhaps_maps x ≡ over
 row_perhaps_maps (word words.Labelmap) no_0 = absurd (no_0 refl)
@@ -57,8 +60,7 @@ row_perhaps_maps x no_0 = refl
 
 pub skips_perhaps_maps : (ts : List Placed) → NextIsNot (word words.Labelmap) ts →
     Reads (outer perhaps_maps ∷ []) [] ts ts
-skips_perhaps_maps [] no_0 = skips perhaps_maps [] refl tt
-skips_perhaps_maps (t ∷ ts) no_0 = skips perhaps_maps (t ∷ ts) refl (row_perhaps_maps t.lexeme no_0)
+skips_perhaps_maps = skips_without (word words.Labelmap) perhaps_maps refl row_perhaps_maps
 
 row_parameter_type : (x : Lexeme) → IsNot (word words.Signed) x → IsNot (sign signs.OpenBracket) x →
     outer_on parameter_type x ≡ over
@@ -79,9 +81,8 @@ row_perhaps_header_parameters x no_0 = refl
 
 pub skips_perhaps_header_parameters : (ts : List Placed) → NextIsNot (sign signs.Hash) ts →
     Reads (outer perhaps_header_parameters ∷ []) [] ts ts
-skips_perhaps_header_parameters [] no_0 = skips perhaps_header_parameters [] refl tt
-skips_perhaps_header_parameters (t ∷ ts) no_0 =
-    skips perhaps_header_parameters (t ∷ ts) refl (row_perhaps_header_parameters t.lexeme no_0)
+skips_perhaps_header_parameters =
+    skips_without (sign signs.Hash) perhaps_header_parameters refl row_perhaps_header_parameters
 
 row_perhaps_wire : (x : Lexeme) → IsNot (word words.Wire) x → outer_on perhaps_wire x ≡ over
 row_perhaps_wire (word words.Wire) no_0 = absurd (no_0 refl)
@@ -89,8 +90,7 @@ row_perhaps_wire x no_0 = refl
 
 pub skips_perhaps_wire : (ts : List Placed) → NextIsNot (word words.Wire) ts →
     Reads (outer perhaps_wire ∷ []) [] ts ts
-skips_perhaps_wire [] no_0 = skips perhaps_wire [] refl tt
-skips_perhaps_wire (t ∷ ts) no_0 = skips perhaps_wire (t ∷ ts) refl (row_perhaps_wire t.lexeme no_0)
+skips_perhaps_wire = skips_without (word words.Wire) perhaps_wire refl row_perhaps_wire
 
 row_perhaps_wire_or_reg : (x : Lexeme) → IsNot (word words.Wire) x → IsNot (word words.Reg) x →
     outer_on perhaps_wire_or_reg x ≡ over
@@ -110,9 +110,7 @@ row_perhaps_signed x no_0 = refl
 
 pub skips_perhaps_signed : (ts : List Placed) → NextIsNot (word words.Signed) ts →
     Reads (outer perhaps_signed ∷ []) [] ts ts
-skips_perhaps_signed [] no_0 = skips perhaps_signed [] refl tt
-skips_perhaps_signed (t ∷ ts) no_0 =
-    skips perhaps_signed (t ∷ ts) refl (row_perhaps_signed t.lexeme no_0)
+skips_perhaps_signed = skips_without (word words.Signed) perhaps_signed refl row_perhaps_signed
 
 row_perhaps_range : (x : Lexeme) → IsNot (sign signs.OpenBracket) x →
     outer_on perhaps_range x ≡ over
@@ -121,9 +119,7 @@ row_perhaps_range x no_0 = refl
 
 pub skips_perhaps_range : (ts : List Placed) → NextIsNot (sign signs.OpenBracket) ts →
     Reads (outer perhaps_range ∷ []) [] ts ts
-skips_perhaps_range [] no_0 = skips perhaps_range [] refl tt
-skips_perhaps_range (t ∷ ts) no_0 =
-    skips perhaps_range (t ∷ ts) refl (row_perhaps_range t.lexeme no_0)
+skips_perhaps_range = skips_without (sign signs.OpenBracket) perhaps_range refl row_perhaps_range
 
 row_perhaps_second_name : (x : Lexeme) → IsNot (sign signs.Comma) x →
     outer_on perhaps_second_name x ≡ over
@@ -132,9 +128,8 @@ row_perhaps_second_name x no_0 = refl
 
 pub skips_perhaps_second_name : (ts : List Placed) → NextIsNot (sign signs.Comma) ts →
     Reads (outer perhaps_second_name ∷ []) [] ts ts
-skips_perhaps_second_name [] no_0 = skips perhaps_second_name [] refl tt
-skips_perhaps_second_name (t ∷ ts) no_0 =
-    skips perhaps_second_name (t ∷ ts) refl (row_perhaps_second_name t.lexeme no_0)
+skips_perhaps_second_name =
+    skips_without (sign signs.Comma) perhaps_second_name refl row_perhaps_second_name
 
 row_perhaps_label : (x : Lexeme) → IsNot (sign signs.OpenBrace) x → outer_on perhaps_label x ≡ over
 row_perhaps_label (sign signs.OpenBrace) no_0 = absurd (no_0 refl)
@@ -142,9 +137,7 @@ row_perhaps_label x no_0 = refl
 
 pub skips_perhaps_label : (ts : List Placed) → NextIsNot (sign signs.OpenBrace) ts →
     Reads (outer perhaps_label ∷ []) [] ts ts
-skips_perhaps_label [] no_0 = skips perhaps_label [] refl tt
-skips_perhaps_label (t ∷ ts) no_0 =
-    skips perhaps_label (t ∷ ts) refl (row_perhaps_label t.lexeme no_0)
+skips_perhaps_label = skips_without (sign signs.OpenBrace) perhaps_label refl row_perhaps_label
 
 row_perhaps_ports : (x : Lexeme) → IsNot (sign signs.OpenParenthesis) x →
     outer_on perhaps_ports x ≡ over
@@ -153,9 +146,8 @@ row_perhaps_ports x no_0 = refl
 
 pub skips_perhaps_ports : (ts : List Placed) → NextIsNot (sign signs.OpenParenthesis) ts →
     Reads (outer perhaps_ports ∷ []) [] ts ts
-skips_perhaps_ports [] no_0 = skips perhaps_ports [] refl tt
-skips_perhaps_ports (t ∷ ts) no_0 =
-    skips perhaps_ports (t ∷ ts) refl (row_perhaps_ports t.lexeme no_0)
+skips_perhaps_ports =
+    skips_without (sign signs.OpenParenthesis) perhaps_ports refl row_perhaps_ports
 
 row_perhaps_value : (x : Lexeme) → IsNot (sign signs.Equals) x → outer_on perhaps_value x ≡ over
 row_perhaps_value (sign signs.Equals) no_0 = absurd (no_0 refl)
@@ -163,9 +155,7 @@ row_perhaps_value x no_0 = refl
 
 pub skips_perhaps_value : (ts : List Placed) → NextIsNot (sign signs.Equals) ts →
     Reads (outer perhaps_value ∷ []) [] ts ts
-skips_perhaps_value [] no_0 = skips perhaps_value [] refl tt
-skips_perhaps_value (t ∷ ts) no_0 =
-    skips perhaps_value (t ∷ ts) refl (row_perhaps_value t.lexeme no_0)
+skips_perhaps_value = skips_without (sign signs.Equals) perhaps_value refl row_perhaps_value
 
 row_value_or_release : (x : Lexeme) → IsNot (word words.Release) x →
     outer_on value_or_release x ≡ expression_on 0 0 (more_assigned ∷ []) x
@@ -200,9 +190,8 @@ row_perhaps_overrides x no_0 = refl
 
 pub skips_perhaps_overrides : (ts : List Placed) → NextIsNot (sign signs.Hash) ts →
     Reads (outer perhaps_overrides ∷ []) [] ts ts
-skips_perhaps_overrides [] no_0 = skips perhaps_overrides [] refl tt
-skips_perhaps_overrides (t ∷ ts) no_0 =
-    skips perhaps_overrides (t ∷ ts) refl (row_perhaps_overrides t.lexeme no_0)
+skips_perhaps_overrides =
+    skips_without (sign signs.Hash) perhaps_overrides refl row_perhaps_overrides
 
 row_link : (x : Lexeme) → IsNot (sign signs.CloseParenthesis) x →
     outer_on link x ≡ expression_on 0 0 (punctuation signs.CloseParenthesis ∷ []) x
@@ -239,9 +228,8 @@ row_perhaps_bits n x no_0 = refl
 
 pub skips_perhaps_bits : (n : ℕ) (ts : List Placed) → NextIsNot (sign signs.OpenBracket) ts →
     Reads (outer (perhaps_bits n) ∷ []) [] ts ts
-skips_perhaps_bits n [] no_0 = skips (perhaps_bits n) [] refl tt
-skips_perhaps_bits n (t ∷ ts) no_0 =
-    skips (perhaps_bits n) (t ∷ ts) refl (row_perhaps_bits n t.lexeme no_0)
+skips_perhaps_bits n =
+    skips_without (sign signs.OpenBracket) (perhaps_bits n) refl (row_perhaps_bits n)
 
 row_perhaps_block_name : (x : Lexeme) → IsNot (sign signs.Colon) x →
     outer_on perhaps_block_name x ≡ over
@@ -250,9 +238,8 @@ row_perhaps_block_name x no_0 = refl
 
 pub skips_perhaps_block_name : (ts : List Placed) → NextIsNot (sign signs.Colon) ts →
     Reads (outer perhaps_block_name ∷ []) [] ts ts
-skips_perhaps_block_name [] no_0 = skips perhaps_block_name [] refl tt
-skips_perhaps_block_name (t ∷ ts) no_0 =
-    skips perhaps_block_name (t ∷ ts) refl (row_perhaps_block_name t.lexeme no_0)
+skips_perhaps_block_name =
+    skips_without (sign signs.Colon) perhaps_block_name refl row_perhaps_block_name
 
 row_perhaps_colon : (x : Lexeme) → IsNot (sign signs.Colon) x → outer_on perhaps_colon x ≡ over
 row_perhaps_colon (sign signs.Colon) no_0 = absurd (no_0 refl)
@@ -260,9 +247,7 @@ row_perhaps_colon x no_0 = refl
 
 pub skips_perhaps_colon : (ts : List Placed) → NextIsNot (sign signs.Colon) ts →
     Reads (outer perhaps_colon ∷ []) [] ts ts
-skips_perhaps_colon [] no_0 = skips perhaps_colon [] refl tt
-skips_perhaps_colon (t ∷ ts) no_0 =
-    skips perhaps_colon (t ∷ ts) refl (row_perhaps_colon t.lexeme no_0)
+skips_perhaps_colon = skips_without (sign signs.Colon) perhaps_colon refl row_perhaps_colon
 
 row_perhaps_else : (n : ℕ) (x : Lexeme) → IsNot (word words.Else) x →
     outer_on (perhaps_else n) x ≡ over
@@ -271,9 +256,7 @@ row_perhaps_else n x no_0 = refl
 
 pub skips_perhaps_else : (n : ℕ) (ts : List Placed) → NextIsNot (word words.Else) ts →
     Reads (outer (perhaps_else n) ∷ []) [] ts ts
-skips_perhaps_else n [] no_0 = skips (perhaps_else n) [] refl tt
-skips_perhaps_else n (t ∷ ts) no_0 =
-    skips (perhaps_else n) (t ∷ ts) refl (row_perhaps_else n t.lexeme no_0)
+skips_perhaps_else n = skips_without (word words.Else) (perhaps_else n) refl (row_perhaps_else n)
 
 row_arms : (n before : ℕ) (default : Bool) (x : Lexeme) → IsNot (word words.Endcase) x →
     IsNot (word words.Default) x →

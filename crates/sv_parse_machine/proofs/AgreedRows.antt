@@ -6,7 +6,6 @@ use Rattle.std.proofs.lemmas.Bool.{false≢true}
 use Rattle.sv_num.specs.declared.operators.UnOp.{UnOp}
 use Rattle.sv_ast.specs.GrammarForms.{binary_operator, unary_operator}
 use Rattle.sv_token.specs.declared.keywords.WordKind.TheVariants as words
-use Rattle.sv_token.specs.declared.signs.SignKind.{SignKind}
 use Rattle.sv_token.specs.declared.signs.SignKind.TheVariants as signs
 use Rattle.sv_token.specs.Lexemes.{Lexeme, word, identifier, numeral, sign}
 use Rattle.sv_token.specs.Words.{is_refused_word}
@@ -159,416 +158,10 @@ default_agrees : (n before : ℕ) (default : Bool) →
 default_agrees n before true = refl
 default_agrees n before false = refl
 
-agrees_names : (s : SignKind) (x : Lexeme) → Agrees (more_names s) x
-agrees_names signs.Semicolon (sign signs.Comma) = refl
-agrees_names signs.Semicolon (identifier y) = refl
-agrees_names signs.Semicolon x = refl
-agrees_names signs.CloseBrace (sign signs.Comma) = refl
-agrees_names signs.CloseBrace (identifier y) = refl
-agrees_names signs.CloseBrace x = refl
-agrees_names s (identifier y) = refl
-agrees_names s x = refl
-
-agrees_punctuation : (s : SignKind) (x : Lexeme) → Agrees (punctuation s) x
-agrees_punctuation s (sign t) = plain_if (is_sign s t)
-agrees_punctuation s (identifier y) = refl
-agrees_punctuation s x = refl
-
-agrees_more_values : (x : Lexeme) → IsFree x → Agrees more_values x
-agrees_more_values (sign signs.Comma) free = refl
-agrees_more_values (sign signs.CloseParenthesis) free = refl
-agrees_more_values (identifier y) free = refl
-agrees_more_values x free = refl
-
-agrees_lattice_lines : (x : Lexeme) → IsFree x → Agrees lattice_lines x
-agrees_lattice_lines (word words.Point) free = refl
-agrees_lattice_lines (identifier x) free =
-    free_agrees (is_refused_word x)
-    (less_equal ∷ plain_name ∷ punctuation signs.Semicolon ∷ lattice_lines ∷ [])
-    (outer_on lattice_lines (word words.Always)) (outer_on lattice_lines (word words.Begin))
-    (outer_on lattice_lines (word words.Posedge)) (outer_on lattice_lines (word words.Input)) free
-agrees_lattice_lines (word words.Endlattice) free = refl
-agrees_lattice_lines x free = refl
-
-agrees_perhaps_lattice : (x : Lexeme) → IsFree x → Agrees perhaps_lattice x
-agrees_perhaps_lattice (word words.Lattice) free = refl
-agrees_perhaps_lattice (identifier y) free = refl
-agrees_perhaps_lattice x free = refl
-
-agrees_map_name : (x : Lexeme) → IsFree x → Agrees map_name x
-agrees_map_name (identifier x) free =
-    free_agrees (is_refused_word x)
-    (punctuation signs.OpenBracket ∷ plain_number ∷ punctuation signs.Colon ∷ plain_number ∷
-    punctuation signs.CloseBracket ∷ []) (outer_on map_name (word words.Always))
-    (outer_on map_name (word words.Begin)) (outer_on map_name (word words.Posedge))
-    (outer_on map_name (word words.Input)) free
-agrees_map_name x free = refl
-
-agrees_perhaps_key_range : (x : Lexeme) → IsFree x → Agrees perhaps_key_range x
-agrees_perhaps_key_range (sign signs.OpenBracket) free = refl
-agrees_perhaps_key_range (identifier y) free = refl
-agrees_perhaps_key_range x free = refl
-
-agrees_perhaps_second_key : (x : Lexeme) → IsFree x → Agrees perhaps_second_key x
-agrees_perhaps_second_key (sign signs.Comma) free = refl
-agrees_perhaps_second_key (identifier y) free = refl
-agrees_perhaps_second_key x free = refl
-
-agrees_end_of_map : (x : Lexeme) → IsFree x → Agrees end_of_map x
-agrees_end_of_map (word words.Endlabelmap) free = refl
-agrees_end_of_map (identifier y) free = refl
-agrees_end_of_map x free = refl
-
-agrees_rows : (x : Lexeme) → IsFree x → Agrees rows x
-agrees_rows (numeral v) free = refl
-agrees_rows (word words.Default) free = refl
-agrees_rows (word words.Endlabelmap) free = refl
-agrees_rows (identifier y) free = refl
-agrees_rows x free = refl
-
-agrees_perhaps_maps : (x : Lexeme) → IsFree x → Agrees perhaps_maps x
-agrees_perhaps_maps (word words.Labelmap) free = refl
-agrees_perhaps_maps (identifier y) free = refl
-agrees_perhaps_maps x free = refl
-
-agrees_parameter_type : (x : Lexeme) → IsFree x → Agrees parameter_type x
-agrees_parameter_type (word words.Signed) free = refl
-agrees_parameter_type (sign signs.OpenBracket) free = refl
-agrees_parameter_type (identifier y) free = refl
-agrees_parameter_type x free = refl
-
-agrees_header_parameter : (x : Lexeme) → IsFree x → Agrees header_parameter x
-agrees_header_parameter (word words.Parameter) free = refl
-agrees_header_parameter (identifier y) free = refl
-agrees_header_parameter x free = refl
-
-agrees_later_header_parameter : (x : Lexeme) → IsFree x → Agrees later_header_parameter x
-agrees_later_header_parameter (word words.Parameter) free = refl
-agrees_later_header_parameter (identifier x) free =
-    free_agrees (is_refused_word x) (punctuation signs.Equals ∷ expression 0 ∷ [])
-    (outer_on later_header_parameter (word words.Always))
-    (outer_on later_header_parameter (word words.Begin))
-    (outer_on later_header_parameter (word words.Posedge))
-    (outer_on later_header_parameter (word words.Input)) free
-agrees_later_header_parameter x free = refl
-
-agrees_more_header_parameters : (x : Lexeme) → IsFree x → Agrees more_header_parameters x
-agrees_more_header_parameters (sign signs.Comma) free = refl
-agrees_more_header_parameters (sign signs.CloseParenthesis) free = refl
-agrees_more_header_parameters (identifier y) free = refl
-agrees_more_header_parameters x free = refl
-
-agrees_perhaps_header_parameters : (x : Lexeme) → IsFree x → Agrees perhaps_header_parameters x
-agrees_perhaps_header_parameters (sign signs.Hash) free = refl
-agrees_perhaps_header_parameters (identifier y) free = refl
-agrees_perhaps_header_parameters x free = refl
-
-agrees_perhaps_wire : (x : Lexeme) → IsFree x → Agrees perhaps_wire x
-agrees_perhaps_wire (word words.Wire) free = refl
-agrees_perhaps_wire (identifier y) free = refl
-agrees_perhaps_wire x free = refl
-
-agrees_perhaps_wire_or_reg : (x : Lexeme) → IsFree x → Agrees perhaps_wire_or_reg x
-agrees_perhaps_wire_or_reg (word words.Wire) free = refl
-agrees_perhaps_wire_or_reg (word words.Reg) free = refl
-agrees_perhaps_wire_or_reg (identifier y) free = refl
-agrees_perhaps_wire_or_reg x free = refl
-
-agrees_perhaps_signed : (x : Lexeme) → IsFree x → Agrees perhaps_signed x
-agrees_perhaps_signed (word words.Signed) free = refl
-agrees_perhaps_signed (identifier y) free = refl
-agrees_perhaps_signed x free = refl
-
-agrees_perhaps_range : (x : Lexeme) → IsFree x → Agrees perhaps_range x
-agrees_perhaps_range (sign signs.OpenBracket) free = refl
-agrees_perhaps_range (identifier y) free = refl
-agrees_perhaps_range x free = refl
-
-agrees_perhaps_second_name : (x : Lexeme) → IsFree x → Agrees perhaps_second_name x
-agrees_perhaps_second_name (sign signs.Comma) free = refl
-agrees_perhaps_second_name (identifier y) free = refl
-agrees_perhaps_second_name x free = refl
-
-agrees_label_end : (x : Lexeme) → IsFree x → Agrees label_end x
-agrees_label_end (sign signs.CloseBrace) free = refl
-agrees_label_end (sign signs.OpenParenthesis) free = refl
-agrees_label_end (identifier y) free = refl
-agrees_label_end x free = refl
-
-agrees_perhaps_label : (x : Lexeme) → IsFree x → Agrees perhaps_label x
-agrees_perhaps_label (sign signs.OpenBrace) free = refl
-agrees_perhaps_label (identifier y) free = refl
-agrees_perhaps_label x free = refl
-
-agrees_later_port : (x : Lexeme) → IsFree x → Agrees later_port x
-agrees_later_port (word words.Input) free = refl
-agrees_later_port (word words.Output) free = refl
-agrees_later_port (identifier x) free =
-    free_agrees (is_refused_word x) [] (outer_on later_port (word words.Always))
-    (outer_on later_port (word words.Begin)) (outer_on later_port (word words.Posedge))
-    (outer_on later_port (word words.Input)) free
-agrees_later_port x free = refl
-
-agrees_more_ports : (x : Lexeme) → IsFree x → Agrees more_ports x
-agrees_more_ports (sign signs.Comma) free = refl
-agrees_more_ports (sign signs.CloseParenthesis) free = refl
-agrees_more_ports (identifier y) free = refl
-agrees_more_ports x free = refl
-
-agrees_ports : (x : Lexeme) → IsFree x → Agrees ports x
-agrees_ports (word words.Input) free = refl
-agrees_ports (word words.Output) free = refl
-agrees_ports (sign signs.CloseParenthesis) free = refl
-agrees_ports (identifier y) free = refl
-agrees_ports x free = refl
-
-agrees_perhaps_ports : (x : Lexeme) → IsFree x → Agrees perhaps_ports x
-agrees_perhaps_ports (sign signs.OpenParenthesis) free = refl
-agrees_perhaps_ports (identifier y) free = refl
-agrees_perhaps_ports x free = refl
-
-agrees_more_parameters : (x : Lexeme) → IsFree x → Agrees more_parameters x
-agrees_more_parameters (sign signs.Comma) free = refl
-agrees_more_parameters (sign signs.Semicolon) free = refl
-agrees_more_parameters (identifier y) free = refl
-agrees_more_parameters x free = refl
-
-agrees_perhaps_value : (x : Lexeme) → IsFree x → Agrees perhaps_value x
-agrees_perhaps_value (sign signs.Equals) free = refl
-agrees_perhaps_value (identifier y) free = refl
-agrees_perhaps_value x free = refl
-
-agrees_more_wires : (x : Lexeme) → IsFree x → Agrees more_wires x
-agrees_more_wires (sign signs.Comma) free = refl
-agrees_more_wires (sign signs.Semicolon) free = refl
-agrees_more_wires (identifier y) free = refl
-agrees_more_wires x free = refl
-
-agrees_behind_reg_name : (x : Lexeme) → IsFree x → Agrees behind_reg_name x
-agrees_behind_reg_name (sign signs.OpenBracket) free = refl
-agrees_behind_reg_name (sign signs.Comma) free = refl
-agrees_behind_reg_name (sign signs.Semicolon) free = refl
-agrees_behind_reg_name (identifier y) free = refl
-agrees_behind_reg_name x free = refl
-
-agrees_memory_name : (x : Lexeme) → IsFree x → Agrees memory_name x
-agrees_memory_name (identifier x) free =
-    free_agrees (is_refused_word x)
-    (punctuation signs.OpenBracket ∷ plain_number ∷ punctuation signs.Colon ∷ plain_number ∷
-    punctuation signs.CloseBracket ∷ []) (outer_on memory_name (word words.Always))
-    (outer_on memory_name (word words.Begin)) (outer_on memory_name (word words.Posedge))
-    (outer_on memory_name (word words.Input)) free
-agrees_memory_name x free = refl
-
-agrees_label_selector : (x : Lexeme) → IsFree x → Agrees label_selector x
-agrees_label_selector (sign signs.Hash) free = refl
-agrees_label_selector (identifier x) free =
-    free_agrees (is_refused_word x)
-    (perhaps_second_name ∷ punctuation signs.CloseParenthesis ∷ punctuation signs.CloseBrace ∷
-    plain_name ∷ more_names signs.Semicolon ∷ []) (outer_on label_selector (word words.Always))
-    (outer_on label_selector (word words.Begin)) (outer_on label_selector (word words.Posedge))
-    (outer_on label_selector (word words.Input)) free
-agrees_label_selector x free = refl
-
-agrees_reg_name : (x : Lexeme) → IsFree x → Agrees reg_name x
-agrees_reg_name (identifier x) free =
-    free_agrees (is_refused_word x) (behind_reg_name ∷ []) (outer_on reg_name (word words.Always))
-    (outer_on reg_name (word words.Begin)) (outer_on reg_name (word words.Posedge))
-    (outer_on reg_name (word words.Input)) free
-agrees_reg_name x free = refl
-
-agrees_reg_label_end : (x : Lexeme) → IsFree x → Agrees reg_label_end x
-agrees_reg_label_end (sign signs.CloseBrace) free = refl
-agrees_reg_label_end (sign signs.OpenParenthesis) free = refl
-agrees_reg_label_end (identifier y) free = refl
-agrees_reg_label_end x free = refl
-
-agrees_reg_label : (x : Lexeme) → IsFree x → Agrees reg_label x
-agrees_reg_label (sign signs.OpenBrace) free = refl
-agrees_reg_label (identifier x) free =
-    free_agrees (is_refused_word x) (behind_reg_name ∷ []) (outer_on reg_label (word words.Always))
-    (outer_on reg_label (word words.Begin)) (outer_on reg_label (word words.Posedge))
-    (outer_on reg_label (word words.Input)) free
-agrees_reg_label x free = refl
-
-agrees_later_assigned : (x : Lexeme) → IsFree x → Agrees later_assigned x
-agrees_later_assigned (identifier x) free =
-    free_agrees (is_refused_word x) (punctuation signs.Equals ∷ expression 0 ∷ [])
-    (outer_on later_assigned (word words.Always)) (outer_on later_assigned (word words.Begin))
-    (outer_on later_assigned (word words.Posedge)) (outer_on later_assigned (word words.Input)) free
-agrees_later_assigned (sign signs.OpenBrace) free = refl
-agrees_later_assigned x free = refl
-
-agrees_more_assigned : (x : Lexeme) → IsFree x → Agrees more_assigned x
-agrees_more_assigned (sign signs.Comma) free = refl
-agrees_more_assigned (sign signs.Semicolon) free = refl
-agrees_more_assigned (identifier y) free = refl
-agrees_more_assigned x free = refl
-
-agrees_value_or_release : (x : Lexeme) → IsFree x → Agrees value_or_release x
-agrees_value_or_release (word words.Release) free = refl
-agrees_value_or_release x free =
-    expression_agrees (is_named x) 0 0 (more_assigned ∷ []) (operand_on 0 x) (operand_is_plain 0 x)
-
-agrees_assigned : (x : Lexeme) → IsFree x → Agrees assigned x
-agrees_assigned (identifier x) free =
-    free_agrees (is_refused_word x) (punctuation signs.Equals ∷ value_or_release ∷ [])
-    (outer_on assigned (word words.Always)) (outer_on assigned (word words.Begin))
-    (outer_on assigned (word words.Posedge)) (outer_on assigned (word words.Input)) free
-agrees_assigned (sign signs.OpenBrace) free = refl
-agrees_assigned x free = refl
-
-agrees_event_inside : (x : Lexeme) → IsFree x → Agrees event_inside x
-agrees_event_inside (sign (signs.Operator o)) free =
-    edge_if (is_star (binary_operator o)) (outer_on event_inside (word words.Input))
-agrees_event_inside (word words.Posedge) free = refl
-agrees_event_inside (identifier y) free = refl
-agrees_event_inside x free = refl
-
-agrees_event : (x : Lexeme) → IsFree x → Agrees event x
-agrees_event (sign (signs.Operator o)) free = plain_if (is_star (binary_operator o))
-agrees_event (sign signs.OpenParenthesis) free = refl
-agrees_event (identifier y) free = refl
-agrees_event x free = refl
-
-agrees_more_named_overrides : (x : Lexeme) → IsFree x → Agrees more_named_overrides x
-agrees_more_named_overrides (sign signs.Comma) free = refl
-agrees_more_named_overrides (sign signs.CloseParenthesis) free = refl
-agrees_more_named_overrides (identifier y) free = refl
-agrees_more_named_overrides x free = refl
-
-agrees_overrides : (x : Lexeme) → IsFree x → Agrees overrides x
-agrees_overrides (sign signs.Dot) free = refl
-agrees_overrides x free =
-    expression_agrees (is_named x) 0 0 (more_values ∷ []) (operand_on 0 x) (operand_is_plain 0 x)
-
-agrees_perhaps_overrides : (x : Lexeme) → IsFree x → Agrees perhaps_overrides x
-agrees_perhaps_overrides (sign signs.Hash) free = refl
-agrees_perhaps_overrides (identifier y) free = refl
-agrees_perhaps_overrides x free = refl
-
-agrees_link : (x : Lexeme) → IsFree x → Agrees link x
-agrees_link (sign signs.CloseParenthesis) free = refl
-agrees_link x free =
-    expression_agrees (is_named x) 0 0 (punctuation signs.CloseParenthesis ∷ []) (operand_on 0 x)
-    (operand_is_plain 0 x)
-
-agrees_more_named_links : (x : Lexeme) → IsFree x → Agrees more_named_links x
-agrees_more_named_links (sign signs.Comma) free = refl
-agrees_more_named_links (sign signs.CloseParenthesis) free = refl
-agrees_more_named_links (identifier y) free = refl
-agrees_more_named_links x free = refl
-
-agrees_links : (x : Lexeme) → IsFree x → Agrees links x
-agrees_links (sign signs.CloseParenthesis) free = refl
-agrees_links (sign signs.Dot) free = refl
-agrees_links x free =
-    expression_agrees (is_named x) 0 0 (more_values ∷ []) (operand_on 0 x) (operand_is_plain 0 x)
-
-agrees_more_instances : (x : Lexeme) → IsFree x → Agrees more_instances x
-agrees_more_instances (sign signs.Comma) free = refl
-agrees_more_instances (sign signs.Semicolon) free = refl
-agrees_more_instances (identifier y) free = refl
-agrees_more_instances x free = refl
-
-agrees_bits_end : (n : ℕ) (x : Lexeme) → IsFree x → Agrees (bits_end n) x
-agrees_bits_end n (sign signs.CloseBracket) free = refl
-agrees_bits_end n (sign signs.Colon) free = refl
-agrees_bits_end n (identifier y) free = refl
-agrees_bits_end n x free = refl
-
-agrees_perhaps_bits : (n : ℕ) (x : Lexeme) → IsFree x → Agrees (perhaps_bits n) x
-agrees_perhaps_bits n (sign signs.OpenBracket) free = refl
-agrees_perhaps_bits n (identifier y) free = refl
-agrees_perhaps_bits n x free = refl
-
-agrees_more_targets : (n : ℕ) (x : Lexeme) → IsFree x → Agrees (more_targets n) x
-agrees_more_targets n (sign signs.Comma) free = refl
-agrees_more_targets n (sign signs.CloseBrace) free = refl
-agrees_more_targets n (identifier y) free = refl
-agrees_more_targets n x free = refl
-
-agrees_more_choices : (n : ℕ) (x : Lexeme) → IsFree x → Agrees (more_choices n) x
-agrees_more_choices n (sign signs.Comma) free = refl
-agrees_more_choices n (sign signs.Colon) free = refl
-agrees_more_choices n (identifier y) free = refl
-agrees_more_choices n x free = refl
-
-agrees_perhaps_block_name : (x : Lexeme) → IsFree x → Agrees perhaps_block_name x
-agrees_perhaps_block_name (sign signs.Colon) free = refl
-agrees_perhaps_block_name (identifier y) free = refl
-agrees_perhaps_block_name x free = refl
-
-agrees_perhaps_colon : (x : Lexeme) → IsFree x → Agrees perhaps_colon x
-agrees_perhaps_colon (sign signs.Colon) free = refl
-agrees_perhaps_colon (identifier y) free = refl
-agrees_perhaps_colon x free = refl
-
-agrees_perhaps_else : (n : ℕ) (x : Lexeme) → IsFree x → Agrees (perhaps_else n) x
-agrees_perhaps_else n (word words.Else) free = refl
-agrees_perhaps_else n (identifier y) free = refl
-agrees_perhaps_else n x free = refl
-
-agrees_items : (x : Lexeme) → IsFree x → Agrees items x
-agrees_items (word words.Parameter) free = refl
-agrees_items (word words.Localparam) free = refl
-agrees_items (word words.Wire) free = refl
-agrees_items (word words.Reg) free = refl
-agrees_items (word words.Assign) free = refl
-agrees_items (word words.Always) free = refl
-agrees_items (word words.Invariant) free = refl
-agrees_items (identifier x) free =
-    free_agrees (is_refused_word x)
-    (perhaps_overrides ∷ plain_name ∷ punctuation signs.OpenParenthesis ∷ links ∷ more_instances ∷
-    items ∷ []) (outer_on items (word words.Always)) (outer_on items (word words.Begin))
-    (outer_on items (word words.Posedge)) (outer_on items (word words.Input)) free
-agrees_items (word words.Endmodule) free = refl
-agrees_items x free = refl
-
-agrees_one_module : (x : Lexeme) → IsFree x → Agrees one_module x
-agrees_one_module (word words.Module) free = refl
-agrees_one_module (identifier y) free = refl
-agrees_one_module x free = refl
-
-agrees_statement : (n : ℕ) (x : Lexeme) → IsFree x → Agrees (statement n) x
-agrees_statement n (identifier x) free =
-    free_agrees (is_refused_word x) (perhaps_bits n ∷ assignment_behind n)
-    (outer_on (statement n) (word words.Always)) (outer_on (statement n) (word words.Begin))
-    (outer_on (statement n) (word words.Posedge)) (outer_on (statement n) (word words.Input)) free
-agrees_statement n (word words.Begin) free = refl
-agrees_statement n (sign signs.Semicolon) free = refl
-agrees_statement n x free = refl
-
-agrees_statements : (n : ℕ) (x : Lexeme) → IsFree x → Agrees (statements n) x
-agrees_statements n (identifier x) free =
-    statement_name n (is_refused_word x) (outer_on (statements n) (word words.Always))
-    (outer_on (statements n) (word words.Begin)) (outer_on (statements n) (word words.Posedge))
-    (outer_on (statements n) (word words.Input)) free
-agrees_statements n (word words.Begin) free = refl
-agrees_statements n (sign signs.Semicolon) free = refl
-agrees_statements n x free = refl
-
-agrees_assigns : (x : Lexeme) → IsFree x → Agrees assigns x
-agrees_assigns (sign (signs.Operator o)) free = plain_if (is_less_equal (binary_operator o))
-agrees_assigns (identifier y) free = refl
-agrees_assigns x free = refl
-
-agrees_less_equal : (x : Lexeme) → IsFree x → Agrees less_equal x
-agrees_less_equal (sign (signs.Operator o)) free = plain_if (is_less_equal (binary_operator o))
-agrees_less_equal (identifier y) free = refl
-agrees_less_equal x free = refl
-
-agrees_arms : (n before : ℕ) (default : Bool) (x : Lexeme) → IsFree x →
-    Agrees (arms n before default) x
-agrees_arms n before default (word words.Endcase) free = more_arms_agree before
-agrees_arms n before default (word words.Default) free = default_agrees n before default
-agrees_arms n before default x free =
-    expression_agrees (is_named x) n (before + 1)
-    (more_choices n ∷ statement n ∷ arms n (before + 1) default ∷ []) (operand_on n x)
-    (operand_is_plain n x)
-
 pub rows_agree : (y : Outer) (x : Lexeme) → IsFree x → Agrees y x
-rows_agree (punctuation s) x free = agrees_punctuation s x
+rows_agree (punctuation s) (sign t) free = plain_if (is_sign s t)
+rows_agree (punctuation s) (identifier y) free = refl
+rows_agree (punctuation s) x free = refl
 rows_agree plain_name (identifier x) free =
     free_agrees (is_refused_word x) [] (outer_on plain_name (word words.Always))
     (outer_on plain_name (word words.Begin)) (outer_on plain_name (word words.Posedge))
@@ -579,65 +172,281 @@ rows_agree plain_number (identifier y) free = refl
 rows_agree plain_number x free = refl
 rows_agree (expression n) x free =
     expression_agrees (is_named x) n 0 [] (operand_on n x) (operand_is_plain n x)
-rows_agree (more_names s) x free = agrees_names s x
-rows_agree more_values x free = agrees_more_values x free
-rows_agree perhaps_lattice x free = agrees_perhaps_lattice x free
-rows_agree lattice_lines x free = agrees_lattice_lines x free
-rows_agree less_equal x free = agrees_less_equal x free
-rows_agree perhaps_maps x free = agrees_perhaps_maps x free
-rows_agree map_name x free = agrees_map_name x free
-rows_agree perhaps_key_range x free = agrees_perhaps_key_range x free
-rows_agree rows x free = agrees_rows x free
-rows_agree perhaps_second_key x free = agrees_perhaps_second_key x free
-rows_agree end_of_map x free = agrees_end_of_map x free
-rows_agree one_module x free = agrees_one_module x free
-rows_agree perhaps_header_parameters x free = agrees_perhaps_header_parameters x free
-rows_agree header_parameter x free = agrees_header_parameter x free
-rows_agree later_header_parameter x free = agrees_later_header_parameter x free
-rows_agree more_header_parameters x free = agrees_more_header_parameters x free
-rows_agree parameter_type x free = agrees_parameter_type x free
-rows_agree perhaps_ports x free = agrees_perhaps_ports x free
-rows_agree ports x free = agrees_ports x free
-rows_agree later_port x free = agrees_later_port x free
-rows_agree more_ports x free = agrees_more_ports x free
-rows_agree perhaps_wire x free = agrees_perhaps_wire x free
-rows_agree perhaps_wire_or_reg x free = agrees_perhaps_wire_or_reg x free
-rows_agree perhaps_signed x free = agrees_perhaps_signed x free
-rows_agree perhaps_range x free = agrees_perhaps_range x free
-rows_agree perhaps_label x free = agrees_perhaps_label x free
-rows_agree label_end x free = agrees_label_end x free
-rows_agree perhaps_second_name x free = agrees_perhaps_second_name x free
-rows_agree items x free = agrees_items x free
-rows_agree more_parameters x free = agrees_more_parameters x free
-rows_agree perhaps_value x free = agrees_perhaps_value x free
-rows_agree more_wires x free = agrees_more_wires x free
-rows_agree reg_label x free = agrees_reg_label x free
-rows_agree reg_label_end x free = agrees_reg_label_end x free
-rows_agree reg_name x free = agrees_reg_name x free
-rows_agree behind_reg_name x free = agrees_behind_reg_name x free
-rows_agree label_selector x free = agrees_label_selector x free
-rows_agree memory_name x free = agrees_memory_name x free
-rows_agree assigned x free = agrees_assigned x free
-rows_agree value_or_release x free = agrees_value_or_release x free
-rows_agree later_assigned x free = agrees_later_assigned x free
-rows_agree more_assigned x free = agrees_more_assigned x free
-rows_agree event x free = agrees_event x free
-rows_agree event_inside x free = agrees_event_inside x free
-rows_agree perhaps_overrides x free = agrees_perhaps_overrides x free
-rows_agree overrides x free = agrees_overrides x free
-rows_agree more_named_overrides x free = agrees_more_named_overrides x free
-rows_agree links x free = agrees_links x free
-rows_agree link x free = agrees_link x free
-rows_agree more_named_links x free = agrees_more_named_links x free
-rows_agree more_instances x free = agrees_more_instances x free
-rows_agree (statement n) x free = agrees_statement n x free
-rows_agree (statements n) x free = agrees_statements n x free
-rows_agree perhaps_block_name x free = agrees_perhaps_block_name x free
-rows_agree (perhaps_else n) x free = agrees_perhaps_else n x free
-rows_agree (perhaps_bits n) x free = agrees_perhaps_bits n x free
-rows_agree (bits_end n) x free = agrees_bits_end n x free
-rows_agree (more_targets n) x free = agrees_more_targets n x free
-rows_agree assigns x free = agrees_assigns x free
-rows_agree (arms n before default) x free = agrees_arms n before default x free
-rows_agree (more_choices n) x free = agrees_more_choices n x free
-rows_agree perhaps_colon x free = agrees_perhaps_colon x free
+rows_agree (more_names signs.Semicolon) (sign signs.Comma) free = refl
+rows_agree (more_names signs.Semicolon) (identifier y) free = refl
+rows_agree (more_names signs.Semicolon) x free = refl
+rows_agree (more_names signs.CloseBrace) (sign signs.Comma) free = refl
+rows_agree (more_names signs.CloseBrace) (identifier y) free = refl
+rows_agree (more_names signs.CloseBrace) x free = refl
+rows_agree (more_names s) (identifier y) free = refl
+rows_agree (more_names s) x free = refl
+rows_agree more_values (sign signs.Comma) free = refl
+rows_agree more_values (sign signs.CloseParenthesis) free = refl
+rows_agree more_values (identifier y) free = refl
+rows_agree more_values x free = refl
+rows_agree perhaps_lattice (word words.Lattice) free = refl
+rows_agree perhaps_lattice (identifier y) free = refl
+rows_agree perhaps_lattice x free = refl
+rows_agree lattice_lines (word words.Point) free = refl
+rows_agree lattice_lines (identifier x) free =
+    free_agrees (is_refused_word x)
+    (less_equal ∷ plain_name ∷ punctuation signs.Semicolon ∷ lattice_lines ∷ [])
+    (outer_on lattice_lines (word words.Always)) (outer_on lattice_lines (word words.Begin))
+    (outer_on lattice_lines (word words.Posedge)) (outer_on lattice_lines (word words.Input)) free
+rows_agree lattice_lines (word words.Endlattice) free = refl
+rows_agree lattice_lines x free = refl
+rows_agree less_equal (sign (signs.Operator o)) free = plain_if (is_less_equal (binary_operator o))
+rows_agree less_equal (identifier y) free = refl
+rows_agree less_equal x free = refl
+rows_agree perhaps_maps (word words.Labelmap) free = refl
+rows_agree perhaps_maps (identifier y) free = refl
+rows_agree perhaps_maps x free = refl
+rows_agree map_name (identifier x) free =
+    free_agrees (is_refused_word x)
+    (punctuation signs.OpenBracket ∷ plain_number ∷ punctuation signs.Colon ∷ plain_number ∷
+    punctuation signs.CloseBracket ∷ []) (outer_on map_name (word words.Always))
+    (outer_on map_name (word words.Begin)) (outer_on map_name (word words.Posedge))
+    (outer_on map_name (word words.Input)) free
+rows_agree map_name x free = refl
+rows_agree perhaps_key_range (sign signs.OpenBracket) free = refl
+rows_agree perhaps_key_range (identifier y) free = refl
+rows_agree perhaps_key_range x free = refl
+rows_agree rows (numeral v) free = refl
+rows_agree rows (word words.Default) free = refl
+rows_agree rows (word words.Endlabelmap) free = refl
+rows_agree rows (identifier y) free = refl
+rows_agree rows x free = refl
+rows_agree perhaps_second_key (sign signs.Comma) free = refl
+rows_agree perhaps_second_key (identifier y) free = refl
+rows_agree perhaps_second_key x free = refl
+rows_agree end_of_map (word words.Endlabelmap) free = refl
+rows_agree end_of_map (identifier y) free = refl
+rows_agree end_of_map x free = refl
+rows_agree one_module (word words.Module) free = refl
+rows_agree one_module (identifier y) free = refl
+rows_agree one_module x free = refl
+rows_agree perhaps_header_parameters (sign signs.Hash) free = refl
+rows_agree perhaps_header_parameters (identifier y) free = refl
+rows_agree perhaps_header_parameters x free = refl
+rows_agree header_parameter (word words.Parameter) free = refl
+rows_agree header_parameter (identifier y) free = refl
+rows_agree header_parameter x free = refl
+rows_agree later_header_parameter (word words.Parameter) free = refl
+rows_agree later_header_parameter (identifier x) free =
+    free_agrees (is_refused_word x) (punctuation signs.Equals ∷ expression 0 ∷ [])
+    (outer_on later_header_parameter (word words.Always))
+    (outer_on later_header_parameter (word words.Begin))
+    (outer_on later_header_parameter (word words.Posedge))
+    (outer_on later_header_parameter (word words.Input)) free
+rows_agree later_header_parameter x free = refl
+rows_agree more_header_parameters (sign signs.Comma) free = refl
+rows_agree more_header_parameters (sign signs.CloseParenthesis) free = refl
+rows_agree more_header_parameters (identifier y) free = refl
+rows_agree more_header_parameters x free = refl
+rows_agree parameter_type (word words.Signed) free = refl
+rows_agree parameter_type (sign signs.OpenBracket) free = refl
+rows_agree parameter_type (identifier y) free = refl
+rows_agree parameter_type x free = refl
+rows_agree perhaps_ports (sign signs.OpenParenthesis) free = refl
+rows_agree perhaps_ports (identifier y) free = refl
+rows_agree perhaps_ports x free = refl
+rows_agree ports (word words.Input) free = refl
+rows_agree ports (word words.Output) free = refl
+rows_agree ports (sign signs.CloseParenthesis) free = refl
+rows_agree ports (identifier y) free = refl
+rows_agree ports x free = refl
+rows_agree later_port (word words.Input) free = refl
+rows_agree later_port (word words.Output) free = refl
+rows_agree later_port (identifier x) free =
+    free_agrees (is_refused_word x) [] (outer_on later_port (word words.Always))
+    (outer_on later_port (word words.Begin)) (outer_on later_port (word words.Posedge))
+    (outer_on later_port (word words.Input)) free
+rows_agree later_port x free = refl
+rows_agree more_ports (sign signs.Comma) free = refl
+rows_agree more_ports (sign signs.CloseParenthesis) free = refl
+rows_agree more_ports (identifier y) free = refl
+rows_agree more_ports x free = refl
+rows_agree perhaps_wire (word words.Wire) free = refl
+rows_agree perhaps_wire (identifier y) free = refl
+rows_agree perhaps_wire x free = refl
+rows_agree perhaps_wire_or_reg (word words.Wire) free = refl
+rows_agree perhaps_wire_or_reg (word words.Reg) free = refl
+rows_agree perhaps_wire_or_reg (identifier y) free = refl
+rows_agree perhaps_wire_or_reg x free = refl
+rows_agree perhaps_signed (word words.Signed) free = refl
+rows_agree perhaps_signed (identifier y) free = refl
+rows_agree perhaps_signed x free = refl
+rows_agree perhaps_range (sign signs.OpenBracket) free = refl
+rows_agree perhaps_range (identifier y) free = refl
+rows_agree perhaps_range x free = refl
+rows_agree perhaps_label (sign signs.OpenBrace) free = refl
+rows_agree perhaps_label (identifier y) free = refl
+rows_agree perhaps_label x free = refl
+rows_agree label_end (sign signs.CloseBrace) free = refl
+rows_agree label_end (sign signs.OpenParenthesis) free = refl
+rows_agree label_end (identifier y) free = refl
+rows_agree label_end x free = refl
+rows_agree perhaps_second_name (sign signs.Comma) free = refl
+rows_agree perhaps_second_name (identifier y) free = refl
+rows_agree perhaps_second_name x free = refl
+rows_agree items (word words.Parameter) free = refl
+rows_agree items (word words.Localparam) free = refl
+rows_agree items (word words.Wire) free = refl
+rows_agree items (word words.Reg) free = refl
+rows_agree items (word words.Assign) free = refl
+rows_agree items (word words.Always) free = refl
+rows_agree items (word words.Invariant) free = refl
+rows_agree items (identifier x) free =
+    free_agrees (is_refused_word x)
+    (perhaps_overrides ∷ plain_name ∷ punctuation signs.OpenParenthesis ∷ links ∷ more_instances ∷
+    items ∷ []) (outer_on items (word words.Always)) (outer_on items (word words.Begin))
+    (outer_on items (word words.Posedge)) (outer_on items (word words.Input)) free
+rows_agree items (word words.Endmodule) free = refl
+rows_agree items x free = refl
+rows_agree more_parameters (sign signs.Comma) free = refl
+rows_agree more_parameters (sign signs.Semicolon) free = refl
+rows_agree more_parameters (identifier y) free = refl
+rows_agree more_parameters x free = refl
+rows_agree perhaps_value (sign signs.Equals) free = refl
+rows_agree perhaps_value (identifier y) free = refl
+rows_agree perhaps_value x free = refl
+rows_agree more_wires (sign signs.Comma) free = refl
+rows_agree more_wires (sign signs.Semicolon) free = refl
+rows_agree more_wires (identifier y) free = refl
+rows_agree more_wires x free = refl
+rows_agree reg_label (sign signs.OpenBrace) free = refl
+rows_agree reg_label (identifier x) free =
+    free_agrees (is_refused_word x) (behind_reg_name ∷ []) (outer_on reg_label (word words.Always))
+    (outer_on reg_label (word words.Begin)) (outer_on reg_label (word words.Posedge))
+    (outer_on reg_label (word words.Input)) free
+rows_agree reg_label x free = refl
+rows_agree reg_label_end (sign signs.CloseBrace) free = refl
+rows_agree reg_label_end (sign signs.OpenParenthesis) free = refl
+rows_agree reg_label_end (identifier y) free = refl
+rows_agree reg_label_end x free = refl
+rows_agree reg_name (identifier x) free =
+    free_agrees (is_refused_word x) (behind_reg_name ∷ []) (outer_on reg_name (word words.Always))
+    (outer_on reg_name (word words.Begin)) (outer_on reg_name (word words.Posedge))
+    (outer_on reg_name (word words.Input)) free
+rows_agree reg_name x free = refl
+rows_agree behind_reg_name (sign signs.OpenBracket) free = refl
+rows_agree behind_reg_name (sign signs.Comma) free = refl
+rows_agree behind_reg_name (sign signs.Semicolon) free = refl
+rows_agree behind_reg_name (identifier y) free = refl
+rows_agree behind_reg_name x free = refl
+rows_agree label_selector (sign signs.Hash) free = refl
+rows_agree label_selector (identifier x) free =
+    free_agrees (is_refused_word x)
+    (perhaps_second_name ∷ punctuation signs.CloseParenthesis ∷ punctuation signs.CloseBrace ∷
+    plain_name ∷ more_names signs.Semicolon ∷ []) (outer_on label_selector (word words.Always))
+    (outer_on label_selector (word words.Begin)) (outer_on label_selector (word words.Posedge))
+    (outer_on label_selector (word words.Input)) free
+rows_agree label_selector x free = refl
+rows_agree memory_name (identifier x) free =
+    free_agrees (is_refused_word x)
+    (punctuation signs.OpenBracket ∷ plain_number ∷ punctuation signs.Colon ∷ plain_number ∷
+    punctuation signs.CloseBracket ∷ []) (outer_on memory_name (word words.Always))
+    (outer_on memory_name (word words.Begin)) (outer_on memory_name (word words.Posedge))
+    (outer_on memory_name (word words.Input)) free
+rows_agree memory_name x free = refl
+rows_agree assigned (identifier x) free =
+    free_agrees (is_refused_word x) (punctuation signs.Equals ∷ value_or_release ∷ [])
+    (outer_on assigned (word words.Always)) (outer_on assigned (word words.Begin))
+    (outer_on assigned (word words.Posedge)) (outer_on assigned (word words.Input)) free
+rows_agree assigned (sign signs.OpenBrace) free = refl
+rows_agree assigned x free = refl
+rows_agree value_or_release (word words.Release) free = refl
+rows_agree value_or_release x free =
+    expression_agrees (is_named x) 0 0 (more_assigned ∷ []) (operand_on 0 x) (operand_is_plain 0 x)
+rows_agree later_assigned (identifier x) free =
+    free_agrees (is_refused_word x) (punctuation signs.Equals ∷ expression 0 ∷ [])
+    (outer_on later_assigned (word words.Always)) (outer_on later_assigned (word words.Begin))
+    (outer_on later_assigned (word words.Posedge)) (outer_on later_assigned (word words.Input)) free
+rows_agree later_assigned (sign signs.OpenBrace) free = refl
+rows_agree later_assigned x free = refl
+rows_agree more_assigned (sign signs.Comma) free = refl
+rows_agree more_assigned (sign signs.Semicolon) free = refl
+rows_agree more_assigned (identifier y) free = refl
+rows_agree more_assigned x free = refl
+rows_agree event (sign (signs.Operator o)) free = plain_if (is_star (binary_operator o))
+rows_agree event (sign signs.OpenParenthesis) free = refl
+rows_agree event (identifier y) free = refl
+rows_agree event x free = refl
+rows_agree event_inside (sign (signs.Operator o)) free =
+    edge_if (is_star (binary_operator o)) (outer_on event_inside (word words.Input))
+rows_agree event_inside (word words.Posedge) free = refl
+rows_agree event_inside (identifier y) free = refl
+rows_agree event_inside x free = refl
+rows_agree perhaps_overrides (sign signs.Hash) free = refl
+rows_agree perhaps_overrides (identifier y) free = refl
+rows_agree perhaps_overrides x free = refl
+rows_agree overrides (sign signs.Dot) free = refl
+rows_agree overrides x free =
+    expression_agrees (is_named x) 0 0 (more_values ∷ []) (operand_on 0 x) (operand_is_plain 0 x)
+rows_agree more_named_overrides (sign signs.Comma) free = refl
+rows_agree more_named_overrides (sign signs.CloseParenthesis) free = refl
+rows_agree more_named_overrides (identifier y) free = refl
+rows_agree more_named_overrides x free = refl
+rows_agree links (sign signs.CloseParenthesis) free = refl
+rows_agree links (sign signs.Dot) free = refl
+rows_agree links x free =
+    expression_agrees (is_named x) 0 0 (more_values ∷ []) (operand_on 0 x) (operand_is_plain 0 x)
+rows_agree link (sign signs.CloseParenthesis) free = refl
+rows_agree link x free =
+    expression_agrees (is_named x) 0 0 (punctuation signs.CloseParenthesis ∷ []) (operand_on 0 x)
+    (operand_is_plain 0 x)
+rows_agree more_named_links (sign signs.Comma) free = refl
+rows_agree more_named_links (sign signs.CloseParenthesis) free = refl
+rows_agree more_named_links (identifier y) free = refl
+rows_agree more_named_links x free = refl
+rows_agree more_instances (sign signs.Comma) free = refl
+rows_agree more_instances (sign signs.Semicolon) free = refl
+rows_agree more_instances (identifier y) free = refl
+rows_agree more_instances x free = refl
+rows_agree (statement n) (identifier x) free =
+    free_agrees (is_refused_word x) (perhaps_bits n ∷ assignment_behind n)
+    (outer_on (statement n) (word words.Always)) (outer_on (statement n) (word words.Begin))
+    (outer_on (statement n) (word words.Posedge)) (outer_on (statement n) (word words.Input)) free
+rows_agree (statement n) (word words.Begin) free = refl
+rows_agree (statement n) (sign signs.Semicolon) free = refl
+rows_agree (statement n) x free = refl
+rows_agree (statements n) (identifier x) free =
+    statement_name n (is_refused_word x) (outer_on (statements n) (word words.Always))
+    (outer_on (statements n) (word words.Begin)) (outer_on (statements n) (word words.Posedge))
+    (outer_on (statements n) (word words.Input)) free
+rows_agree (statements n) (word words.Begin) free = refl
+rows_agree (statements n) (sign signs.Semicolon) free = refl
+rows_agree (statements n) x free = refl
+rows_agree perhaps_block_name (sign signs.Colon) free = refl
+rows_agree perhaps_block_name (identifier y) free = refl
+rows_agree perhaps_block_name x free = refl
+rows_agree (perhaps_else n) (word words.Else) free = refl
+rows_agree (perhaps_else n) (identifier y) free = refl
+rows_agree (perhaps_else n) x free = refl
+rows_agree (perhaps_bits n) (sign signs.OpenBracket) free = refl
+rows_agree (perhaps_bits n) (identifier y) free = refl
+rows_agree (perhaps_bits n) x free = refl
+rows_agree (bits_end n) (sign signs.CloseBracket) free = refl
+rows_agree (bits_end n) (sign signs.Colon) free = refl
+rows_agree (bits_end n) (identifier y) free = refl
+rows_agree (bits_end n) x free = refl
+rows_agree (more_targets n) (sign signs.Comma) free = refl
+rows_agree (more_targets n) (sign signs.CloseBrace) free = refl
+rows_agree (more_targets n) (identifier y) free = refl
+rows_agree (more_targets n) x free = refl
+rows_agree assigns (sign (signs.Operator o)) free = plain_if (is_less_equal (binary_operator o))
+rows_agree assigns (identifier y) free = refl
+rows_agree assigns x free = refl
+rows_agree (arms n before default) (word words.Endcase) free = more_arms_agree before
+rows_agree (arms n before default) (word words.Default) free = default_agrees n before default
+rows_agree (arms n before default) x free =
+    expression_agrees (is_named x) n (before + 1)
+    (more_choices n ∷ statement n ∷ arms n (before + 1) default ∷ []) (operand_on n x)
+    (operand_is_plain n x)
+rows_agree (more_choices n) (sign signs.Comma) free = refl
+rows_agree (more_choices n) (sign signs.Colon) free = refl
+rows_agree (more_choices n) (identifier y) free = refl
+rows_agree (more_choices n) x free = refl
+rows_agree perhaps_colon (sign signs.Colon) free = refl
+rows_agree perhaps_colon (identifier y) free = refl
+rows_agree perhaps_colon x free = refl

@@ -1,5 +1,5 @@
 -- From steps to forms: items and modules.
-use Rattle.std.proofs.Common.{◌≡◌, zero, suc, List, [], ◌∷◌, inl, inr, refl, subst, ◌∙◌}
+use Rattle.std.proofs.Common.{◌≡◌, zero, suc, List, [], ◌∷◌, inl, inr, refl, ◌∙◌}
 use Rattle.sv_num.specs.declared.faults.Place.{Place}
 use Rattle.sv_token.specs.declared.keywords.WordKind.TheVariants as words
 use Rattle.sv_token.specs.declared.signs.SignKind.TheVariants as signs
@@ -32,23 +32,24 @@ use Rattle.sv_parse_machine.proofs.OuterForms.{links_form, more_instances_form, 
 use Rattle.sv_parse_machine.proofs.OuterForms.{one_module_form, Accepts}
 use Rattle.sv_parse_machine.proofs.OuterTokens.{taken_as_name, taken_star, taken_star_inside, b_begins}
 use Rattle.sv_parse_machine.proofs.OuterTokens.{no_expression}
+use Rattle.sv_parse_machine.proofs.OuterForms.{more_parameters_row, more_parameters_end}
+use Rattle.sv_parse_machine.proofs.OuterForms.{more_wires_row, more_wires_end, more_assigned_row}
+use Rattle.sv_parse_machine.proofs.OuterForms.{more_assigned_end, more_named_overrides_row}
+use Rattle.sv_parse_machine.proofs.OuterForms.{more_named_overrides_end, more_named_links_row}
+use Rattle.sv_parse_machine.proofs.OuterForms.{more_named_links_end, more_instances_row}
+use Rattle.sv_parse_machine.proofs.OuterForms.{more_instances_end, items_row, items_end}
+use Rattle.sv_parse_machine.proofs.OuterTokens.{loop_ends, loop_goes_on}
 
 pub b_more_parameters : (l : Limits) (x : Lexeme) (p : Place) (ts rest : List Placed) →
     Accepts l (placed x p) ts rest (more_parameters_on x) →
     more_parameters_form l (placed x p ∷ ts) rest
-b_more_parameters l (sign signs.Semicolon) p ts rest is = (
-  zero,
-  (
-    placed (sign signs.Semicolon) p ∷
-        ts,
-    refl,
-    (p, last_token (sign signs.Semicolon) p ts rest is.2),
-  ),
-)
-b_more_parameters l (sign signs.Comma) p ts rest
-    (opens, arm, (q0, a0, (q1, a1, (m1, a2, (m2, (k, (m3, others, final)), same))))) =
-    subst (more_parameters_form l (placed (sign signs.Comma) p ∷ ts)) same
-    (suc k, (m3, (m1, (ts, (p, refl), (q0, a0, (q1, a1, a2))), others), final))
+b_more_parameters l (sign signs.Semicolon) p ts rest is =
+    loop_ends (more_parameters_row l) (more_parameters_end l)
+    (placed (sign signs.Semicolon) p ∷ ts) rest
+    (p, last_token (sign signs.Semicolon) p ts rest is.2)
+b_more_parameters l (sign signs.Comma) p ts rest (opens, arm, (q0, a0, (q1, a1, (m1, a2, again)))) =
+    loop_goes_on (more_parameters_row l) (more_parameters_end l)
+    (placed (sign signs.Comma) p ∷ ts) m1 rest (ts, (p, refl), (q0, a0, (q1, a1, a2))) again
 b_more_parameters l x p ts rest is = absurd is
 
 pub none_more_parameters : (l : Limits) (rest : List Placed) → more_parameters_form l [] rest → ⊥
@@ -68,19 +69,12 @@ none_perhaps_value l rest (inr (m, (p, e), behind)) = absurd (no_token e)
 
 pub b_more_wires : (l : Limits) (x : Lexeme) (p : Place) (ts rest : List Placed) →
     Accepts l (placed x p) ts rest (more_wires_on x) → more_wires_form l (placed x p ∷ ts) rest
-b_more_wires l (sign signs.Semicolon) p ts rest is = (
-  zero,
-  (
-    placed (sign signs.Semicolon) p ∷
-        ts,
-    refl,
-    (p, last_token (sign signs.Semicolon) p ts rest is.2),
-  ),
-)
-b_more_wires l (sign signs.Comma) p ts rest
-    (opens, arm, (q0, a0, (m1, a1, (m2, (k, (m3, others, final)), same)))) =
-    subst (more_wires_form l (placed (sign signs.Comma) p ∷ ts)) same
-    (suc k, (m3, (m1, (ts, (p, refl), (q0, a0, a1)), others), final))
+b_more_wires l (sign signs.Semicolon) p ts rest is =
+    loop_ends (more_wires_row l) (more_wires_end l) (placed (sign signs.Semicolon) p ∷ ts) rest
+    (p, last_token (sign signs.Semicolon) p ts rest is.2)
+b_more_wires l (sign signs.Comma) p ts rest (opens, arm, (q0, a0, (m1, a1, again))) =
+    loop_goes_on (more_wires_row l) (more_wires_end l) (placed (sign signs.Comma) p ∷ ts) m1 rest
+    (ts, (p, refl), (q0, a0, a1)) again
 b_more_wires l x p ts rest is = absurd is
 
 pub none_more_wires : (l : Limits) (rest : List Placed) → more_wires_form l [] rest → ⊥
@@ -177,19 +171,12 @@ none_later_assigned l rest (inr (m, (p, e), behind)) = no_token e
 pub b_more_assigned : (l : Limits) (x : Lexeme) (p : Place) (ts rest : List Placed) →
     Accepts l (placed x p) ts rest (more_assigned_on x) →
     more_assigned_form l (placed x p ∷ ts) rest
-b_more_assigned l (sign signs.Semicolon) p ts rest is = (
-  zero,
-  (
-    placed (sign signs.Semicolon) p ∷
-        ts,
-    refl,
-    (p, last_token (sign signs.Semicolon) p ts rest is.2),
-  ),
-)
-b_more_assigned l (sign signs.Comma) p ts rest
-    (opens, arm, (m1, a0, (m2, (k, (m3, others, final)), same))) =
-    subst (more_assigned_form l (placed (sign signs.Comma) p ∷ ts)) same
-    (suc k, (m3, (m1, (ts, (p, refl), a0), others), final))
+b_more_assigned l (sign signs.Semicolon) p ts rest is =
+    loop_ends (more_assigned_row l) (more_assigned_end l) (placed (sign signs.Semicolon) p ∷ ts)
+    rest (p, last_token (sign signs.Semicolon) p ts rest is.2)
+b_more_assigned l (sign signs.Comma) p ts rest (opens, arm, (m1, a0, again)) =
+    loop_goes_on (more_assigned_row l) (more_assigned_end l) (placed (sign signs.Comma) p ∷ ts) m1
+    rest (ts, (p, refl), a0) again
 b_more_assigned l x p ts rest is = absurd is
 
 pub none_more_assigned : (l : Limits) (rest : List Placed) → more_assigned_form l [] rest → ⊥
@@ -248,36 +235,15 @@ none_event l rest (inr (m, (p, e), behind)) = no_token e
 pub b_more_named_overrides : (l : Limits) (x : Lexeme) (p : Place) (ts rest : List Placed) →
     Accepts l (placed x p) ts rest (more_named_overrides_on x) →
     more_named_overrides_form l (placed x p ∷ ts) rest
-b_more_named_overrides l (sign signs.CloseParenthesis) p ts rest is = (
-  zero,
-  (
-    placed (sign signs.CloseParenthesis) p ∷
-        ts,
-    refl,
-    (p, last_token (sign signs.CloseParenthesis) p ts rest is.2),
-  ),
-)
-b_more_named_overrides l (sign signs.Comma) p ts rest (
-  opens,
-  arm,
-  (
-    q0,
-    a0,
-    (q1, a1, (q2, a2, (q3, a3, (m1, a4, (m2, (k, (m3, others, final)), same))))),
-  ),
-) =
-    subst (more_named_overrides_form l (placed (sign signs.Comma) p ∷ ts)) same (
-      suc k,
-      (
-        m3,
-        (
-          m1,
-          (ts, (p, refl), (q0, a0, (q1, a1, (q2, a2, (q3, a3, a4))))),
-          others,
-        ),
-        final,
-      ),
-    )
+b_more_named_overrides l (sign signs.CloseParenthesis) p ts rest is =
+    loop_ends (more_named_overrides_row l) (more_named_overrides_end l)
+    (placed (sign signs.CloseParenthesis) p ∷ ts) rest
+    (p, last_token (sign signs.CloseParenthesis) p ts rest is.2)
+b_more_named_overrides l (sign signs.Comma) p ts rest
+    (opens, arm, (q0, a0, (q1, a1, (q2, a2, (q3, a3, (m1, a4, again)))))) =
+    loop_goes_on (more_named_overrides_row l) (more_named_overrides_end l)
+    (placed (sign signs.Comma) p ∷ ts) m1 rest
+    (ts, (p, refl), (q0, a0, (q1, a1, (q2, a2, (q3, a3, a4))))) again
 b_more_named_overrides l x p ts rest is = absurd is
 
 pub none_more_named_overrides : (l : Limits) (rest : List Placed) →
@@ -321,19 +287,15 @@ none_link l rest (inr (m, is, behind)) = no_expression l 0 m is
 pub b_more_named_links : (l : Limits) (x : Lexeme) (p : Place) (ts rest : List Placed) →
     Accepts l (placed x p) ts rest (more_named_links_on x) →
     more_named_links_form l (placed x p ∷ ts) rest
-b_more_named_links l (sign signs.CloseParenthesis) p ts rest is = (
-  zero,
-  (
-    placed (sign signs.CloseParenthesis) p ∷
-        ts,
-    refl,
-    (p, last_token (sign signs.CloseParenthesis) p ts rest is.2),
-  ),
-)
+b_more_named_links l (sign signs.CloseParenthesis) p ts rest is =
+    loop_ends (more_named_links_row l) (more_named_links_end l)
+    (placed (sign signs.CloseParenthesis) p ∷ ts) rest
+    (p, last_token (sign signs.CloseParenthesis) p ts rest is.2)
 b_more_named_links l (sign signs.Comma) p ts rest
-    (opens, arm, (q0, a0, (q1, a1, (q2, a2, (m1, a3, (m2, (k, (m3, others, final)), same)))))) =
-    subst (more_named_links_form l (placed (sign signs.Comma) p ∷ ts)) same
-    (suc k, (m3, (m1, (ts, (p, refl), (q0, a0, (q1, a1, (q2, a2, a3)))), others), final))
+    (opens, arm, (q0, a0, (q1, a1, (q2, a2, (m1, a3, again))))) =
+    loop_goes_on (more_named_links_row l) (more_named_links_end l)
+    (placed (sign signs.Comma) p ∷ ts) m1 rest (ts, (p, refl), (q0, a0, (q1, a1, (q2, a2, a3))))
+    again
 b_more_named_links l x p ts rest is = absurd is
 
 pub none_more_named_links : (l : Limits) (rest : List Placed) → more_named_links_form l [] rest → ⊥
@@ -356,19 +318,12 @@ none_links l rest (inr (inr (m, is, behind))) = no_expression l 0 m is
 pub b_more_instances : (l : Limits) (x : Lexeme) (p : Place) (ts rest : List Placed) →
     Accepts l (placed x p) ts rest (more_instances_on x) →
     more_instances_form l (placed x p ∷ ts) rest
-b_more_instances l (sign signs.Semicolon) p ts rest is = (
-  zero,
-  (
-    placed (sign signs.Semicolon) p ∷
-        ts,
-    refl,
-    (p, last_token (sign signs.Semicolon) p ts rest is.2),
-  ),
-)
-b_more_instances l (sign signs.Comma) p ts rest
-    (opens, arm, (q0, a0, (q1, a1, (m1, a2, (m2, (k, (m3, others, final)), same))))) =
-    subst (more_instances_form l (placed (sign signs.Comma) p ∷ ts)) same
-    (suc k, (m3, (m1, (ts, (p, refl), (q0, a0, (q1, a1, a2))), others), final))
+b_more_instances l (sign signs.Semicolon) p ts rest is =
+    loop_ends (more_instances_row l) (more_instances_end l) (placed (sign signs.Semicolon) p ∷ ts)
+    rest (p, last_token (sign signs.Semicolon) p ts rest is.2)
+b_more_instances l (sign signs.Comma) p ts rest (opens, arm, (q0, a0, (q1, a1, (m1, a2, again)))) =
+    loop_goes_on (more_instances_row l) (more_instances_end l) (placed (sign signs.Comma) p ∷ ts)
+    m1 rest (ts, (p, refl), (q0, a0, (q1, a1, a2))) again
 b_more_instances l x p ts rest is = absurd is
 
 pub none_more_instances : (l : Limits) (rest : List Placed) → more_instances_form l [] rest → ⊥
@@ -377,152 +332,43 @@ none_more_instances l rest (suc k, (m, (m1, (m0, (p, e), behind), others), final
 
 pub b_items : (l : Limits) (x : Lexeme) (p : Place) (ts rest : List Placed) →
     Accepts l (placed x p) ts rest (items_on x) → items_form l (placed x p ∷ ts) rest
-b_items l (word words.Endmodule) p ts rest is = (
-  zero,
-  (
-    placed (word words.Endmodule) p ∷
-        ts,
-    refl,
-    (p, last_token (word words.Endmodule) p ts rest is.2),
-  ),
-)
-b_items l (word words.Parameter) p ts rest (
-  opens,
-  arm,
-  (
-    q0,
-    a0,
-    (q1, a1, (q2, a2, (q3, a3, (m1, a4, (m2, (k, (m3, others, final)), same))))),
-  ),
-) =
-    subst (items_form l (placed (word words.Parameter) p ∷ ts)) same (
-      suc k,
-      (
-        m3,
-        (
-          m1,
-          inl (ts, (p, refl), (q0, a0, (q1, a1, (q2, a2, (q3, a3, a4))))),
-          others,
-        ),
-        final,
-      ),
-    )
-b_items l (word words.Localparam) p ts rest (
-  opens,
-  arm,
-  (
-    q0,
-    a0,
-    (q1, a1, (q2, a2, (q3, a3, (m1, a4, (m2, (k, (m3, others, final)), same))))),
-  ),
-) =
-    subst (items_form l (placed (word words.Localparam) p ∷ ts)) same (
-      suc k,
-      (
-        m3,
-        (
-          m1,
-          inr (inl (ts, (p, refl), (q0, a0, (q1, a1, (q2, a2, (q3, a3, a4)))))),
-          others,
-        ),
-        final,
-      ),
-    )
-b_items l (word words.Wire) p ts rest (
-  opens,
-  arm,
-  (
-    q0,
-    a0,
-    (q1, a1, (q2, a2, (q3, a3, (q4, a4, (m1, a5, (m2, (k, (m3, others, final)), same)))))),
-  ),
-) =
-    subst (items_form l (placed (word words.Wire) p ∷ ts)) same (
-      suc k,
-      (
-        m3,
-        (
-          m1,
-          inr
-              (inr (inl (ts, (p, refl), (q0, a0, (q1, a1, (q2, a2, (q3, a3, (q4, a4, a5)))))))),
-          others,
-        ),
-        final,
-      ),
-    )
-b_items l (word words.Reg) p ts rest
-    (opens, arm, (q0, a0, (q1, a1, (m1, a2, (m2, (k, (m3, others, final)), same))))) =
-    subst (items_form l (placed (word words.Reg) p ∷ ts)) same (
-      suc k,
-      (
-        m3,
-        (
-          m1,
-          inr (inr (inr (inl (ts, (p, refl), (q0, a0, (q1, a1, a2)))))),
-          others,
-        ),
-        final,
-      ),
-    )
-b_items l (word words.Assign) p ts rest
-    (opens, arm, (m1, a0, (m2, (k, (m3, others, final)), same))) =
-    subst (items_form l (placed (word words.Assign) p ∷ ts)) same
-    (suc k, (m3, (m1, inr (inr (inr (inr (inl (ts, (p, refl), a0))))), others), final))
-b_items l (word words.Always) p ts rest
-    (opens, arm, (q0, a0, (q1, a1, (m1, a2, (m2, (k, (m3, others, final)), same))))) =
-    subst (items_form l (placed (word words.Always) p ∷ ts)) same (
-      suc k,
-      (
-        m3,
-        (
-          m1,
-          inr (inr (inr (inr (inr (inl (ts, (p, refl), (q0, a0, (q1, a1, a2)))))))),
-          others,
-        ),
-        final,
-      ),
-    )
-b_items l (word words.Invariant) p ts rest
-    (opens, arm, (q0, a0, (m1, a1, (m2, (k, (m3, others, final)), same)))) =
-    subst (items_form l (placed (word words.Invariant) p ∷ ts)) same (
-      suc k,
-      (
-        m3,
-        (
-          m1,
-          inr (inr (inr (inr (inr (inr (inl (ts, (p, refl), (q0, a0, a1)))))))),
-          others,
-        ),
-        final,
-      ),
-    )
+b_items l (word words.Endmodule) p ts rest is =
+    loop_ends (items_row l) (items_end l) (placed (word words.Endmodule) p ∷ ts) rest
+    (p, last_token (word words.Endmodule) p ts rest is.2)
+b_items l (word words.Parameter) p ts rest
+    (opens, arm, (q0, a0, (q1, a1, (q2, a2, (q3, a3, (m1, a4, again)))))) =
+    loop_goes_on (items_row l) (items_end l) (placed (word words.Parameter) p ∷ ts) m1 rest
+    (inl (ts, (p, refl), (q0, a0, (q1, a1, (q2, a2, (q3, a3, a4)))))) again
+b_items l (word words.Localparam) p ts rest
+    (opens, arm, (q0, a0, (q1, a1, (q2, a2, (q3, a3, (m1, a4, again)))))) =
+    loop_goes_on (items_row l) (items_end l) (placed (word words.Localparam) p ∷ ts) m1 rest
+    (inr (inl (ts, (p, refl), (q0, a0, (q1, a1, (q2, a2, (q3, a3, a4))))))) again
+b_items l (word words.Wire) p ts rest
+    (opens, arm, (q0, a0, (q1, a1, (q2, a2, (q3, a3, (q4, a4, (m1, a5, again))))))) =
+    loop_goes_on (items_row l) (items_end l) (placed (word words.Wire) p ∷ ts) m1 rest
+    (inr (inr (inl (ts, (p, refl), (q0, a0, (q1, a1, (q2, a2, (q3, a3, (q4, a4, a5))))))))) again
+b_items l (word words.Reg) p ts rest (opens, arm, (q0, a0, (q1, a1, (m1, a2, again)))) =
+    loop_goes_on (items_row l) (items_end l) (placed (word words.Reg) p ∷ ts) m1 rest
+    (inr (inr (inr (inl (ts, (p, refl), (q0, a0, (q1, a1, a2))))))) again
+b_items l (word words.Assign) p ts rest (opens, arm, (m1, a0, again)) =
+    loop_goes_on (items_row l) (items_end l) (placed (word words.Assign) p ∷ ts) m1 rest
+    (inr (inr (inr (inr (inl (ts, (p, refl), a0)))))) again
+b_items l (word words.Always) p ts rest (opens, arm, (q0, a0, (q1, a1, (m1, a2, again)))) =
+    loop_goes_on (items_row l) (items_end l) (placed (word words.Always) p ∷ ts) m1 rest
+    (inr (inr (inr (inr (inr (inl (ts, (p, refl), (q0, a0, (q1, a1, a2))))))))) again
+b_items l (word words.Invariant) p ts rest (opens, arm, (q0, a0, (m1, a1, again))) =
+    loop_goes_on (items_row l) (items_end l) (placed (word words.Invariant) p ∷ ts) m1 rest
+    (inr (inr (inr (inr (inr (inr (inl (ts, (p, refl), (q0, a0, a1))))))))) again
 b_items l (identifier x) p ts rest is =
-    let name = taken_as_name l (perhaps_overrides ∷ plain_name ∷ punctuation signs.OpenParenthesis ∷
-    links ∷ more_instances ∷ items ∷ []) (placed (identifier x) p) ts rest
-    (is_refused_word x) is in
-    let (q0, a0, (q1, a1, (q2, a2, (q3, a3, (m1, a4, (m2, (k, (m3, others, final)), same)))))) =
-    name.1 in
-    subst (items_form l (placed (identifier x) p ∷ ts)) same (
-      suc k,
-      (
-        m3,
-        (
-          m1,
-          inr
-              (inr
-              (inr
-              (inr
-              (inr
-              (inr (inr (
-                ts,
-                (x, (p, (name.0, refl))),
-                (q0, a0, (q1, a1, (q2, a2, (q3, a3, a4)))),
-              ))))))),
-          others,
-        ),
-        final,
-      ),
-    )
+    let name = taken_as_name l
+    (perhaps_overrides ∷ plain_name ∷ punctuation signs.OpenParenthesis ∷ links ∷ more_instances ∷
+    items ∷ []) (placed (identifier x) p) ts rest (is_refused_word x) is in
+    let (q0, a0, (q1, a1, (q2, a2, (q3, a3, (m1, a4, again))))) = name.1 in
+    loop_goes_on (items_row l) (items_end l) (placed (identifier x) p ∷ ts) m1 rest
+    (inr (inr
+    (inr (inr
+    (inr (inr
+    (inr (ts, (x, (p, (name.0, refl))), (q0, a0, (q1, a1, (q2, a2, (q3, a3, a4)))))))))))) again
 b_items l x p ts rest is = absurd is
 
 pub none_items : (l : Limits) (rest : List Placed) → items_form l [] rest → ⊥

@@ -1,6 +1,6 @@
 -- Single steps outside expressions: names, operators, and the first token of an expression.
-use Rattle.std.proofs.Common.{◌≡◌, ℕ, Bool, true, false, not, List, [], ◌∷◌, ◌++◌, Option, Some}
-use Rattle.std.proofs.Common.{None, refl, sym, subst}
+use Rattle.std.proofs.Common.{◌≡◌, ℕ, zero, suc, Bool, true, false, not, List, [], ◌∷◌, ◌++◌}
+use Rattle.std.proofs.Common.{Option, Some, None, refl, sym, subst}
 use Rattle.std.specs.Prelude.{IsTrue}
 use Rattle.sv_num.specs.declared.operators.UnOp.{UnOp}
 use Rattle.sv_num.specs.declared.operators.BinOp.{BinOp}
@@ -9,7 +9,7 @@ use Rattle.sv_num.specs.declared.faults.Place.{Place}
 use Rattle.sv_token.specs.declared.signs.SignKind.TheVariants as signs
 use Rattle.sv_token.specs.Lexemes.{Lexeme, identifier, sign, Placed}
 use Rattle.sv_token.specs.Words.{is_refused_word}
-use Rattle.sv_ast.specs.GrammarForms.{◌⨾◌, unary_operator}
+use Rattle.sv_ast.specs.GrammarForms.{Form, ◌⨾◌, nothing, unary_operator}
 use Rattle.sv_ast.specs.GrammarExpressions.{Limits, is_within, read_tokens}
 use Rattle.sv_parse_machine.specs.Symbols.{Inner, operand, tail, Outer, punctuation, InnerReaction}
 use Rattle.sv_parse_machine.specs.Symbols.{takes_inner, over_inner, stuck_inner, OuterReaction, over}
@@ -22,7 +22,18 @@ use Rattle.sv_parse_machine.proofs.ExpressionForms.{tail_form, inner_forms, Acce
 use Rattle.sv_parse_machine.proofs.ExpressionParts.{to_parts, from_parts}
 use Rattle.sv_parse_machine.proofs.InnerSteps.{placed, none_opens, no_arm, free_name, alone, f_inner}
 use Rattle.sv_parse_machine.proofs.InnerForms.{b_inner, no_operand}
-use Rattle.sv_parse_machine.proofs.OuterForms.{IsOver, outer_forms, Accepts}
+use Rattle.sv_parse_machine.proofs.OuterForms.{IsOver, loop_form, outer_forms, Accepts}
+
+-- ---- any number of the one, and then the other
+
+pub loop_ends : (row last : Form) (ts rest : List Placed) → last ts rest →
+    loop_form row last ts rest
+loop_ends row last ts rest is = (zero, (ts, refl, is))
+
+pub loop_goes_on : (row last : Form) (ts mid rest : List Placed) → row ts mid →
+    (loop_form row last ⨾ nothing) mid rest → loop_form row last ts rest
+loop_goes_on row last ts mid rest first (ends, (k, (behind, others, final)), same) =
+    subst (loop_form row last ts) same (suc k, (behind, (mid, first, others), final))
 
 -- ---- names and operators
 

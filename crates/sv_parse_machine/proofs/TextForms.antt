@@ -32,22 +32,23 @@ use Rattle.sv_parse_machine.proofs.OuterForms.{perhaps_range_form, perhaps_secon
 use Rattle.sv_parse_machine.proofs.OuterForms.{label_end_form, perhaps_label_form, later_port_form}
 use Rattle.sv_parse_machine.proofs.OuterForms.{more_ports_form, ports_form, perhaps_ports_form, Accepts}
 use Rattle.sv_parse_machine.proofs.OuterTokens.{taken_as_name}
+use Rattle.sv_parse_machine.proofs.OuterForms.{more_values_row, more_values_end}
+use Rattle.sv_parse_machine.proofs.OuterForms.{lattice_lines_row, lattice_lines_end, rows_row}
+use Rattle.sv_parse_machine.proofs.OuterForms.{rows_end, perhaps_maps_row, perhaps_maps_end}
+use Rattle.sv_parse_machine.proofs.OuterForms.{more_header_parameters_row}
+use Rattle.sv_parse_machine.proofs.OuterForms.{more_header_parameters_end, more_ports_row}
+use Rattle.sv_parse_machine.proofs.OuterForms.{more_ports_end}
+use Rattle.sv_parse_machine.proofs.OuterTokens.{loop_ends, loop_goes_on}
 
 pub b_more_values : (l : Limits) (x : Lexeme) (p : Place) (ts rest : List Placed) →
     Accepts l (placed x p) ts rest (more_values_on x) → more_values_form l (placed x p ∷ ts) rest
-b_more_values l (sign signs.CloseParenthesis) p ts rest is = (
-  zero,
-  (
-    placed (sign signs.CloseParenthesis) p ∷
-        ts,
-    refl,
-    (p, last_token (sign signs.CloseParenthesis) p ts rest is.2),
-  ),
-)
-b_more_values l (sign signs.Comma) p ts rest
-    (opens, arm, (m1, a0, (m2, (k, (m3, others, final)), same))) =
-    subst (more_values_form l (placed (sign signs.Comma) p ∷ ts)) same
-    (suc k, (m3, (m1, (ts, (p, refl), a0), others), final))
+b_more_values l (sign signs.CloseParenthesis) p ts rest is =
+    loop_ends (more_values_row l) (more_values_end l)
+    (placed (sign signs.CloseParenthesis) p ∷ ts) rest
+    (p, last_token (sign signs.CloseParenthesis) p ts rest is.2)
+b_more_values l (sign signs.Comma) p ts rest (opens, arm, (m1, a0, again)) =
+    loop_goes_on (more_values_row l) (more_values_end l) (placed (sign signs.Comma) p ∷ ts) m1
+    rest (ts, (p, refl), a0) again
 b_more_values l x p ts rest is = absurd is
 
 pub none_more_values : (l : Limits) (rest : List Placed) → more_values_form l [] rest → ⊥
@@ -57,36 +58,19 @@ none_more_values l rest (suc k, (m, (m1, (m0, (p, e), behind), others), final)) 
 pub b_lattice_lines : (l : Limits) (x : Lexeme) (p : Place) (ts rest : List Placed) →
     Accepts l (placed x p) ts rest (lattice_lines_on x) →
     lattice_lines_form l (placed x p ∷ ts) rest
-b_lattice_lines l (word words.Endlattice) p ts rest is = (
-  zero,
-  (
-    placed (word words.Endlattice) p ∷
-        ts,
-    refl,
-    (p, last_token (word words.Endlattice) p ts rest is.2),
-  ),
-)
-b_lattice_lines l (word words.Point) p ts rest
-    (opens, arm, (q0, a0, (m1, a1, (m2, (k, (m3, others, final)), same)))) =
-    subst (lattice_lines_form l (placed (word words.Point) p ∷ ts)) same
-    (suc k, (m3, (m1, inl (ts, (p, refl), (q0, a0, a1)), others), final))
+b_lattice_lines l (word words.Endlattice) p ts rest is =
+    loop_ends (lattice_lines_row l) (lattice_lines_end l) (placed (word words.Endlattice) p ∷ ts)
+    rest (p, last_token (word words.Endlattice) p ts rest is.2)
+b_lattice_lines l (word words.Point) p ts rest (opens, arm, (q0, a0, (m1, a1, again))) =
+    loop_goes_on (lattice_lines_row l) (lattice_lines_end l) (placed (word words.Point) p ∷ ts) m1
+    rest (inl (ts, (p, refl), (q0, a0, a1))) again
 b_lattice_lines l (identifier x) p ts rest is =
     let name = taken_as_name l
     (less_equal ∷ plain_name ∷ punctuation signs.Semicolon ∷ lattice_lines ∷ [])
     (placed (identifier x) p) ts rest (is_refused_word x) is in
-    let (q0, a0, (q1, a1, (m1, a2, (m2, (k, (m3, others, final)), same)))) = name.1 in
-    subst (lattice_lines_form l (placed (identifier x) p ∷ ts)) same (
-      suc k,
-      (
-        m3,
-        (
-          m1,
-          inr (ts, (x, (p, (name.0, refl))), (q0, a0, (q1, a1, a2))),
-          others,
-        ),
-        final,
-      ),
-    )
+    let (q0, a0, (q1, a1, (m1, a2, again))) = name.1 in
+    loop_goes_on (lattice_lines_row l) (lattice_lines_end l) (placed (identifier x) p ∷ ts) m1
+    rest (inr (ts, (x, (p, (name.0, refl))), (q0, a0, (q1, a1, a2)))) again
 b_lattice_lines l x p ts rest is = absurd is
 
 pub none_lattice_lines : (l : Limits) (rest : List Placed) → lattice_lines_form l [] rest → ⊥
@@ -169,10 +153,9 @@ b_rows l (word words.Endlabelmap) p ts rest is = (
         (p, last_token (word words.Endlabelmap) p ts rest is.2),
   ),
 )
-b_rows l (numeral v) p ts rest
-    (opens, arm, (q0, a0, (q1, a1, (q2, a2, (m1, a3, (m2, (k, (m3, others, final)), same)))))) =
-    subst (rows_form l (placed (numeral v) p ∷ ts)) same
-    (suc k, (m3, (m1, (ts, (v, (p, refl)), (q0, a0, (q1, a1, (q2, a2, a3)))), others), final))
+b_rows l (numeral v) p ts rest (opens, arm, (q0, a0, (q1, a1, (q2, a2, (m1, a3, again))))) =
+    loop_goes_on (rows_row l) (rows_end l) (placed (numeral v) p ∷ ts) m1 rest
+    (ts, (v, (p, refl)), (q0, a0, (q1, a1, (q2, a2, a3)))) again
 b_rows l x p ts rest is = absurd is
 
 pub none_rows : (l : Limits) (rest : List Placed) → rows_form l [] rest → ⊥
@@ -182,10 +165,9 @@ none_rows l rest (suc k, (m, (m1, (m0, (v, (p, e)), behind), others), final)) = 
 
 pub b_perhaps_maps : (l : Limits) (x : Lexeme) (p : Place) (ts rest : List Placed) →
     Accepts l (placed x p) ts rest (perhaps_maps_on x) → perhaps_maps_form l (placed x p ∷ ts) rest
-b_perhaps_maps l (word words.Labelmap) p ts rest
-    (opens, arm, (q0, a0, (q1, a1, (m1, a2, (m2, (k, (m3, others, final)), same))))) =
-    subst (perhaps_maps_form l (placed (word words.Labelmap) p ∷ ts)) same
-    (suc k, (m3, (m1, (ts, (p, refl), (q0, a0, (q1, a1, a2))), others), final))
+b_perhaps_maps l (word words.Labelmap) p ts rest (opens, arm, (q0, a0, (q1, a1, (m1, a2, again)))) =
+    loop_goes_on (perhaps_maps_row l) (perhaps_maps_end l) (placed (word words.Labelmap) p ∷ ts)
+    m1 rest (ts, (p, refl), (q0, a0, (q1, a1, a2))) again
 b_perhaps_maps l x p ts rest is = (zero, (placed x p ∷ ts, refl, (tt, is)))
 
 pub none_perhaps_maps : (l : Limits) (rest : List Placed) → perhaps_maps_form l [] rest → [] ≡ rest
@@ -233,19 +215,13 @@ none_later_header_parameter l rest (inr (m, (x, (p, (free, e))), behind)) = no_t
 pub b_more_header_parameters : (l : Limits) (x : Lexeme) (p : Place) (ts rest : List Placed) →
     Accepts l (placed x p) ts rest (more_header_parameters_on x) →
     more_header_parameters_form l (placed x p ∷ ts) rest
-b_more_header_parameters l (sign signs.CloseParenthesis) p ts rest is = (
-  zero,
-  (
-    placed (sign signs.CloseParenthesis) p ∷
-        ts,
-    refl,
-    (p, last_token (sign signs.CloseParenthesis) p ts rest is.2),
-  ),
-)
-b_more_header_parameters l (sign signs.Comma) p ts rest
-    (opens, arm, (m1, a0, (m2, (k, (m3, others, final)), same))) =
-    subst (more_header_parameters_form l (placed (sign signs.Comma) p ∷ ts)) same
-    (suc k, (m3, (m1, (ts, (p, refl), a0), others), final))
+b_more_header_parameters l (sign signs.CloseParenthesis) p ts rest is =
+    loop_ends (more_header_parameters_row l) (more_header_parameters_end l)
+    (placed (sign signs.CloseParenthesis) p ∷ ts) rest
+    (p, last_token (sign signs.CloseParenthesis) p ts rest is.2)
+b_more_header_parameters l (sign signs.Comma) p ts rest (opens, arm, (m1, a0, again)) =
+    loop_goes_on (more_header_parameters_row l) (more_header_parameters_end l)
+    (placed (sign signs.Comma) p ∷ ts) m1 rest (ts, (p, refl), a0) again
 b_more_header_parameters l x p ts rest is = absurd is
 
 pub none_more_header_parameters : (l : Limits) (rest : List Placed) →
@@ -357,19 +333,12 @@ none_later_port l rest (inr (inr (m, (x, (p, (free, e))), behind))) = no_token e
 
 pub b_more_ports : (l : Limits) (x : Lexeme) (p : Place) (ts rest : List Placed) →
     Accepts l (placed x p) ts rest (more_ports_on x) → more_ports_form l (placed x p ∷ ts) rest
-b_more_ports l (sign signs.CloseParenthesis) p ts rest is = (
-  zero,
-  (
-    placed (sign signs.CloseParenthesis) p ∷
-        ts,
-    refl,
-    (p, last_token (sign signs.CloseParenthesis) p ts rest is.2),
-  ),
-)
-b_more_ports l (sign signs.Comma) p ts rest
-    (opens, arm, (m1, a0, (m2, (k, (m3, others, final)), same))) =
-    subst (more_ports_form l (placed (sign signs.Comma) p ∷ ts)) same
-    (suc k, (m3, (m1, (ts, (p, refl), a0), others), final))
+b_more_ports l (sign signs.CloseParenthesis) p ts rest is =
+    loop_ends (more_ports_row l) (more_ports_end l) (placed (sign signs.CloseParenthesis) p ∷ ts)
+    rest (p, last_token (sign signs.CloseParenthesis) p ts rest is.2)
+b_more_ports l (sign signs.Comma) p ts rest (opens, arm, (m1, a0, again)) =
+    loop_goes_on (more_ports_row l) (more_ports_end l) (placed (sign signs.Comma) p ∷ ts) m1 rest
+    (ts, (p, refl), a0) again
 b_more_ports l x p ts rest is = absurd is
 
 pub none_more_ports : (l : Limits) (rest : List Placed) → more_ports_form l [] rest → ⊥

@@ -3,7 +3,7 @@
 use Rattle.std.proofs.Common.{◌≡◌, ℕ, Bool, true, false, not, ◌&&◌, ◌||◌, [], ◌∷◌, Option, Some}
 use Rattle.std.proofs.Common.{None, refl, sym, ap, subst, ◌∙◌}
 use Rattle.std.specs.Prelude.{IsTrue}
-use Rattle.std.proofs.lemmas.Bool.{false≢true}
+use Rattle.std.proofs.lemmas.Bool.{false≢true, and_parts}
 use Rattle.sv_num.specs.declared.operators.BinOp.{BinOp}
 use Rattle.sv_token.specs.declared.keywords.WordKind.{WordKind}
 use Rattle.sv_token.specs.declared.keywords.WordKind.TheVariants as words
@@ -140,10 +140,6 @@ expects_inside a start s below x e (stuck_inner f) no_dot found halts further =
     absurd (subst (λ r. InnerAgrees r (inner_on s (word words.Always))) found
     (inner_agrees s x words.Always no_dot))
 
-true_parts : (x y : Bool) → IsTrue (x && y) → IsTrue x × IsTrue y
-true_parts true y all = (refl, all)
-true_parts false y all = absurd (false≢true all)
-
 or_parts : (x y : Bool) → IsTrue (not x || y) → IsTrue x → IsTrue y
 or_parts true y all is = all
 or_parts false y all is = absurd (false≢true is)
@@ -171,14 +167,14 @@ expects_outside a y below x e (takes level arm ys) agree halts further = absurd 
 expects_outside a y below x e (begins level arm xs ys) agree halts further = absurd (cc)
 expects_outside a y below x e over agree halts further =
     let others = further halts in
-    let first = true_parts (is_over (outer_on y (word words.Always)))
+    let first = and_parts (is_over (outer_on y (word words.Always)))
     (is_over (outer_on y (word words.Begin))
     && (is_over (outer_on y (word words.Posedge)) && is_over (outer_on y (word words.Input))))
     agree in
-    let second = true_parts (is_over (outer_on y (word words.Begin)))
+    let second = and_parts (is_over (outer_on y (word words.Begin)))
     (is_over (outer_on y (word words.Posedge)) && is_over (outer_on y (word words.Input)))
     first.1 in
-    let third = true_parts (is_over (outer_on y (word words.Posedge)))
+    let third = and_parts (is_over (outer_on y (word words.Posedge)))
     (is_over (outer_on y (word words.Input))) second.1 in
     record {
       items =
@@ -196,14 +192,14 @@ expects_outside a y below x e over agree halts further =
     }
 expects_outside a y below x e (stuck f) agree halts further =
     let none : f ≡ e = cc in
-    let first = true_parts (is_as (is_item f) (outer_on y (word words.Always)))
+    let first = and_parts (is_as (is_item f) (outer_on y (word words.Always)))
     (is_as (is_statement f) (outer_on y (word words.Begin))
     && (is_as (is_edge f) (outer_on y (word words.Posedge))
     && (not (is_named x) || is_as (is_port f) (outer_on y (word words.Input))))) agree in
-    let second = true_parts (is_as (is_statement f) (outer_on y (word words.Begin)))
+    let second = and_parts (is_as (is_statement f) (outer_on y (word words.Begin)))
     (is_as (is_edge f) (outer_on y (word words.Posedge))
     && (not (is_named x) || is_as (is_port f) (outer_on y (word words.Input)))) first.1 in
-    let third = true_parts (is_as (is_edge f) (outer_on y (word words.Posedge))) (not (is_named x)
+    let third = and_parts (is_as (is_edge f) (outer_on y (word words.Posedge))) (not (is_named x)
     || is_as (is_port f) (outer_on y (word words.Input))) second.1 in
     subst (Expects a (outer y ∷ below) x) none (record {
       items =

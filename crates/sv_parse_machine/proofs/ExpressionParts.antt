@@ -3,7 +3,7 @@
 use Rattle.std.proofs.Common.{◌≡◌, ℕ, Bool, true, false, ◌&&◌, List, [], ◌∷◌, ◌++◌, inl, inr, refl}
 use Rattle.std.proofs.Common.{sym, subst, arith}
 use Rattle.std.specs.Prelude.{IsTrue, cond, nat_le, nat_lt}
-use Rattle.std.proofs.lemmas.Bool.{false≢true}
+use Rattle.std.proofs.lemmas.Bool.{false≢true, and_parts, and_from}
 use Rattle.sv_num.specs.declared.operators.BinOp.{BinOp}
 use Rattle.sv_num.specs.declared.operators.BinOp.TheVariants.{Mul}
 use Rattle.sv_num.specs.declared.faults.Place.{Place}
@@ -77,14 +77,6 @@ precedence_is_not_below : (op : BinOp) → IsTrue (nat_le 0 (precedence_of op))
 precedence_is_not_below Mul = refl
 precedence_is_not_below _ = refl
 
-true_parts : (x y : Bool) → IsTrue (x && y) → IsTrue x × IsTrue y
-true_parts true y all = (refl, all)
-true_parts false y all = absurd (false≢true all)
-
-true_both : (x y : Bool) → IsTrue x → IsTrue y → IsTrue (x && y)
-true_both true y first second = second
-true_both false y first second = absurd (false≢true first)
-
 -- ---- from expressions to rows
 
 abbrev pub Flat : Limits → ℕ → List Placed → List Placed → Type 0
@@ -108,7 +100,7 @@ append_rows l n (k ∷ ks) more ts mid rest first second = (
 flat : (l : Limits) (n : ℕ) (w : Written) (ts rest : List Placed) → NoChoice w →
     IsWritten l n w ts rest → Ends w rest → Flat l n ts rest
 flat l n (binary op p a b) ts rest kind is ends =
-    let parts = true_parts (nat_le (binding a) (precedence_of op))
+    let parts = and_parts (nat_le (binding a) (precedence_of op))
     (nat_lt (binding b) (precedence_of op)) is.0 in
     let operator = is.1.2.1 in
     let next : Next ends_name is.1.0 =
@@ -216,7 +208,7 @@ behind_operand l n w op p x ts mid rest tight is behind =
     let right = behind.2 in (
       tt,
       (
-        true_both (nat_le (binding w) (precedence_of op)) (nat_lt (binding x)
+        and_from (nat_le (binding w) (precedence_of op)) (nat_lt (binding x)
             (precedence_of op)) tight
             (operand_is_tight op x right.0),
         (mid, is, (behind.0, behind.1, right.1)),
@@ -229,7 +221,7 @@ inserted : (l : Limits) (n : ℕ) (w : Written) (op : BinOp) (p : Place) (x : Wr
     → NoChoice w → IsWritten l n w ts mid → (binary_at op p ⨾ operand_is l n x) mid rest
     → Goes l n ts rest (insert w op p x)
 inserted l n (binary oq q a b) op p x ts mid rest kind is behind =
-    let parts = true_parts (nat_le (binding a) (precedence_of oq))
+    let parts = and_parts (nat_le (binding a) (precedence_of oq))
     (nat_lt (binding b) (precedence_of oq)) is.0 in
     let right = inserted l n b op p x is.1.2.0 mid rest (right_is_no_choice oq b parts.1) is.1.2.2
     behind in
@@ -239,7 +231,7 @@ inserted l n (binary oq q a b) op p x ts mid rest kind is behind =
     (λ tight. (
       tt,
       (
-        true_both (nat_le (binding a) (precedence_of oq))
+        and_from (nat_le (binding a) (precedence_of oq))
             (nat_lt (binding (insert b op p x)) (precedence_of oq)) parts.0
             (insert_binds (precedence_of oq) b op p x parts.1
             (not_le (precedence_of oq) (precedence_of op) tight)),

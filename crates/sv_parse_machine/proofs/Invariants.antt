@@ -3,7 +3,7 @@
 use Rattle.std.proofs.Common.{◌≡◌, ℕ, zero, ◌+◌, ◌-◌, ◌≤◌, max, Bool, true, false, ◌&&◌, List, []}
 use Rattle.std.proofs.Common.{◌∷◌, ◌++◌, length, Option, Some, None, inl, refl, sym, subst, arith}
 use Rattle.std.specs.Prelude.{IsTrue}
-use Rattle.std.proofs.lemmas.Bool.{false≢true}
+use Rattle.std.proofs.lemmas.Bool.{and_parts, and_from}
 use Rattle.std.proofs.lemmas.List.{length-append}
 use Rattle.sv_token.specs.declared.keywords.WordKind.TheVariants as words
 use Rattle.sv_token.specs.declared.signs.SignKind.TheVariants as signs
@@ -71,14 +71,6 @@ pub record Sound (l : Limits) (a : ℕ) (s : State) : Type 0 where
 
 -- ---- steps keep them
 
-true_parts : (x y : Bool) → IsTrue (x && y) → IsTrue x × IsTrue y
-true_parts true y all = (refl, all)
-true_parts false y all = absurd (false≢true all)
-
-true_both : (x y : Bool) → IsTrue x → IsTrue y → IsTrue (x && y)
-true_both true y first second = second
-true_both false y first second = absurd (false≢true first)
-
 outer_is_inner : (start : ℕ) (s : State) → AllOuter s → AllInner start s
 outer_is_inner start [] is = tt
 outer_is_inner start (inner begun x ∷ below) is = absurd is
@@ -108,22 +100,22 @@ outside_is_sane : (ys : List Outer) (below : State) → IsTrue (are_sane ys) →
     IsTrue (state_is_sane below) → IsTrue (state_is_sane (outside_on ys ++ below))
 outside_is_sane [] below fine is = is
 outside_is_sane (y ∷ ys) below fine is =
-    let parts = true_parts (is_sane y) (are_sane ys) fine in
-    true_both (is_sane y) (state_is_sane (outside_on ys ++ below)) parts.0
+    let parts = and_parts (is_sane y) (are_sane ys) fine in
+    and_from (is_sane y) (state_is_sane (outside_on ys ++ below)) parts.0
     (outside_is_sane ys below parts.1 is)
 
 outside_is_plain : (ys : List Outer) (below : State) → IsTrue (are_plain ys) →
     IsTrue (state_is_plain below) → IsTrue (state_is_plain (outside_on ys ++ below))
 outside_is_plain [] below fine is = is
 outside_is_plain (y ∷ ys) below fine is =
-    let parts = true_parts (is_plain y) (are_plain ys) fine in
-    true_both (is_plain y) (state_is_plain (outside_on ys ++ below)) parts.0
+    let parts = and_parts (is_plain y) (are_plain ys) fine in
+    and_from (is_plain y) (state_is_plain (outside_on ys ++ below)) parts.0
     (outside_is_plain ys below parts.1 is)
 
 plain_below : (s : State) → IsTrue (state_is_plain s) → IsTrue (below_is_plain s)
 plain_below [] is = refl
 plain_below (inner start x ∷ below) is = is
-plain_below (outer y ∷ below) is = (true_parts (is_plain y) (state_is_plain below) is).1
+plain_below (outer y ∷ below) is = (and_parts (is_plain y) (state_is_plain below) is).1
 
 below_inside : (start : ℕ) (xs : List Inner) (below : State) → IsTrue (state_is_plain below) →
     IsTrue (below_is_plain (inside_on start xs ++ below))
@@ -145,7 +137,7 @@ below_outer : (start : ℕ) (y : Outer) (below : State) → Shape start (outer y
     Shape start below
 below_outer start y below is = record {
   layers = outer_is_inner start below is.layers;
-  sane = (true_parts (is_sane y) (state_is_sane below) is.sane).1;
+  sane = (and_parts (is_sane y) (state_is_sane below) is.sane).1;
   plain = plain_below below is.plain;
 }
 
@@ -189,7 +181,7 @@ sound_reaction : (l : Limits) (a : ℕ) (below next : State) (skip : Step) (r : 
 sound_reaction l a below next skip (takes level arm ys) fine layers sane plain e skips =
     let (opens, few, same) =
     admits (is_within l.levels level) (is_within l.arms arm) (outside_on ys ++ below) next e in
-    let parts = true_parts (are_sane ys) (plain_behind ys) fine in
+    let parts = and_parts (are_sane ys) (plain_behind ys) fine in
     subst (Sound l a) same (record {
       start = 0;
       shape = record {
@@ -204,7 +196,7 @@ sound_reaction l a below next skip (begins level arm xs ys) fine layers sane pla
     admits (is_within l.levels level) (is_within l.arms arm
     && is_within l.tokens (tokens_of l (a + 1) a))
     (inside_on (a + 1) xs ++ (outside_on ys ++ below)) next e in
-    let parts = true_parts (are_sane ys) (are_plain ys) fine in
+    let parts = and_parts (are_sane ys) (are_plain ys) fine in
     subst (Sound l a) same (record {
       start = a + 1;
       shape = record {
@@ -219,7 +211,7 @@ sound_reaction l a below next skip (begins level arm xs ys) fine layers sane pla
             (outside_is_plain ys below parts.1 plain);
       };
       counted =
-          (true_parts (is_within l.arms arm) (is_within l.tokens (tokens_of l (a + 1) a)) both).1;
+          (and_parts (is_within l.arms arm) (is_within l.tokens (tokens_of l (a + 1) a)) both).1;
     })
 sound_reaction l a below next skip over fine layers sane plain e skips = skips e
 sound_reaction l a below next skip (stuck f) fine layers sane plain e skips = absurd (cc)
@@ -241,7 +233,7 @@ sound_step l a start (inner begun y ∷ below) next x shape e =
     sound_step l a start below next x (below_inner start begun y below shape) same)
 sound_step l a start (outer y ∷ below) next x shape e =
     sound_reaction l a below next (step l a below x) (outer_on y x) (rows_are_fine y x) shape.layers
-    (true_parts (is_sane y) (state_is_sane below) shape.sane).1 shape.plain e (λ same.
+    (and_parts (is_sane y) (state_is_sane below) shape.sane).1 shape.plain e (λ same.
     sound_step l a start below next x (below_outer start y below shape) same)
 
 pub sound_walk : (l : Limits) (k : ℕ) (ts : List Placed) (s next : State) (a : ℕ) →
@@ -307,7 +299,7 @@ closing_state_is_quiet [] plain = tt
 closing_state_is_quiet (inner start x ∷ below) plain =
     closing_inner_is_quiet x (closing_state below) (closing_state_is_quiet below plain)
 closing_state_is_quiet (outer y ∷ below) plain =
-    let parts = true_parts (is_plain y) (state_is_plain below) plain in
+    let parts = and_parts (is_plain y) (state_is_plain below) plain in
     closing_is_quiet y (closing_state below) parts.0 (closing_state_is_quiet below parts.1)
 
 unread_count : (o : Option ℕ) (start b u : ℕ) → b ≤ u → IsTrue (is_within o start) →
@@ -343,7 +335,7 @@ completes l u start (outer y ∷ below) few counted shape less =
     let short = no_longer (closing y) us u less in (
       us,
       closed (record l { unread = u }) y us few
-          (true_parts (is_sane y) (state_is_sane below) shape.sane).0
+          (and_parts (is_sane y) (state_is_sane below) shape.sane).0
           (closing_state_is_quiet below shape.plain) less,
       completes l u start below few counted (below_outer start y below shape) short,
     )

@@ -3,7 +3,7 @@
 use Rattle.std.proofs.Common.{◌≡◌, ℕ, ◌+◌, Bool, true, false, ◌&&◌, List, [], ◌∷◌, ◌++◌, length}
 use Rattle.std.proofs.Common.{Option, Some, None, ◌⊎◌, inl, inr, refl, subst}
 use Rattle.std.specs.Prelude.{IsTrue, fold}
-use Rattle.std.proofs.lemmas.Bool.{false≢true}
+use Rattle.std.proofs.lemmas.Bool.{false≢true, and_parts}
 use Rattle.sv_num.specs.declared.operators.UnOp.{UnOp}
 use Rattle.sv_num.specs.declared.operators.BinOp.{BinOp}
 use Rattle.sv_token.specs.declared.keywords.WordKind.TheVariants as words
@@ -70,10 +70,6 @@ outer_outside : (ys : List Outer) (below : State) → AllOuter below →
 outer_outside [] below is = is
 outer_outside (y ∷ ys) below is = outer_outside ys below is
 
-true_parts : (x y : Bool) → IsTrue (x && y) → IsTrue x × IsTrue y
-true_parts true y all = (refl, all)
-true_parts false y all = absurd (false≢true all)
-
 tail_inside : (start : ℕ) (xs : List Inner) (below : State) → IsTrue (tail_comes xs) →
     TailNext (inside_on start xs ++ below)
 tail_inside start [] below comes = absurd (false≢true comes)
@@ -84,7 +80,7 @@ tidy_inside : (start : ℕ) (xs : List Inner) (below : State) → IsTrue (row_is
     Tidy (inside_on start xs ++ below)
 tidy_inside start [] below fine tidy = tidy
 tidy_inside start (operand n ∷ xs) below fine tidy =
-    let parts = true_parts (tail_comes xs) (row_is_tidy xs) fine in
+    let parts = and_parts (tail_comes xs) (row_is_tidy xs) fine in
     (tail_inside start xs below parts.0, tidy_inside start xs below parts.1 tidy)
 tidy_inside start (selection n ∷ xs) below fine tidy = absurd (false≢true fine)
 tidy_inside start (tail n ∷ xs) below fine tidy = tidy_inside start xs below fine tidy

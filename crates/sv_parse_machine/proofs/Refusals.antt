@@ -2,7 +2,7 @@
 use Rattle.std.proofs.Common.{◌≡◌, ℕ, ◌+◌, Bool, true, false, ◌&&◌, List, [], ◌∷◌, ◌++◌, length}
 use Rattle.std.proofs.Common.{inl, inr, refl, sym, ap, subst, ◌∙◌, arith}
 use Rattle.std.specs.Prelude.{IsTrue}
-use Rattle.std.proofs.lemmas.Bool.{false≢true}
+use Rattle.std.proofs.lemmas.Bool.{false≢true, and_parts, and_from}
 use Rattle.std.proofs.lemmas.List.{length-append, append-nil}
 use Rattle.sv_token.specs.Lexemes.{Lexeme, Placed}
 use Rattle.sv_ast.specs.Tree.{TextTree}
@@ -63,14 +63,6 @@ pub record Widens (l k : Limits) : Type 0 where
   pub tokens : (start after : ℕ) → IsTrue (is_within l.tokens (tokens_of l start after)) →
       IsTrue (is_within k.tokens (tokens_of k start after))
 
-true_parts : (x y : Bool) → IsTrue (x && y) → IsTrue x × IsTrue y
-true_parts true y all = (refl, all)
-true_parts false y all = absurd (false≢true all)
-
-true_both : (x y : Bool) → IsTrue x → IsTrue y → IsTrue (x && y)
-true_both true y first second = second
-true_both false y first second = absurd (false≢true first)
-
 admits : (d c : Bool) (s next : State) → within_limits d c s ≡ goes next →
     IsTrue d × IsTrue c × (s ≡ next)
 admits true true s next e = (refl, refl, cc)
@@ -106,12 +98,12 @@ wider_step l k wider a s next x e = on (forecast a s x)
     on (inr (level, arm, start, then, is)) =
         let parts = admits (is_within l.levels level) (is_within l.arms arm
         && is_within l.tokens (tokens_of l start a)) then next (sym (is l) ∙ e) in
-        let counts = true_parts (is_within l.arms arm) (is_within l.tokens (tokens_of l start a))
+        let counts = and_parts (is_within l.arms arm) (is_within l.tokens (tokens_of l start a))
         parts.1 in
         is k
         ∙ admitted (is_within k.levels level) (is_within k.arms arm
         && is_within k.tokens (tokens_of k start a)) then (wider.levels level parts.0)
-        (true_both (is_within k.arms arm) (is_within k.tokens (tokens_of k start a))
+        (and_from (is_within k.arms arm) (is_within k.tokens (tokens_of k start a))
         (wider.arms arm counts.0) (wider.tokens start a counts.1))
         ∙ ap goes parts.2
 

@@ -4,7 +4,7 @@ use Rattle.std.proofs.Common.{◌≡◌, ℕ, zero, suc, ◌+◌, ◌-◌, ◌�
 use Rattle.std.proofs.Common.{[], ◌∷◌, ◌++◌, length, Option, Some, None, inl, refl, sym, subst}
 use Rattle.std.proofs.Common.{arith}
 use Rattle.std.specs.Prelude.{IsTrue}
-use Rattle.std.proofs.lemmas.Bool.{false≢true}
+use Rattle.std.proofs.lemmas.Bool.{false≢true, and_parts, and_from}
 use Rattle.sv_token.specs.declared.keywords.WordKind.TheVariants as words
 use Rattle.sv_token.specs.Lexemes.{Lexeme, word, Placed}
 use Rattle.sv_ast.specs.GrammarForms.{Form}
@@ -54,14 +54,6 @@ count_to : (l : Limits) (t : Placed) (ts mid : List Placed) → Counted l (lengt
 count_to l t ts mid is =
     subst (λ n. IsTrue (is_within l.tokens (n - max (length mid) l.unread)))
     (sym (one_more t ts)) is
-
-true_parts : (x y : Bool) → IsTrue (x && y) → IsTrue x × IsTrue y
-true_parts true y all = (refl, all)
-true_parts false y all = absurd (false≢true all)
-
-true_both : (x y : Bool) → IsTrue x → IsTrue y → IsTrue (x && y)
-true_both true y first second = second
-true_both false y first second = absurd (false≢true first)
 
 -- ---- from forms to runs
 
@@ -130,7 +122,7 @@ f_after_outer l t ts mid below skip (begins level arm xs ys) (opens, few, m, inn
       next,
       admitted (is_within l.levels level) (is_within l.arms arm
           && is_within l.tokens (tokens_of l (length ts + 1) (length ts))) next opens
-          (true_both (is_within l.arms arm)
+          (and_from (is_within l.arms arm)
           (is_within l.tokens (tokens_of l (length ts + 1) (length ts))) few
           (earlier l (length ts + 1) ts m (all_inner_shrink l xs ts m inners) counted)),
       fits_inside l (length ts + 1) xs (outside_on ys ++ below) ts m inners counted
@@ -242,7 +234,7 @@ b_after_outer l t ts below next skip (begins level arm xs ys) e kept skips =
     admits (is_within l.levels level) (is_within l.arms arm
     && is_within l.tokens (tokens_of l (length ts + 1) (length ts)))
     (inside_on (length ts + 1) xs ++ (outside_on ys ++ below)) next e in
-    let parts = true_parts (is_within l.arms arm)
+    let parts = and_parts (is_within l.arms arm)
     (is_within l.tokens (tokens_of l (length ts + 1) (length ts))) both in
     let (m, inners, counts, behind) =
     kept_inside l (length ts + 1) xs (outside_on ys ++ below) ts

@@ -2,7 +2,7 @@
 use Rattle.std.proofs.Common.{◌≡◌, ℕ, Bool, true, false, not, ◌&&◌, List, [], ◌∷◌, ◌++◌, Option}
 use Rattle.std.proofs.Common.{Some, ◌⊎◌, inl, inr, refl, sym, ap, subst, ◌∙◌}
 use Rattle.std.specs.Prelude.{IsTrue, codes}
-use Rattle.std.proofs.lemmas.Bool.{false≢true}
+use Rattle.std.proofs.lemmas.Bool.{false≢true, and_parts}
 use Rattle.sv_num.specs.declared.operators.BinOp.{BinOp}
 use Rattle.sv_num.specs.declared.operators.BinOp.TheVariants.{Mul}
 use Rattle.sv_num.specs.declared.faults.Place.{Place}
@@ -66,10 +66,6 @@ body_of outside is = absurd (false≢true is)
 body_to : (p : Part) → p ≡ body → IsTrue (is_body p)
 body_to p same = subst (λ p. IsTrue (is_body p)) (sym same) refl
 
-true_parts : (x y : Bool) → IsTrue (x && y) → IsTrue x × IsTrue y
-true_parts true y all = (refl, all)
-true_parts false y all = absurd (false≢true all)
-
 posedge_of : (x : Lexeme) → IsTrue (is_posedge x) → x ≡ word words.Posedge
 posedge_of (word words.Posedge) is = refl
 posedge_of x is = absurd (false≢true is)
@@ -85,7 +81,7 @@ clock_of : (ts : List Placed) → IsTrue (stop_at_clock ts) → StopAtClock ts
 clock_of [] is = absurd (false≢true is)
 clock_of (t ∷ []) is = absurd (false≢true is)
 clock_of (t ∷ u ∷ []) is =
-    let parts = true_parts (is_posedge t.lexeme) (is_name u.lexeme) is in
+    let parts = and_parts (is_posedge t.lexeme) (is_name u.lexeme) is in
     let first : t.lexeme ≡ word words.Posedge = posedge_of t.lexeme parts.0 in
     let second = name_of u.lexeme parts.1 in
     ([], t.place, u.place, second.0, two t u t.place u.place second.0 first second.1)

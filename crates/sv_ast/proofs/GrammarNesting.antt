@@ -1,10 +1,10 @@
 -- Binary operators in a row nest in one way: a written expression is determined by its operands and
 -- operators in their order.
-use Rattle.std.proofs.Common.{◌≡◌, ℕ, ◌-◌, Bool, true, false, ◌&&◌, List, [], ◌∷◌, ◌++◌, ◌⊎◌, inl}
+use Rattle.std.proofs.Common.{◌≡◌, ℕ, ◌-◌, Bool, true, ◌&&◌, List, [], ◌∷◌, ◌++◌, ◌⊎◌, inl}
 use Rattle.std.proofs.Common.{inr, ⊎_elim, refl, sym, ap, subst, ◌∙◌, arith}
 use Rattle.std.specs.Prelude.{IsTrue, nat_le, nat_lt}
 use Rattle.std.specs.List.{list_all}
-use Rattle.std.proofs.lemmas.Bool.{false≢true}
+use Rattle.std.proofs.lemmas.Bool.{and_parts, and_from}
 use Rattle.std.proofs.lemmas.List.{append_assoc}
 use Rattle.sv_num.specs.declared.operators.BinOp.{BinOp}
 use Rattle.sv_num.specs.declared.operators.BinOp.TheVariants.{Mul}
@@ -54,14 +54,6 @@ abbrev pub is_at_most : ℕ → Piece → Bool
 is_at_most v (operand w) = true
 is_at_most v (operator op p) = nat_le (precedence_of op) v
 
-true_parts : (x y : Bool) → IsTrue (x && y) → IsTrue x × IsTrue y
-true_parts true y all = (refl, all)
-true_parts false y all = absurd (false≢true all)
-
-true_both : (x y : Bool) → IsTrue x → IsTrue y → IsTrue (x && y)
-true_both true y first second = second
-true_both false y first second = absurd (false≢true first)
-
 le_le : (a b c : ℕ) → IsTrue (nat_le a b) → IsTrue (nat_le b c) → IsTrue (nat_le a c)
 le_le a b c first second = grind arith
 
@@ -78,25 +70,25 @@ all_append : {A : Type 0} (test : A → Bool) (xs ys : List A) → IsTrue (list_
     IsTrue (list_all test ys) → IsTrue (list_all test (xs ++ ys))
 all_append test [] ys first second = second
 all_append test (x ∷ xs) ys first second =
-    let parts = true_parts (test x) (list_all test xs) first in
-    true_both (test x) (list_all test (xs ++ ys)) parts.0 (all_append test xs ys parts.1 second)
+    let parts = and_parts (test x) (list_all test xs) first in
+    and_from (test x) (list_all test (xs ++ ys)) parts.0 (all_append test xs ys parts.1 second)
 
 all_behind : {A : Type 0} (test : A → Bool) (xs : List A) (y : A) (ys : List A) →
     IsTrue (list_all test (xs ++ y ∷ ys)) → IsTrue (test y)
-all_behind test [] y ys all = (true_parts (test y) (list_all test ys) all).0
+all_behind test [] y ys all = (and_parts (test y) (list_all test ys) all).0
 all_behind test (x ∷ xs) y ys all =
-    all_behind test xs y ys (true_parts (test x) (list_all test (xs ++ y ∷ ys)) all).1
+    all_behind test xs y ys (and_parts (test x) (list_all test (xs ++ y ∷ ys)) all).1
 
 -- the operators of an expression bind at least as tight as it does
 precedences_of_pieces : (v : ℕ) (w : Written) → IsTrue (nat_le (binding w) v) → IsNested w →
     IsTrue (list_all (is_at_most v) (pieces w))
 precedences_of_pieces v (binary op p a b) tight nested =
-    let parts = true_parts (nat_le (binding a) (precedence_of op)) (nat_lt (binding b)
+    let parts = and_parts (nat_le (binding a) (precedence_of op)) (nat_lt (binding b)
     (precedence_of op))
     nested.0 in
     all_append (is_at_most v) (pieces a) (operator op p ∷ pieces b)
     (precedences_of_pieces v a (le_le (binding a) (precedence_of op) v parts.0 tight) nested.1)
-    (true_both (nat_le (precedence_of op) v) (list_all (is_at_most v) (pieces b)) tight
+    (and_from (nat_le (precedence_of op) v) (list_all (is_at_most v) (pieces b)) tight
     (precedences_of_pieces v b
     (le_le (binding b) (precedence_of op) v (less_le (binding b) (precedence_of op) parts.1) tight)
     nested.2))
@@ -135,10 +127,10 @@ no_later : (op : BinOp) (p : Place) (a b : Written) (oq : BinOp) (q : Place) (c 
     → pieces c ≡ (pieces a ++ operator op p ∷ []) ++ us
     → pieces a ++ operator op p ∷ pieces b ≡ pieces c ++ operator oq q ∷ pieces d → ⊥
 no_later op p a b oq q c d nested nested_too us longer same =
-    let parts = true_parts (nat_le (binding a) (precedence_of op)) (nat_lt (binding b)
+    let parts = and_parts (nat_le (binding a) (precedence_of op)) (nat_lt (binding b)
     (precedence_of op))
     nested.0 in
-    let parts_too = true_parts (nat_le (binding c) (precedence_of oq)) (nat_lt (binding d)
+    let parts_too = and_parts (nat_le (binding c) (precedence_of oq)) (nat_lt (binding d)
     (precedence_of oq))
     nested_too.0 in
     let row : pieces c ≡ pieces a ++ operator op p ∷ us =

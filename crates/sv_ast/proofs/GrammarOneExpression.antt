@@ -3,7 +3,7 @@
 use Rattle.std.proofs.Common.{◌≡◌, ℕ, ◌+◌, Bool, true, false, ◌&&◌, List, [], ◌∷◌, ◌++◌, refl, sym}
 use Rattle.std.proofs.Common.{ap, subst, ◌∙◌}
 use Rattle.std.specs.Prelude.{IsTrue, nat_le, nat_lt}
-use Rattle.std.proofs.lemmas.Bool.{false≢true}
+use Rattle.std.proofs.lemmas.Bool.{false≢true, and_parts}
 use Rattle.sv_num.specs.declared.operators.BinOp.{BinOp}
 use Rattle.sv_num.specs.declared.operators.BinOp.TheVariants.{Mul}
 use Rattle.sv_num.specs.declared.operators.UnOp.{UnOp}
@@ -85,28 +85,24 @@ no_choice_below : (op : BinOp) → IsTrue (nat_lt 11 (precedence_of op)) → ⊥
 no_choice_below Mul loose = false≢true loose
 no_choice_below _ loose = false≢true loose
 
-left_is_no_choice : (op : BinOp) (a : Written) → IsTrue (nat_le (binding a) (precedence_of op)) →
-    NoChoice a
+pub left_is_no_choice : (op : BinOp) (a : Written)
+    → IsTrue (nat_le (binding a) (precedence_of op)) → NoChoice a
 left_is_no_choice op (choice p c a b) loose = no_choice_at op loose
 left_is_no_choice op _ loose = tt
 
-right_is_no_choice : (op : BinOp) (a : Written) → IsTrue (nat_lt (binding a) (precedence_of op)) →
-    NoChoice a
+pub right_is_no_choice : (op : BinOp) (a : Written)
+    → IsTrue (nat_lt (binding a) (precedence_of op)) → NoChoice a
 right_is_no_choice op (choice p c a b) loose = no_choice_below op loose
 right_is_no_choice op _ loose = tt
 
-tight_is_no_choice : (a : Written) → IsTrue (nat_le (binding a) 10) → NoChoice a
+pub tight_is_no_choice : (a : Written) → IsTrue (nat_le (binding a) 10) → NoChoice a
 tight_is_no_choice (choice p c a b) loose = false≢true loose
 tight_is_no_choice _ loose = tt
-
-true_parts : (x y : Bool) → IsTrue (x && y) → IsTrue x × IsTrue y
-true_parts true y all = (refl, all)
-true_parts false y all = absurd (false≢true all)
 
 in_row : (l : Limits) (n : ℕ) (w : Written) (ts r : List Placed) → NoChoice w →
     IsWritten l n w ts r → InRow l n (pieces w) ts r
 in_row l n (binary op p a b) ts r kind is =
-    let parts = true_parts (nat_le (binding a) (precedence_of op))
+    let parts = and_parts (nat_le (binding a) (precedence_of op))
     (nat_lt (binding b) (precedence_of op)) is.0 in
     append_row l n (pieces a) (operator op p ∷ pieces b) ts is.1.0 r
     (in_row l n a ts is.1.0 (left_is_no_choice op a parts.0) is.1.1)

@@ -3,7 +3,7 @@
 use Rattle.std.proofs.Common.{◌≡◌, ℕ, Bool, true, false, ◌&&◌, List, [], ◌∷◌, ◌++◌, inl, inr, refl}
 use Rattle.std.proofs.Common.{sym, subst, arith}
 use Rattle.std.specs.Prelude.{IsTrue, cond, nat_le, nat_lt}
-use Rattle.std.proofs.lemmas.Bool.{false≢true, and_parts, and_from}
+use Rattle.std.proofs.lemmas.Bool.{and_parts, and_from}
 use Rattle.sv_num.specs.declared.operators.BinOp.{BinOp}
 use Rattle.sv_num.specs.declared.operators.BinOp.TheVariants.{Mul}
 use Rattle.sv_num.specs.declared.faults.Place.{Place}
@@ -14,6 +14,8 @@ use Rattle.sv_ast.specs.GrammarGroups.{Written, literal, named, bit_of, part_of,
 use Rattle.sv_ast.specs.GrammarGroups.{binary, choice, join, replication, precedence_of, binding}
 use Rattle.sv_ast.specs.GrammarExpressions.{Limits, IsWritten}
 use Rattle.sv_ast.proofs.GrammarOneOperand.{IsOperand}
+use Rattle.sv_ast.proofs.GrammarOneExpression.{NoChoice, left_is_no_choice, right_is_no_choice}
+use Rattle.sv_ast.proofs.GrammarOneExpression.{tight_is_no_choice}
 use Rattle.sv_parse_machine.proofs.ExpressionForms.{Next, ends_tail, ends_name, Ends, operand_is}
 use Rattle.sv_parse_machine.proofs.ExpressionForms.{operand_form, Link, row_form, tail_form}
 
@@ -33,32 +35,6 @@ ends_any (choice p c a b) rest next = ends_any b rest next
 ends_any _ rest next = tt
 
 -- ---- levels
-
-abbrev pub NoChoice : Written → Type 0
-NoChoice (choice p c a b) = ⊥
-NoChoice w = Unit {0}
-
-no_choice_at : (op : BinOp) → IsTrue (nat_le 11 (precedence_of op)) → ⊥
-no_choice_at Mul loose = false≢true loose
-no_choice_at _ loose = false≢true loose
-
-no_choice_below : (op : BinOp) → IsTrue (nat_lt 11 (precedence_of op)) → ⊥
-no_choice_below Mul loose = false≢true loose
-no_choice_below _ loose = false≢true loose
-
-left_is_no_choice : (op : BinOp) (a : Written) → IsTrue (nat_le (binding a) (precedence_of op)) →
-    NoChoice a
-left_is_no_choice op (choice p c a b) loose = no_choice_at op loose
-left_is_no_choice op _ loose = tt
-
-right_is_no_choice : (op : BinOp) (a : Written) → IsTrue (nat_lt (binding a) (precedence_of op)) →
-    NoChoice a
-right_is_no_choice op (choice p c a b) loose = no_choice_below op loose
-right_is_no_choice op _ loose = tt
-
-tight_is_no_choice : (a : Written) → IsTrue (nat_le (binding a) 10) → NoChoice a
-tight_is_no_choice (choice p c a b) loose = false≢true loose
-tight_is_no_choice _ loose = tt
 
 precedence_within : (op : BinOp) → IsTrue (nat_le (precedence_of op) 10)
 precedence_within Mul = refl

@@ -1,25 +1,24 @@
 -- Single steps outside expressions: names, operators, and the first token of an expression.
 use Rattle.std.proofs.Common.{◌≡◌, ℕ, zero, suc, Bool, true, false, not, List, [], ◌∷◌, ◌++◌}
-use Rattle.std.proofs.Common.{Option, Some, None, refl, sym, subst}
+use Rattle.std.proofs.Common.{Option, Some, refl, sym, subst}
 use Rattle.std.specs.Prelude.{IsTrue}
-use Rattle.sv_num.specs.declared.operators.UnOp.{UnOp}
 use Rattle.sv_num.specs.declared.operators.BinOp.{BinOp}
 use Rattle.sv_num.specs.declared.operators.BinOp.TheVariants.{Mul, Le}
 use Rattle.sv_num.specs.declared.faults.Place.{Place}
 use Rattle.sv_token.specs.declared.signs.SignKind.TheVariants as signs
-use Rattle.sv_token.specs.Lexemes.{Lexeme, identifier, sign, Placed}
+use Rattle.sv_token.specs.Lexemes.{Lexeme, Placed}
 use Rattle.sv_token.specs.Words.{is_refused_word}
-use Rattle.sv_ast.specs.GrammarForms.{Form, ◌⨾◌, nothing, unary_operator}
+use Rattle.sv_ast.specs.GrammarForms.{Form, ◌⨾◌, nothing}
 use Rattle.sv_ast.specs.GrammarExpressions.{Limits, is_within, read_tokens}
 use Rattle.sv_parse_machine.specs.Symbols.{Inner, operand, tail, Outer, punctuation, InnerReaction}
 use Rattle.sv_parse_machine.specs.Symbols.{takes_inner, over_inner, stuck_inner, OuterReaction, over}
 use Rattle.sv_parse_machine.specs.Symbols.{takes_all, unless_refused}
-use Rattle.sv_parse_machine.specs.ExpressionTable.{name_operand, prefix_operand, operand_on}
-use Rattle.sv_parse_machine.specs.ExpressionTable.{as_expression, expression_on}
+use Rattle.sv_parse_machine.specs.ExpressionTable.{operand_on, as_expression, expression_on}
 use Rattle.sv_parse_machine.specs.StatementTable.{is_star, is_less_equal, taken_if}
 use Rattle.sv_parse_machine.specs.ModuleTable.{star_in_event}
 use Rattle.sv_parse_machine.proofs.ExpressionForms.{tail_form, inner_forms, AcceptsInner, expression_form}
 use Rattle.sv_parse_machine.proofs.ExpressionParts.{to_parts, from_parts}
+use Rattle.sv_parse_machine.proofs.ReadSteps.{NotOver, operand_not_over}
 use Rattle.sv_parse_machine.proofs.InnerSteps.{placed, none_opens, no_arm, free_name, alone, f_inner}
 use Rattle.sv_parse_machine.proofs.InnerForms.{b_inner, no_operand}
 use Rattle.sv_parse_machine.proofs.OuterForms.{IsOver, loop_form, outer_forms, Accepts}
@@ -73,23 +72,6 @@ taken_star_inside l t ts rest (Some Mul) is = (refl, is.2)
 taken_star_inside l t ts rest b is = absurd is
 
 -- ---- expressions
-
-abbrev NotOver : InnerReaction → Type 0
-NotOver over_inner = ⊥
-NotOver r = Unit {0}
-
-name_not_over : (n : ℕ) (b : Bool) → NotOver (name_operand n b)
-name_not_over n true = tt
-name_not_over n false = tt
-
-prefix_not_over : (n : ℕ) (u : Option UnOp) → NotOver (prefix_operand n u)
-prefix_not_over n None = tt
-prefix_not_over n (Some op) = tt
-
-operand_not_over : (n : ℕ) (x : Lexeme) → NotOver (operand_on n x)
-operand_not_over n (identifier y) = name_not_over n (is_refused_word y)
-operand_not_over n (sign (signs.Operator o)) = prefix_not_over n (unary_operator o)
-operand_not_over n x = tt
 
 append_inner : (l : Limits) (xs zs : List Inner) (ts mid rest : List Placed) →
     inner_forms l xs ts mid → inner_forms l zs mid rest → inner_forms l (xs ++ zs) ts rest

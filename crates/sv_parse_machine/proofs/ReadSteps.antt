@@ -290,7 +290,7 @@ map_append start (z ∷ xs) x below = ap (λ s. inner start z ∷ s) (map_append
 arm_is_kept : (arm : ℕ) (b : Bool) → arm ≤ 256 → (is_within (Some 256) arm && b) ≡ b
 arm_is_kept arm b less = ap (λ c. c && b) (within arm 256 less)
 
-abbrev NotOver : InnerReaction → Type 0
+abbrev pub NotOver : InnerReaction → Type 0
 NotOver over_inner = ⊥
 NotOver r = Unit {0}
 
@@ -302,7 +302,7 @@ prefix_not_over : (n : ℕ) (u : Option UnOp) → NotOver (prefix_operand n u)
 prefix_not_over n None = tt
 prefix_not_over n (Some op) = tt
 
-operand_not_over : (n : ℕ) (x : Lexeme) → NotOver (operand_on n x)
+pub operand_not_over : (n : ℕ) (x : Lexeme) → NotOver (operand_on n x)
 operand_not_over n (identifier y) = name_not_over n (is_refused_word y)
 operand_not_over n (sign (signs.Operator o)) = prefix_not_over n (unary_operator o)
 operand_not_over n x = tt

@@ -6,7 +6,7 @@ use Rattle.sv_token.specs.declared.signs.SignKind.{SignKind}
 use Rattle.sv_token.specs.declared.signs.SignKind.TheVariants as signs
 use Rattle.sv_token.specs.Lexemes.{Lexeme, identifier, numeral, sign, Placed}
 use Rattle.sv_token.specs.Words.{is_refused_word}
-use Rattle.sv_ast.specs.GrammarForms.{binary_operator}
+use Rattle.sv_ast.specs.GrammarForms.{binary_operator, ◌⨾◌, a_sign}
 use Rattle.sv_ast.specs.GrammarExpressions.{Limits}
 use Rattle.sv_parse_machine.specs.Symbols.{punctuation, plain_name, plain_number, expression, more_names}
 use Rattle.sv_parse_machine.specs.Symbols.{more_values, perhaps_lattice, lattice_lines, less_equal}
@@ -28,6 +28,7 @@ use Rattle.sv_parse_machine.specs.Symbols.{arms, more_choices, perhaps_colon}
 use Rattle.sv_parse_machine.specs.ExpressionTable.{expression_on}
 use Rattle.sv_parse_machine.proofs.InnerSteps.{placed, by_token, no_token, none_opens, no_arm}
 use Rattle.sv_parse_machine.proofs.InnerForms.{last_token}
+use Rattle.sv_parse_machine.proofs.ReadRows.{same_sign}
 use Rattle.sv_parse_machine.proofs.OuterForms.{some_name, some_number, less_equal_form, more_names_form}
 use Rattle.sv_parse_machine.proofs.OuterForms.{statement_form, statements_form, arms_form, assigns_form}
 use Rattle.sv_parse_machine.proofs.OuterForms.{Accepts}
@@ -41,7 +42,7 @@ use Rattle.sv_parse_machine.specs.StatementTable.{less_equal_on, punctuation_on,
 use Rattle.sv_parse_machine.specs.Machine.{outer_on, may_be_empty}
 use Rattle.sv_parse_machine.proofs.OuterForms.{punctuation_form, outer_form}
 use Rattle.sv_parse_machine.proofs.OuterTokens.{taken_less_equal, b_begins, f_begins, unrefused}
-use Rattle.sv_parse_machine.proofs.OuterTokens.{taken_as_name, no_expression}
+use Rattle.sv_parse_machine.proofs.OuterTokens.{taken_as_name, no_expression, loop_ends, loop_goes_on}
 use Rattle.sv_parse_machine.specs.Symbols.{Outer, outer}
 use Rattle.sv_parse_machine.proofs.StatementSteps.{f_assigns, f_statement, f_statements, f_arms}
 use Rattle.sv_parse_machine.proofs.StatementForms.{b_assigns, b_statement, b_statements, b_arms}
@@ -112,23 +113,6 @@ f_punctuation : (l : Limits) (s : SignKind) (t : Placed) (ts rest : List Placed)
 f_punctuation l (signs.Operator o) t ts rest is = absurd is
 f_punctuation l s t ts rest (p, e) =
     by_token (λ x us. Accepts l t us rest (punctuation_on s x)) e (none_opens l, no_arm l, refl)
-
-same_sign : (s t : SignKind) → IsTrue (is_sign s t) → s ≡ t
-same_sign signs.Question signs.Question same = refl
-same_sign signs.Colon signs.Colon same = refl
-same_sign signs.Semicolon signs.Semicolon same = refl
-same_sign signs.Comma signs.Comma same = refl
-same_sign signs.Dot signs.Dot same = refl
-same_sign signs.OpenParenthesis signs.OpenParenthesis same = refl
-same_sign signs.CloseParenthesis signs.CloseParenthesis same = refl
-same_sign signs.OpenBracket signs.OpenBracket same = refl
-same_sign signs.CloseBracket signs.CloseBracket same = refl
-same_sign signs.OpenBrace signs.OpenBrace same = refl
-same_sign signs.CloseBrace signs.CloseBrace same = refl
-same_sign signs.Equals signs.Equals same = refl
-same_sign signs.Hash signs.Hash same = refl
-same_sign signs.At signs.At same = refl
-same_sign s t same = absurd (false≢true same)
 
 taken : (l : Limits) (t : Placed) (ts rest : List Placed) (b : Bool) →
     Accepts l t ts rest (taken_if b) → IsTrue b × (ts ≡ rest)
@@ -223,32 +207,20 @@ f_more_names l s t ts rest is = absurd is
 b_more_names : (l : Limits) (s : SignKind) (x : Lexeme) (p : Place) (ts rest : List Placed)
     → Accepts l (placed x p) ts rest (more_names_on s x)
     → more_names_form l s (placed x p ∷ ts) rest
-b_more_names l signs.Semicolon (sign signs.Semicolon) p ts rest is = (
-  zero,
-  (
-    placed (sign signs.Semicolon) p ∷
-        ts,
-    refl,
-    (p, last_token (sign signs.Semicolon) p ts rest is.2),
-  ),
-)
+b_more_names l signs.Semicolon (sign signs.Semicolon) p ts rest is =
+    loop_ends (a_sign signs.Comma ⨾ some_name) (a_sign signs.Semicolon)
+    (placed (sign signs.Semicolon) p ∷ ts) rest (p, last_token (sign signs.Semicolon) p ts rest is.2)
 b_more_names l signs.Semicolon (sign signs.Comma) p ts rest
-    (opens, arm, (m1, name, (m2, (k, (m3, others, final)), same))) =
-    subst (more_names_form l signs.Semicolon (placed (sign signs.Comma) p ∷ ts)) same
-    (suc k, (m3, (m1, (ts, (p, refl), name), others), final))
-b_more_names l signs.CloseBrace (sign signs.CloseBrace) p ts rest is = (
-  zero,
-  (
-    placed (sign signs.CloseBrace) p ∷
-        ts,
-    refl,
-    (p, last_token (sign signs.CloseBrace) p ts rest is.2),
-  ),
-)
+    (opens, arm, (m1, name, again)) =
+    loop_goes_on (a_sign signs.Comma ⨾ some_name) (a_sign signs.Semicolon)
+    (placed (sign signs.Comma) p ∷ ts) m1 rest (ts, (p, refl), name) again
+b_more_names l signs.CloseBrace (sign signs.CloseBrace) p ts rest is =
+    loop_ends (a_sign signs.Comma ⨾ some_name) (a_sign signs.CloseBrace)
+    (placed (sign signs.CloseBrace) p ∷ ts) rest (p, last_token (sign signs.CloseBrace) p ts rest is.2)
 b_more_names l signs.CloseBrace (sign signs.Comma) p ts rest
-    (opens, arm, (m1, name, (m2, (k, (m3, others, final)), same))) =
-    subst (more_names_form l signs.CloseBrace (placed (sign signs.Comma) p ∷ ts)) same
-    (suc k, (m3, (m1, (ts, (p, refl), name), others), final))
+    (opens, arm, (m1, name, again)) =
+    loop_goes_on (a_sign signs.Comma ⨾ some_name) (a_sign signs.CloseBrace)
+    (placed (sign signs.Comma) p ∷ ts) m1 rest (ts, (p, refl), name) again
 b_more_names l s x p ts rest is = absurd is
 
 none_more_names : (l : Limits) (s : SignKind) (rest : List Placed) → more_names_form l s [] rest → ⊥

@@ -108,7 +108,7 @@ pub punctuation_read : (s : SignKind) (ts rest : List Placed) → is_sign s s �
     a_sign s ts rest → Reads (outer (punctuation s) ∷ []) [] ts rest
 punctuation_read s ts rest kind is = sign_taken (punctuation s) s [] ts rest (ap taken_if kind) is
 
-same_sign : (s t : SignKind) → is_sign s t ≡ true → s ≡ t
+pub same_sign : (s t : SignKind) → is_sign s t ≡ true → s ≡ t
 same_sign signs.Question signs.Question same = refl
 same_sign signs.Colon signs.Colon same = refl
 same_sign signs.Semicolon signs.Semicolon same = refl

@@ -239,23 +239,9 @@ closed_arms l n zero default us few less =
       ),
     )
 
--- the tokens that complete it, and those behind them, are none that were read
-pub closed : (l : Limits) (y : Outer) (us : List Placed) → IsTrue (is_within l.arms 1)
-    → IsTrue (is_sane y) → Quiet us → length (closing y ++ us) ≤ l.unread
-    → outer_form l y (closing y ++ us) us
-closed l (punctuation s) us few sane quiet less = closed_punctuation s us sane
-closed l plain_name us few sane quiet less = no_words l us
-closed l plain_number us few sane quiet less = (zero_literal, (first_place, refl))
-closed l (expression n) us few sane quiet less = a_value l n us quiet less
-closed l (more_names s) us few sane quiet less = closed_names l s us sane
-closed l more_values us few sane quiet less =
-    (zero, (a_token (sign signs.CloseParenthesis) ∷ us, refl, (first_place, refl)))
-closed l perhaps_lattice us few sane quiet less = skip_perhaps_lattice l us quiet
-closed l lattice_lines us few sane quiet less =
-    (zero, (a_token (word words.Endlattice) ∷ us, refl, (first_place, refl)))
-closed l less_equal us few sane quiet less = (first_place, (less_equal_sign, refl, refl))
-closed l perhaps_maps us few sane quiet less = skip_perhaps_maps l us quiet
-closed l map_name us few sane quiet less = (
+-- a name with a range behind it
+closed_range : (l : Limits) (us : List Placed) → outer_form l map_name (closing map_name ++ us) us
+closed_range l us = (
   a_token (sign signs.OpenBracket) ∷ a_number ∷ a_token (sign signs.Colon) ∷ a_number ∷
       a_token (sign signs.CloseBracket) ∷ us,
   (short_name, (first_place, (short_name_is_free, refl))),
@@ -282,6 +268,24 @@ closed l map_name us few sane quiet less = (
     ),
   ),
 )
+
+-- the tokens that complete it, and those behind them, are none that were read
+pub closed : (l : Limits) (y : Outer) (us : List Placed) → IsTrue (is_within l.arms 1)
+    → IsTrue (is_sane y) → Quiet us → length (closing y ++ us) ≤ l.unread
+    → outer_form l y (closing y ++ us) us
+closed l (punctuation s) us few sane quiet less = closed_punctuation s us sane
+closed l plain_name us few sane quiet less = no_words l us
+closed l plain_number us few sane quiet less = (zero_literal, (first_place, refl))
+closed l (expression n) us few sane quiet less = a_value l n us quiet less
+closed l (more_names s) us few sane quiet less = closed_names l s us sane
+closed l more_values us few sane quiet less =
+    (zero, (a_token (sign signs.CloseParenthesis) ∷ us, refl, (first_place, refl)))
+closed l perhaps_lattice us few sane quiet less = skip_perhaps_lattice l us quiet
+closed l lattice_lines us few sane quiet less =
+    (zero, (a_token (word words.Endlattice) ∷ us, refl, (first_place, refl)))
+closed l less_equal us few sane quiet less = (first_place, (less_equal_sign, refl, refl))
+closed l perhaps_maps us few sane quiet less = skip_perhaps_maps l us quiet
+closed l map_name us few sane quiet less = closed_range l us
 closed l perhaps_key_range us few sane quiet less = skip_perhaps_key_range l us quiet
 closed l rows us few sane quiet less =
     (zero, (a_token (word words.Endlabelmap) ∷ us, refl, inr (first_place, refl)))
@@ -434,33 +438,7 @@ closed l label_selector us few sane quiet less =
         ),
       ),
     )
-closed l memory_name us few sane quiet less = (
-  a_token (sign signs.OpenBracket) ∷ a_number ∷ a_token (sign signs.Colon) ∷ a_number ∷
-      a_token (sign signs.CloseBracket) ∷ us,
-  (short_name, (first_place, (short_name_is_free, refl))),
-  (
-    a_number ∷ a_token (sign signs.Colon) ∷ a_number ∷ a_token (sign signs.CloseBracket) ∷
-        us,
-    (first_place, refl),
-    (
-      a_token (sign signs.Colon) ∷ a_number ∷
-          a_token (sign signs.CloseBracket) ∷
-          us,
-      (zero_literal, (first_place, refl)),
-      (
-        a_number ∷ a_token (sign signs.CloseBracket) ∷
-            us,
-        (first_place, refl),
-        (
-          a_token (sign signs.CloseBracket) ∷
-              us,
-          (zero_literal, (first_place, refl)),
-          (us, (first_place, refl), refl),
-        ),
-      ),
-    ),
-  ),
-)
+closed l memory_name us few sane quiet less = closed_range l us
 closed l assigned us few sane quiet less =
     inl (
       a_token (sign signs.Equals) ∷ a_number ∷ a_token (sign signs.Semicolon) ∷

@@ -22,7 +22,7 @@ use Rattle.sv_parse_machine.specs.Symbols.{Outer, punctuation, plain_name, plain
 use Rattle.sv_parse_machine.specs.Symbols.{more_names, more_values, lattice_lines, less_equal, map_name}
 use Rattle.sv_parse_machine.specs.Symbols.{rows, perhaps_second_key, end_of_map, event, event_inside}
 use Rattle.sv_parse_machine.specs.Symbols.{more_named_overrides, links, link, more_named_links}
-use Rattle.sv_parse_machine.specs.Symbols.{more_instances, Symbol, outer, State, OuterReaction, takes}
+use Rattle.sv_parse_machine.specs.Symbols.{more_instances, outer, State, OuterReaction, takes}
 use Rattle.sv_parse_machine.specs.Symbols.{begins, over, stuck, and_then, unless_refused}
 use Rattle.sv_parse_machine.specs.ModuleTable.{number_range, star_in_event}
 use Rattle.sv_parse_machine.specs.StatementTable.{is_sign, is_star, is_less_equal, taken_if}
@@ -36,7 +36,7 @@ use Rattle.sv_parse_machine.proofs.ReadSteps.{reads_then, reads_before, takes_to
 use Rattle.sv_parse_machine.proofs.ReadSteps.{reads_expression}
 use Rattle.sv_parse_machine.proofs.ReadRows.{sign_taken, word_taken}
 use Rattle.sv_parse_machine.proofs.ReadLists.{NextIsIdentifier, same_outer}
-use Rattle.sv_parse_expr.proofs.Halting.{stops_then, stops_before}
+use Rattle.sv_parse_expr.proofs.Halting.{stops_then}
 use Rattle.sv_parse.specs.ReadingTexts.{EndsRows}
 
 -- ---- one after the other
@@ -50,25 +50,6 @@ pub group_stop : (xs ys : State) (ts mid : List Placed) (stop : Stop) → Reads 
     HaltsAs ys mid stop → HaltsAs (xs ++ ys) ts stop
 group_stop xs ys ts mid stop first second =
     stops_then (xs ++ ys) ys ts mid stop (reads_before xs [] ys ts mid first) second
-
-pub next_read : (x : Symbol) (ys zs : State) (ts mid rest : List Placed) →
-    Reads (x ∷ []) [] ts mid → Reads ys zs mid rest → Reads (x ∷ ys) zs ts rest
-next_read x ys zs ts mid rest first second = group_read (x ∷ []) ys zs ts mid rest first second
-
-pub next_stop : (x : Symbol) (ys : State) (ts mid : List Placed) (stop : Stop) →
-    Reads (x ∷ []) [] ts mid → HaltsAs ys mid stop → HaltsAs (x ∷ ys) ts stop
-next_stop x ys ts mid stop first second = group_stop (x ∷ []) ys ts mid stop first second
-
-pub first_stop : (x : Symbol) (ys : State) (ts : List Placed) (stop : Stop) →
-    HaltsAs (x ∷ []) ts stop → HaltsAs (x ∷ ys) ts stop
-first_stop x ys ts stop first = stops_before (x ∷ []) ys ts stop first
-
--- a symbol that turns into others without a token, in front of more
-pub turned_stop : (x : Symbol) (ys others : State) (ts : List Placed) (stop : Stop) →
-    Reads (x ∷ []) ys ts ts → HaltsAs (ys ++ others) ts stop → HaltsAs (x ∷ others) ts stop
-turned_stop x ys others ts stop turns second =
-    stops_then (x ∷ others) (ys ++ others) ts ts stop
-    (reads_before (x ∷ []) ys others ts ts turns) second
 
 -- ---- what comes next
 

@@ -1,11 +1,9 @@
 use Rattle.sv_token.specs.Lexemes.{placed_tokens}
 use Rattle.sv_parse.specs.ReadingItems.{range_tree}
-use Rattle.std.proofs.Common.{[], ◌∷◌, refl}
-use Rattle.sv_parse_machine.specs.Symbols.{outer, punctuation, plain_number}
-use Rattle.sv_parse_machine.proofs.ReadSteps.{reads_then, reads_before}
-use Rattle.sv_parse_expr.proofs.Halting.{passed, stops_then, stops_before}
+use Rattle.std.proofs.Common.{refl}
+use Rattle.sv_parse_expr.proofs.Halting.{passed}
 use Rattle.sv_parse.proofs.ReadingItems.{key_range_is}
-use Rattle.sv_token.specs.declared.signs.SignKind.TheVariants as signs
+use Rattle.sv_parse.proofs.DeclarationRuns.{and_read, and_stop, front_stop}
 use Rattle.sv_parse.proofs.label_maps.read_range.Goals as goal
 
 pub returns-clause-is : goal.returns-clause-is
@@ -16,32 +14,14 @@ returns-clause-is c =
 
 pub returns-in_err-rest-clause-halts : goal.returns-in_err-rest-clause-halts
 returns-in_err-rest-clause-halts c = λ bytes.
-    passed _ _ _ c.from_residual.ensures.1
-    (stops_before (outer (punctuation signs.OpenBracket) ∷ [])
-    (outer plain_number ∷ outer (punctuation signs.Colon) ∷ outer plain_number ∷
-    outer (punctuation signs.CloseBracket) ∷ []) _ _ (c.in_err-rest.ensures.halts bytes))
+    passed _ _ _ c.from_residual.ensures.1 (front_stop _ _ _ _ (c.in_err-rest.ensures.halts bytes))
 
 pub returns-in_err-range-clause-halts : goal.returns-in_err-range-clause-halts
 returns-in_err-range-clause-halts c = λ bytes.
     passed _ _ _ c.from_residual-in_err-range.ensures.1
-    (stops_then (outer (punctuation signs.OpenBracket) ∷ outer plain_number ∷
-    outer (punctuation signs.Colon) ∷ outer plain_number ∷
-    outer (punctuation signs.CloseBracket) ∷ [])
-    (outer plain_number ∷ outer (punctuation signs.Colon) ∷ outer plain_number ∷
-    outer (punctuation signs.CloseBracket) ∷ []) _ _ _
-    (reads_before (outer (punctuation signs.OpenBracket) ∷ []) []
-    (outer plain_number ∷ outer (punctuation signs.Colon) ∷ outer plain_number ∷
-    outer (punctuation signs.CloseBracket) ∷ []) _ _ (c.in_ok-rest.ensures.reads bytes refl))
+    (and_stop _ _ _ _ _ (c.in_ok-rest.ensures.reads bytes refl)
     (c.in_err-range.ensures.halts bytes))
 
 pub returns-clause-reads : goal.returns-clause-reads
 returns-clause-reads c = λ bytes.
-    (reads_then (outer (punctuation signs.OpenBracket) ∷ outer plain_number ∷
-    outer (punctuation signs.Colon) ∷ outer plain_number ∷
-    outer (punctuation signs.CloseBracket) ∷ [])
-    (outer plain_number ∷ outer (punctuation signs.Colon) ∷ outer plain_number ∷
-    outer (punctuation signs.CloseBracket) ∷ []) [] _ _ _
-    (reads_before (outer (punctuation signs.OpenBracket) ∷ []) []
-    (outer plain_number ∷ outer (punctuation signs.Colon) ∷ outer plain_number ∷
-    outer (punctuation signs.CloseBracket) ∷ []) _ _ (c.in_ok-rest.ensures.reads bytes refl))
-    (c.in_ok-range.ensures.reads bytes))
+    and_read _ _ _ _ _ _ (c.in_ok-rest.ensures.reads bytes refl) (c.in_ok-range.ensures.reads bytes)

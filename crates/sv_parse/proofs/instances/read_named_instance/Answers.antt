@@ -1,9 +1,7 @@
-use Rattle.std.proofs.Common.{refl, [], ◌∷◌}
+use Rattle.std.proofs.Common.{refl}
 use Rattle.sv_token.specs.Lexemes.{placed_tokens}
-use Rattle.sv_parse_machine.specs.Symbols.{outer, punctuation, plain_name, links}
-use Rattle.sv_parse_machine.proofs.ReadSteps.{reads_then, reads_before}
-use Rattle.sv_parse_expr.proofs.Halting.{passed, stops_then, stops_before}
-use Rattle.sv_token.specs.declared.signs.SignKind.TheVariants as signs
+use Rattle.sv_parse_expr.proofs.Halting.{passed}
+use Rattle.sv_parse.proofs.DeclarationRuns.{and_read, and_stop, front_stop}
 use Rattle.sv_parse.proofs.instances.read_named_instance.Goals as goal
 
 pub returns-clause-is : goal.returns-clause-is
@@ -23,43 +21,23 @@ returns-clause-is c = (
 
 pub returns-in_err-name-clause-halts : goal.returns-in_err-name-clause-halts
 returns-in_err-name-clause-halts c =
-    passed _ _ _ c.from_residual.ensures.1
-    (stops_before (outer plain_name ∷ [])
-    (outer (punctuation signs.OpenParenthesis) ∷ outer links ∷ []) _ _
-    c.in_err-name.ensures.halts)
+    passed _ _ _ c.from_residual.ensures.1 (front_stop _ _ _ _ c.in_err-name.ensures.halts)
 
 pub returns-in_err-rest-clause-halts : goal.returns-in_err-rest-clause-halts
 returns-in_err-rest-clause-halts c =
     passed _ _ _ c.from_residual-in_err-rest.ensures.1
-    (stops_then (outer plain_name ∷ outer (punctuation signs.OpenParenthesis) ∷ outer links ∷ [])
-    (outer (punctuation signs.OpenParenthesis) ∷ outer links ∷ []) _ _ _
-    (reads_before (outer plain_name ∷ []) []
-    (outer (punctuation signs.OpenParenthesis) ∷ outer links ∷ []) _ _
-    c.in_ok-name.ensures.reads)
-    (stops_before (outer (punctuation signs.OpenParenthesis) ∷ []) (outer links ∷ []) _ _
-    (c.in_err-rest.ensures.halts c.args.bytes.now)))
+    (and_stop _ _ _ _ _ c.in_ok-name.ensures.reads
+    (front_stop _ _ _ _ (c.in_err-rest.ensures.halts c.args.bytes.now)))
 
 pub returns-in_err-links-clause-halts : goal.returns-in_err-links-clause-halts
 returns-in_err-links-clause-halts c =
     passed _ _ _ c.from_residual-in_err-links.ensures.1
-    (stops_then (outer plain_name ∷ outer (punctuation signs.OpenParenthesis) ∷ outer links ∷ [])
-    (outer (punctuation signs.OpenParenthesis) ∷ outer links ∷ []) _ _ _
-    (reads_before (outer plain_name ∷ []) []
-    (outer (punctuation signs.OpenParenthesis) ∷ outer links ∷ []) _ _
-    c.in_ok-name.ensures.reads)
-    (stops_then (outer (punctuation signs.OpenParenthesis) ∷ outer links ∷ []) (outer links ∷ []) _
-    _ _ (reads_before (outer (punctuation signs.OpenParenthesis) ∷ []) [] (outer links ∷ []) _ _
-    (c.in_ok-rest.ensures.reads c.args.bytes.now refl))
+    (and_stop _ _ _ _ _ c.in_ok-name.ensures.reads
+    (and_stop _ _ _ _ _ (c.in_ok-rest.ensures.reads c.args.bytes.now refl)
     c.in_err-links.ensures.halts))
 
 pub returns-clause-reads : goal.returns-clause-reads
 returns-clause-reads c =
-    (reads_then (outer plain_name ∷ outer (punctuation signs.OpenParenthesis) ∷ outer links ∷ [])
-    (outer (punctuation signs.OpenParenthesis) ∷ outer links ∷ []) [] _ _ _
-    (reads_before (outer plain_name ∷ []) []
-    (outer (punctuation signs.OpenParenthesis) ∷ outer links ∷ []) _ _
-    c.in_ok-name.ensures.reads)
-    (reads_then (outer (punctuation signs.OpenParenthesis) ∷ outer links ∷ []) (outer links ∷ []) []
-    _ _ _ (reads_before (outer (punctuation signs.OpenParenthesis) ∷ []) [] (outer links ∷ []) _
-    _ (c.in_ok-rest.ensures.reads c.args.bytes.now refl))
-    c.in_ok-links.ensures.reads))
+    and_read _ _ _ _ _ _ c.in_ok-name.ensures.reads
+    (and_read _ _ _ _ _ _ (c.in_ok-rest.ensures.reads c.args.bytes.now refl)
+    c.in_ok-links.ensures.reads)

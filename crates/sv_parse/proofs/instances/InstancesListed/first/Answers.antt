@@ -1,11 +1,8 @@
 use Rattle.sv_ast.specs.Views.{override_trees, instance_tree}
 use Rattle.sv_parse.proofs.ReadingInstances.{instance_is}
 use Rattle.sv_token.specs.Lexemes.{placed_tokens}
-use Rattle.std.proofs.Common.{[], ◌∷◌}
-use Rattle.sv_parse_machine.specs.Symbols.{outer, punctuation, plain_name, links, perhaps_overrides}
-use Rattle.sv_parse_machine.proofs.ReadSteps.{reads_then, reads_before}
-use Rattle.sv_parse_expr.proofs.Halting.{passed, stops_then, stops_before}
-use Rattle.sv_token.specs.declared.signs.SignKind.TheVariants as signs
+use Rattle.sv_parse_expr.proofs.Halting.{passed}
+use Rattle.sv_parse.proofs.DeclarationRuns.{and_read, and_stop, front_stop}
 use Rattle.sv_parse.proofs.instances.InstancesListed.first.Goals as goal
 
 pub returns-clause-is : goal.returns-clause-is
@@ -20,61 +17,21 @@ returns-clause-is c =
 
 pub returns-in_err-module-clause-halts : goal.returns-in_err-module-clause-halts
 returns-in_err-module-clause-halts c = λ begins.
-    passed _ _ _ c.from_residual.ensures.1
-    (stops_before (outer plain_name ∷ [])
-    (outer perhaps_overrides ∷ outer plain_name ∷ outer (punctuation signs.OpenParenthesis) ∷
-    outer links ∷ []) _ _ c.in_err-module.ensures.halts)
+    passed _ _ _ c.from_residual.ensures.1 (front_stop _ _ _ _ c.in_err-module.ensures.halts)
 
 pub returns-in_err-overrides-clause-halts : goal.returns-in_err-overrides-clause-halts
 returns-in_err-overrides-clause-halts c = λ begins.
     passed _ _ _ c.from_residual-in_err-overrides.ensures.1
-    (stops_then (outer plain_name ∷ outer perhaps_overrides ∷ outer plain_name ∷
-    outer (punctuation signs.OpenParenthesis) ∷
-    outer links ∷ []) (outer perhaps_overrides ∷ outer plain_name ∷
-    outer (punctuation signs.OpenParenthesis) ∷
-    outer links ∷ []) _ _ _
-    (reads_before (outer plain_name ∷ []) []
-    (outer perhaps_overrides ∷ outer plain_name ∷ outer (punctuation signs.OpenParenthesis) ∷
-    outer links ∷ []) _ _ c.in_ok-module.ensures.reads)
-    (stops_before (outer perhaps_overrides ∷ [])
-    (outer plain_name ∷ outer (punctuation signs.OpenParenthesis) ∷ outer links ∷ []) _ _
-    c.in_err-overrides.ensures.halts))
+    (and_stop _ _ _ _ _ c.in_ok-module.ensures.reads
+    (front_stop _ _ _ _ c.in_err-overrides.ensures.halts))
 
 pub returns-in_err-instance-clause-halts : goal.returns-in_err-instance-clause-halts
 returns-in_err-instance-clause-halts c = λ begins.
     passed _ _ _ c.from_residual-in_err-instance.ensures.1
-    (stops_then (outer plain_name ∷ outer perhaps_overrides ∷ outer plain_name ∷
-    outer (punctuation signs.OpenParenthesis) ∷
-    outer links ∷ []) (outer perhaps_overrides ∷ outer plain_name ∷
-    outer (punctuation signs.OpenParenthesis) ∷
-    outer links ∷ []) _ _ _
-    (reads_before (outer plain_name ∷ []) []
-    (outer perhaps_overrides ∷ outer plain_name ∷ outer (punctuation signs.OpenParenthesis) ∷
-    outer links ∷ []) _ _ c.in_ok-module.ensures.reads)
-    (stops_then (outer perhaps_overrides ∷ outer plain_name ∷
-    outer (punctuation signs.OpenParenthesis) ∷
-    outer links ∷ []) (outer plain_name ∷ outer (punctuation signs.OpenParenthesis) ∷
-    outer links ∷ []) _ _ _
-    (reads_before (outer perhaps_overrides ∷ []) []
-    (outer plain_name ∷ outer (punctuation signs.OpenParenthesis) ∷ outer links ∷ []) _ _
-    c.in_ok-overrides.ensures.reads)
-    c.in_err-instance.ensures.halts))
+    (and_stop _ _ _ _ _ c.in_ok-module.ensures.reads
+    (and_stop _ _ _ _ _ c.in_ok-overrides.ensures.reads c.in_err-instance.ensures.halts))
 
 pub returns-clause-reads : goal.returns-clause-reads
 returns-clause-reads c = λ begins.
-    (reads_then (outer plain_name ∷ outer perhaps_overrides ∷ outer plain_name ∷
-    outer (punctuation signs.OpenParenthesis) ∷
-    outer links ∷ []) (outer perhaps_overrides ∷ outer plain_name ∷
-    outer (punctuation signs.OpenParenthesis) ∷
-    outer links ∷ []) [] _ _ _
-    (reads_before (outer plain_name ∷ []) []
-    (outer perhaps_overrides ∷ outer plain_name ∷ outer (punctuation signs.OpenParenthesis) ∷
-    outer links ∷ []) _ _ c.in_ok-module.ensures.reads)
-    (reads_then (outer perhaps_overrides ∷ outer plain_name ∷
-    outer (punctuation signs.OpenParenthesis) ∷
-    outer links ∷ []) (outer plain_name ∷ outer (punctuation signs.OpenParenthesis) ∷
-    outer links ∷ []) [] _ _ _
-    (reads_before (outer perhaps_overrides ∷ []) []
-    (outer plain_name ∷ outer (punctuation signs.OpenParenthesis) ∷ outer links ∷ []) _ _
-    c.in_ok-overrides.ensures.reads)
-    c.in_ok-instance.ensures.reads))
+    and_read _ _ _ _ _ _ c.in_ok-module.ensures.reads
+    (and_read _ _ _ _ _ _ c.in_ok-overrides.ensures.reads c.in_ok-instance.ensures.reads)

@@ -21,6 +21,7 @@ use Rattle.sv_ast.specs.GrammarRules.{all_limits}
 use Rattle.sv_parse_machine.specs.Symbols.{Outer, punctuation, plain_name, plain_number, expression}
 use Rattle.sv_parse_machine.specs.Symbols.{more_names, more_values, lattice_lines, less_equal, map_name}
 use Rattle.sv_parse_machine.specs.Symbols.{rows, perhaps_second_key, end_of_map, event, event_inside}
+use Rattle.sv_parse_machine.specs.Symbols.{perhaps_maps, perhaps_key_range}
 use Rattle.sv_parse_machine.specs.Symbols.{more_named_overrides, links, link, more_named_links}
 use Rattle.sv_parse_machine.specs.Symbols.{more_instances, outer, State, OuterReaction, takes}
 use Rattle.sv_parse_machine.specs.Symbols.{begins, over, stuck, and_then, unless_refused}
@@ -38,6 +39,7 @@ use Rattle.sv_parse_machine.proofs.ReadRows.{sign_taken, word_taken}
 use Rattle.sv_parse_machine.proofs.ReadLists.{NextIsIdentifier, same_outer}
 use Rattle.sv_parse_expr.proofs.Halting.{stops_then}
 use Rattle.sv_parse.specs.ReadingTexts.{EndsRows}
+use Rattle.sv_parse.proofs.DeclarationRuns.{and_read}
 
 -- ---- one after the other
 
@@ -225,6 +227,44 @@ begins_map_name ts =
     begins_as map_name plain_name map_behind_name ts refl refl may_name
     (each_next (λ x. outer_on map_name x ≡ and_then map_behind_name (outer_on plain_name x))
     row_map_name ts)
+
+abbrev pub map_range : State
+map_range = outside_on map_behind_name
+
+abbrev pub behind_map_range : State
+behind_map_range = outer perhaps_key_range ∷ outer rows ∷ outer perhaps_maps ∷ []
+
+-- a map is read up to its name
+pub map_comes : (ts rest : List Placed) → a_word words.Labelmap ts rest →
+    Reads (outer perhaps_maps ∷ []) (outer plain_name ∷ (map_range ++ behind_map_range)) ts rest
+map_comes ts rest comes =
+    reads_then (outer perhaps_maps ∷ []) (outer map_name ∷ behind_map_range)
+    (outer plain_name ∷ (map_range ++ behind_map_range)) ts rest rest
+    (word_taken perhaps_maps words.Labelmap
+    (map_name ∷ perhaps_key_range ∷ rows ∷ perhaps_maps ∷ []) ts rest refl comes)
+    (reads_before (outer map_name ∷ []) (outer plain_name ∷ map_range) behind_map_range rest rest
+    (begins_map_name rest))
+
+-- and up to the second range of its keys, its rows and its end
+pub map_range_comes : (ts named ranged rest : List Placed) → a_word words.Labelmap ts named →
+    Reads (outer plain_name ∷ []) [] named ranged → Reads map_range [] ranged rest →
+    Reads (outer perhaps_maps ∷ []) behind_map_range ts rest
+map_range_comes ts named ranged rest comes name range =
+    reads_then (outer perhaps_maps ∷ []) (outer plain_name ∷ (map_range ++ behind_map_range))
+    behind_map_range ts named rest (map_comes ts named comes)
+    (and_read (outer plain_name) (map_range ++ behind_map_range) behind_map_range named ranged rest
+    name (reads_before map_range [] behind_map_range ranged rest range))
+
+pub map_rows_come : (ts mid keyed rest : List Placed) (xs : State) →
+    Reads (outer perhaps_maps ∷ []) behind_map_range ts mid →
+    Reads (outer perhaps_key_range ∷ []) [] mid keyed → Reads (outer rows ∷ []) xs keyed rest →
+    Reads (outer perhaps_maps ∷ []) (xs ++ (outer perhaps_maps ∷ [])) ts rest
+map_rows_come ts mid keyed rest xs before second read =
+    reads_then (outer perhaps_maps ∷ []) behind_map_range (xs ++ (outer perhaps_maps ∷ [])) ts mid
+    rest before
+    (and_read (outer perhaps_key_range) (outer rows ∷ outer perhaps_maps ∷ [])
+    (xs ++ (outer perhaps_maps ∷ [])) mid keyed rest second
+    (reads_before (outer rows ∷ []) xs (outer perhaps_maps ∷ []) keyed rest read))
 
 -- a map without a point of the other keys ends with its rows
 pub ends_rows : (ts : List Placed) → NextIsNotWord words.Default ts → EndsRows ts →

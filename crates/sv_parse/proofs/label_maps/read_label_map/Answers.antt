@@ -3,15 +3,16 @@ use Rattle.sv_token.specs.Lexemes.{placed_tokens}
 use Rattle.sv_ast.specs.Tree.{SpanTree}
 use Rattle.sv_ast.specs.GrammarForms.{perhaps}
 use Rattle.sv_ast.specs.GrammarModules.{IsKeyRange}
-use Rattle.sv_parse_machine.specs.Symbols.{outer, punctuation, plain_name, plain_number, map_name}
-use Rattle.sv_parse_machine.specs.Symbols.{perhaps_maps, perhaps_key_range, rows, end_of_map}
-use Rattle.sv_parse_machine.proofs.ReadSteps.{reads_then, reads_before}
+use Rattle.sv_parse_machine.specs.Symbols.{outer, rows, end_of_map}
+use Rattle.sv_parse_machine.proofs.ReadSteps.{reads_then}
 use Rattle.sv_parse_machine.proofs.ReadRows.{word_taken, halts_end_of_map}
 use Rattle.sv_parse_expr.proofs.Halting.{passed, stops_then, stops_before, stops_by}
-use Rattle.sv_parse.proofs.ReadingSymbols.{word_was_next, begins_map_name}
+use Rattle.sv_parse.proofs.ReadingSymbols.{word_was_next}
+use Rattle.sv_parse.proofs.ReadingSymbols.{map_range, behind_map_range, map_comes, map_range_comes}
+use Rattle.sv_parse.proofs.ReadingSymbols.{map_rows_come}
 use Rattle.sv_parse.proofs.ReadingItems.{map_is}
-use Rattle.sv_token.specs.declared.signs.SignKind.TheVariants as signs
 use Rattle.sv_token.specs.declared.keywords.WordKind.TheVariants as words
+use Rattle.sv_parse.proofs.DeclarationRuns.{and_stop, front_read, front_stop}
 use Rattle.sv_parse.proofs.label_maps.read_label_map.Goals as goal
 
 pub returns-in_err-_word-clause-halts : goal.returns-in_err-_word-clause-halts
@@ -22,313 +23,76 @@ returns-in_err-_word-clause-halts c = λ is.
 pub returns-in_err-name-clause-halts : goal.returns-in_err-name-clause-halts
 returns-in_err-name-clause-halts c = λ is.
     passed _ _ _ c.from_residual-in_err-name.ensures.1
-    (stops_then (outer perhaps_maps ∷ [])
-    (outer map_name ∷ outer perhaps_key_range ∷ outer rows ∷ outer perhaps_maps ∷ []) _ _ _
-    (word_taken perhaps_maps words.Labelmap
-    (map_name ∷ perhaps_key_range ∷ rows ∷ perhaps_maps ∷ []) _ _ refl
-    (c.in_ok-_word._word, c.in_ok-_word.ensures.is c.args.bytes.now))
-    (stops_then (outer map_name ∷ outer perhaps_key_range ∷ outer rows ∷ outer perhaps_maps ∷ [])
-    (outer plain_name ∷ outer (punctuation signs.OpenBracket) ∷ outer plain_number ∷
-    outer (punctuation signs.Colon) ∷ outer plain_number ∷
-    outer (punctuation signs.CloseBracket) ∷ outer perhaps_key_range ∷ outer rows ∷
-    outer perhaps_maps ∷ []) _ _ _
-    (reads_before (outer map_name ∷ [])
-    (outer plain_name ∷ outer (punctuation signs.OpenBracket) ∷ outer plain_number ∷
-    outer (punctuation signs.Colon) ∷ outer plain_number ∷
-    outer (punctuation signs.CloseBracket) ∷ [])
-    (outer perhaps_key_range ∷ outer rows ∷ outer perhaps_maps ∷ []) _ _ (begins_map_name _))
-    (stops_before (outer plain_name ∷ [])
-    (outer (punctuation signs.OpenBracket) ∷ outer plain_number ∷
-    outer (punctuation signs.Colon) ∷ outer plain_number ∷
-    outer (punctuation signs.CloseBracket) ∷ outer perhaps_key_range ∷ outer rows ∷
-    outer perhaps_maps ∷ []) _ _ c.in_err-name.ensures.halts)))
+    (stops_then _ _ _ _ _
+    (map_comes _ _ (c.in_ok-_word._word, c.in_ok-_word.ensures.is c.args.bytes.now))
+    (front_stop _ _ _ _ c.in_err-name.ensures.halts))
 
 pub returns-in_err-range-clause-halts : goal.returns-in_err-range-clause-halts
 returns-in_err-range-clause-halts c = λ is.
     passed _ _ _ c.from_residual-in_err-range.ensures.1
-    (stops_then (outer perhaps_maps ∷ [])
-    (outer map_name ∷ outer perhaps_key_range ∷ outer rows ∷ outer perhaps_maps ∷ []) _ _ _
-    (word_taken perhaps_maps words.Labelmap
-    (map_name ∷ perhaps_key_range ∷ rows ∷ perhaps_maps ∷ []) _ _ refl
-    (c.in_ok-_word._word, c.in_ok-_word.ensures.is c.args.bytes.now))
-    (stops_then (outer map_name ∷ outer perhaps_key_range ∷ outer rows ∷ outer perhaps_maps ∷ [])
-    (outer plain_name ∷ outer (punctuation signs.OpenBracket) ∷ outer plain_number ∷
-    outer (punctuation signs.Colon) ∷ outer plain_number ∷
-    outer (punctuation signs.CloseBracket) ∷ outer perhaps_key_range ∷ outer rows ∷
-    outer perhaps_maps ∷ []) _ _ _
-    (reads_before (outer map_name ∷ [])
-    (outer plain_name ∷ outer (punctuation signs.OpenBracket) ∷ outer plain_number ∷
-    outer (punctuation signs.Colon) ∷ outer plain_number ∷
-    outer (punctuation signs.CloseBracket) ∷ [])
-    (outer perhaps_key_range ∷ outer rows ∷ outer perhaps_maps ∷ []) _ _ (begins_map_name _))
-    (stops_then (outer plain_name ∷ outer (punctuation signs.OpenBracket) ∷ outer plain_number ∷
-    outer (punctuation signs.Colon) ∷ outer plain_number ∷
-    outer (punctuation signs.CloseBracket) ∷ outer perhaps_key_range ∷ outer rows ∷
-    outer perhaps_maps ∷ [])
-    (outer (punctuation signs.OpenBracket) ∷ outer plain_number ∷
-    outer (punctuation signs.Colon) ∷ outer plain_number ∷
-    outer (punctuation signs.CloseBracket) ∷ outer perhaps_key_range ∷ outer rows ∷
-    outer perhaps_maps ∷ []) _ _ _
-    (reads_before (outer plain_name ∷ []) []
-    (outer (punctuation signs.OpenBracket) ∷ outer plain_number ∷
-    outer (punctuation signs.Colon) ∷ outer plain_number ∷
-    outer (punctuation signs.CloseBracket) ∷ outer perhaps_key_range ∷ outer rows ∷
-    outer perhaps_maps ∷ []) _ _ c.in_ok-name.ensures.reads)
-    (stops_before (outer (punctuation signs.OpenBracket) ∷ outer plain_number ∷
-    outer (punctuation signs.Colon) ∷ outer plain_number ∷
-    outer (punctuation signs.CloseBracket) ∷ [])
-    (outer perhaps_key_range ∷ outer rows ∷ outer perhaps_maps ∷ []) _ _
-    (c.in_err-range.ensures.halts c.args.bytes.now)))))
+    (stops_then _ _ _ _ _
+    (map_comes _ _ (c.in_ok-_word._word, c.in_ok-_word.ensures.is c.args.bytes.now))
+    (and_stop _ _ _ _ _ c.in_ok-name.ensures.reads
+    (stops_before map_range behind_map_range _ _ (c.in_err-range.ensures.halts c.args.bytes.now))))
 
 pub returns-in_err-second-clause-halts : goal.returns-in_err-second-clause-halts
 returns-in_err-second-clause-halts c = λ is.
     passed _ _ _ c.from_residual-in_err-second.ensures.1
-    (stops_then (outer perhaps_maps ∷ [])
-    (outer map_name ∷ outer perhaps_key_range ∷ outer rows ∷ outer perhaps_maps ∷ []) _ _ _
-    (word_taken perhaps_maps words.Labelmap
-    (map_name ∷ perhaps_key_range ∷ rows ∷ perhaps_maps ∷ []) _ _ refl
-    (c.in_ok-_word._word, c.in_ok-_word.ensures.is c.args.bytes.now))
-    (stops_then (outer map_name ∷ outer perhaps_key_range ∷ outer rows ∷ outer perhaps_maps ∷ [])
-    (outer plain_name ∷ outer (punctuation signs.OpenBracket) ∷ outer plain_number ∷
-    outer (punctuation signs.Colon) ∷ outer plain_number ∷
-    outer (punctuation signs.CloseBracket) ∷ outer perhaps_key_range ∷ outer rows ∷
-    outer perhaps_maps ∷ []) _ _ _
-    (reads_before (outer map_name ∷ [])
-    (outer plain_name ∷ outer (punctuation signs.OpenBracket) ∷ outer plain_number ∷
-    outer (punctuation signs.Colon) ∷ outer plain_number ∷
-    outer (punctuation signs.CloseBracket) ∷ [])
-    (outer perhaps_key_range ∷ outer rows ∷ outer perhaps_maps ∷ []) _ _ (begins_map_name _))
-    (stops_then (outer plain_name ∷ outer (punctuation signs.OpenBracket) ∷ outer plain_number ∷
-    outer (punctuation signs.Colon) ∷ outer plain_number ∷
-    outer (punctuation signs.CloseBracket) ∷ outer perhaps_key_range ∷ outer rows ∷
-    outer perhaps_maps ∷ [])
-    (outer (punctuation signs.OpenBracket) ∷ outer plain_number ∷
-    outer (punctuation signs.Colon) ∷ outer plain_number ∷
-    outer (punctuation signs.CloseBracket) ∷ outer perhaps_key_range ∷ outer rows ∷
-    outer perhaps_maps ∷ []) _ _ _
-    (reads_before (outer plain_name ∷ []) []
-    (outer (punctuation signs.OpenBracket) ∷ outer plain_number ∷
-    outer (punctuation signs.Colon) ∷ outer plain_number ∷
-    outer (punctuation signs.CloseBracket) ∷ outer perhaps_key_range ∷ outer rows ∷
-    outer perhaps_maps ∷ []) _ _ c.in_ok-name.ensures.reads)
-    (stops_then (outer (punctuation signs.OpenBracket) ∷ outer plain_number ∷
-    outer (punctuation signs.Colon) ∷ outer plain_number ∷
-    outer (punctuation signs.CloseBracket) ∷ outer perhaps_key_range ∷ outer rows ∷
-    outer perhaps_maps ∷ []) (outer perhaps_key_range ∷ outer rows ∷ outer perhaps_maps ∷ []) _
-    _ _ (reads_before (outer (punctuation signs.OpenBracket) ∷ outer plain_number ∷
-    outer (punctuation signs.Colon) ∷ outer plain_number ∷
-    outer (punctuation signs.CloseBracket) ∷ []) []
-    (outer perhaps_key_range ∷ outer rows ∷ outer perhaps_maps ∷ []) _ _
+    (stops_then _ _ _ _ _
+    (map_range_comes _ _ _ _
+    (c.in_ok-_word._word, c.in_ok-_word.ensures.is c.args.bytes.now) c.in_ok-name.ensures.reads
     (c.in_ok-range.ensures.reads c.args.bytes.now))
-    (stops_before (outer perhaps_key_range ∷ []) (outer rows ∷ outer perhaps_maps ∷ []) _ _
-    (c.in_err-second.ensures.halts c.args.bytes.now))))))
+    (front_stop _ _ _ _ (c.in_err-second.ensures.halts c.args.bytes.now)))
 
 pub returns-in_err-rows-clause-halts : goal.returns-in_err-rows-clause-halts
 returns-in_err-rows-clause-halts c = λ is.
     passed _ _ _ c.from_residual-in_err-rows.ensures.1
-    (stops_then (outer perhaps_maps ∷ [])
-    (outer map_name ∷ outer perhaps_key_range ∷ outer rows ∷ outer perhaps_maps ∷ []) _ _ _
-    (word_taken perhaps_maps words.Labelmap
-    (map_name ∷ perhaps_key_range ∷ rows ∷ perhaps_maps ∷ []) _ _ refl
-    (c.in_ok-_word._word, c.in_ok-_word.ensures.is c.args.bytes.now))
-    (stops_then (outer map_name ∷ outer perhaps_key_range ∷ outer rows ∷ outer perhaps_maps ∷ [])
-    (outer plain_name ∷ outer (punctuation signs.OpenBracket) ∷ outer plain_number ∷
-    outer (punctuation signs.Colon) ∷ outer plain_number ∷
-    outer (punctuation signs.CloseBracket) ∷ outer perhaps_key_range ∷ outer rows ∷
-    outer perhaps_maps ∷ []) _ _ _
-    (reads_before (outer map_name ∷ [])
-    (outer plain_name ∷ outer (punctuation signs.OpenBracket) ∷ outer plain_number ∷
-    outer (punctuation signs.Colon) ∷ outer plain_number ∷
-    outer (punctuation signs.CloseBracket) ∷ [])
-    (outer perhaps_key_range ∷ outer rows ∷ outer perhaps_maps ∷ []) _ _ (begins_map_name _))
-    (stops_then (outer plain_name ∷ outer (punctuation signs.OpenBracket) ∷ outer plain_number ∷
-    outer (punctuation signs.Colon) ∷ outer plain_number ∷
-    outer (punctuation signs.CloseBracket) ∷ outer perhaps_key_range ∷ outer rows ∷
-    outer perhaps_maps ∷ [])
-    (outer (punctuation signs.OpenBracket) ∷ outer plain_number ∷
-    outer (punctuation signs.Colon) ∷ outer plain_number ∷
-    outer (punctuation signs.CloseBracket) ∷ outer perhaps_key_range ∷ outer rows ∷
-    outer perhaps_maps ∷ []) _ _ _
-    (reads_before (outer plain_name ∷ []) []
-    (outer (punctuation signs.OpenBracket) ∷ outer plain_number ∷
-    outer (punctuation signs.Colon) ∷ outer plain_number ∷
-    outer (punctuation signs.CloseBracket) ∷ outer perhaps_key_range ∷ outer rows ∷
-    outer perhaps_maps ∷ []) _ _ c.in_ok-name.ensures.reads)
-    (stops_then (outer (punctuation signs.OpenBracket) ∷ outer plain_number ∷
-    outer (punctuation signs.Colon) ∷ outer plain_number ∷
-    outer (punctuation signs.CloseBracket) ∷ outer perhaps_key_range ∷ outer rows ∷
-    outer perhaps_maps ∷ []) (outer perhaps_key_range ∷ outer rows ∷ outer perhaps_maps ∷ []) _
-    _ _ (reads_before (outer (punctuation signs.OpenBracket) ∷ outer plain_number ∷
-    outer (punctuation signs.Colon) ∷ outer plain_number ∷
-    outer (punctuation signs.CloseBracket) ∷ []) []
-    (outer perhaps_key_range ∷ outer rows ∷ outer perhaps_maps ∷ []) _ _
+    (stops_then _ _ _ _ _
+    (map_range_comes _ _ _ _
+    (c.in_ok-_word._word, c.in_ok-_word.ensures.is c.args.bytes.now) c.in_ok-name.ensures.reads
     (c.in_ok-range.ensures.reads c.args.bytes.now))
-    (stops_then (outer perhaps_key_range ∷ outer rows ∷ outer perhaps_maps ∷ [])
-    (outer rows ∷ outer perhaps_maps ∷ []) _ _ _
-    (reads_before (outer perhaps_key_range ∷ []) [] (outer rows ∷ outer perhaps_maps ∷ []) _ _
-    (c.in_ok-second.ensures.reads c.args.bytes.now))
-    (stops_before (outer rows ∷ []) (outer perhaps_maps ∷ []) _ _ c.in_err-rows.ensures.halts))))))
+    (and_stop _ _ _ _ _ (c.in_ok-second.ensures.reads c.args.bytes.now)
+    (front_stop _ _ _ _ c.in_err-rows.ensures.halts)))
 
 pub returns-in_err-other-clause-halts : goal.returns-in_err-other-clause-halts
 returns-in_err-other-clause-halts c = λ is.
     passed _ _ _ c.from_residual-in_err-other.ensures.1
-    (stops_then (outer perhaps_maps ∷ [])
-    (outer map_name ∷ outer perhaps_key_range ∷ outer rows ∷ outer perhaps_maps ∷ []) _ _ _
-    (word_taken perhaps_maps words.Labelmap
-    (map_name ∷ perhaps_key_range ∷ rows ∷ perhaps_maps ∷ []) _ _ refl
-    (c.in_ok-_word._word, c.in_ok-_word.ensures.is c.args.bytes.now))
-    (stops_then (outer map_name ∷ outer perhaps_key_range ∷ outer rows ∷ outer perhaps_maps ∷ [])
-    (outer plain_name ∷ outer (punctuation signs.OpenBracket) ∷ outer plain_number ∷
-    outer (punctuation signs.Colon) ∷ outer plain_number ∷
-    outer (punctuation signs.CloseBracket) ∷ outer perhaps_key_range ∷ outer rows ∷
-    outer perhaps_maps ∷ []) _ _ _
-    (reads_before (outer map_name ∷ [])
-    (outer plain_name ∷ outer (punctuation signs.OpenBracket) ∷ outer plain_number ∷
-    outer (punctuation signs.Colon) ∷ outer plain_number ∷
-    outer (punctuation signs.CloseBracket) ∷ [])
-    (outer perhaps_key_range ∷ outer rows ∷ outer perhaps_maps ∷ []) _ _ (begins_map_name _))
-    (stops_then (outer plain_name ∷ outer (punctuation signs.OpenBracket) ∷ outer plain_number ∷
-    outer (punctuation signs.Colon) ∷ outer plain_number ∷
-    outer (punctuation signs.CloseBracket) ∷ outer perhaps_key_range ∷ outer rows ∷
-    outer perhaps_maps ∷ [])
-    (outer (punctuation signs.OpenBracket) ∷ outer plain_number ∷
-    outer (punctuation signs.Colon) ∷ outer plain_number ∷
-    outer (punctuation signs.CloseBracket) ∷ outer perhaps_key_range ∷ outer rows ∷
-    outer perhaps_maps ∷ []) _ _ _
-    (reads_before (outer plain_name ∷ []) []
-    (outer (punctuation signs.OpenBracket) ∷ outer plain_number ∷
-    outer (punctuation signs.Colon) ∷ outer plain_number ∷
-    outer (punctuation signs.CloseBracket) ∷ outer perhaps_key_range ∷ outer rows ∷
-    outer perhaps_maps ∷ []) _ _ c.in_ok-name.ensures.reads)
-    (stops_then (outer (punctuation signs.OpenBracket) ∷ outer plain_number ∷
-    outer (punctuation signs.Colon) ∷ outer plain_number ∷
-    outer (punctuation signs.CloseBracket) ∷ outer perhaps_key_range ∷ outer rows ∷
-    outer perhaps_maps ∷ []) (outer perhaps_key_range ∷ outer rows ∷ outer perhaps_maps ∷ []) _
-    _ _ (reads_before (outer (punctuation signs.OpenBracket) ∷ outer plain_number ∷
-    outer (punctuation signs.Colon) ∷ outer plain_number ∷
-    outer (punctuation signs.CloseBracket) ∷ []) []
-    (outer perhaps_key_range ∷ outer rows ∷ outer perhaps_maps ∷ []) _ _
+    (stops_then _ _ _ _ _
+    (map_rows_come _ _ _ _ (outer rows ∷ [])
+    (map_range_comes _ _ _ _
+    (c.in_ok-_word._word, c.in_ok-_word.ensures.is c.args.bytes.now) c.in_ok-name.ensures.reads
     (c.in_ok-range.ensures.reads c.args.bytes.now))
-    (stops_then (outer perhaps_key_range ∷ outer rows ∷ outer perhaps_maps ∷ [])
-    (outer rows ∷ outer perhaps_maps ∷ []) _ _ _
-    (reads_before (outer perhaps_key_range ∷ []) [] (outer rows ∷ outer perhaps_maps ∷ []) _ _
-    (c.in_ok-second.ensures.reads c.args.bytes.now))
-    (stops_then (outer rows ∷ outer perhaps_maps ∷ []) (outer rows ∷ outer perhaps_maps ∷ []) _ _ _
-    (reads_before (outer rows ∷ []) (outer rows ∷ []) (outer perhaps_maps ∷ []) _ _
-    c.in_ok-rows.ensures.reads)
-    (stops_before (outer rows ∷ []) (outer perhaps_maps ∷ []) _ _
-    (c.in_err-other.ensures.halts c.in_ok-rows.ensures.ends))))))))
+    (c.in_ok-second.ensures.reads c.args.bytes.now) c.in_ok-rows.ensures.reads)
+    (front_stop _ _ _ _ (c.in_err-other.ensures.halts c.in_ok-rows.ensures.ends)))
 
 pub returns-in_err-_last-clause-halts : goal.returns-in_err-_last-clause-halts
 returns-in_err-_last-clause-halts c = λ is.
     passed _ _ _ c.from_residual-in_err-_last.ensures.1
-    (stops_then (outer perhaps_maps ∷ [])
-    (outer map_name ∷ outer perhaps_key_range ∷ outer rows ∷ outer perhaps_maps ∷ []) _ _ _
-    (word_taken perhaps_maps words.Labelmap
-    (map_name ∷ perhaps_key_range ∷ rows ∷ perhaps_maps ∷ []) _ _ refl
-    (c.in_ok-_word._word, c.in_ok-_word.ensures.is c.args.bytes.now))
-    (stops_then (outer map_name ∷ outer perhaps_key_range ∷ outer rows ∷ outer perhaps_maps ∷ [])
-    (outer plain_name ∷ outer (punctuation signs.OpenBracket) ∷ outer plain_number ∷
-    outer (punctuation signs.Colon) ∷ outer plain_number ∷
-    outer (punctuation signs.CloseBracket) ∷ outer perhaps_key_range ∷ outer rows ∷
-    outer perhaps_maps ∷ []) _ _ _
-    (reads_before (outer map_name ∷ [])
-    (outer plain_name ∷ outer (punctuation signs.OpenBracket) ∷ outer plain_number ∷
-    outer (punctuation signs.Colon) ∷ outer plain_number ∷
-    outer (punctuation signs.CloseBracket) ∷ [])
-    (outer perhaps_key_range ∷ outer rows ∷ outer perhaps_maps ∷ []) _ _ (begins_map_name _))
-    (stops_then (outer plain_name ∷ outer (punctuation signs.OpenBracket) ∷ outer plain_number ∷
-    outer (punctuation signs.Colon) ∷ outer plain_number ∷
-    outer (punctuation signs.CloseBracket) ∷ outer perhaps_key_range ∷ outer rows ∷
-    outer perhaps_maps ∷ [])
-    (outer (punctuation signs.OpenBracket) ∷ outer plain_number ∷
-    outer (punctuation signs.Colon) ∷ outer plain_number ∷
-    outer (punctuation signs.CloseBracket) ∷ outer perhaps_key_range ∷ outer rows ∷
-    outer perhaps_maps ∷ []) _ _ _
-    (reads_before (outer plain_name ∷ []) []
-    (outer (punctuation signs.OpenBracket) ∷ outer plain_number ∷
-    outer (punctuation signs.Colon) ∷ outer plain_number ∷
-    outer (punctuation signs.CloseBracket) ∷ outer perhaps_key_range ∷ outer rows ∷
-    outer perhaps_maps ∷ []) _ _ c.in_ok-name.ensures.reads)
-    (stops_then (outer (punctuation signs.OpenBracket) ∷ outer plain_number ∷
-    outer (punctuation signs.Colon) ∷ outer plain_number ∷
-    outer (punctuation signs.CloseBracket) ∷ outer perhaps_key_range ∷ outer rows ∷
-    outer perhaps_maps ∷ []) (outer perhaps_key_range ∷ outer rows ∷ outer perhaps_maps ∷ []) _
-    _ _ (reads_before (outer (punctuation signs.OpenBracket) ∷ outer plain_number ∷
-    outer (punctuation signs.Colon) ∷ outer plain_number ∷
-    outer (punctuation signs.CloseBracket) ∷ []) []
-    (outer perhaps_key_range ∷ outer rows ∷ outer perhaps_maps ∷ []) _ _
+    (stops_then _ _ _ _ _
+    (map_rows_come _ _ _ _ (outer end_of_map ∷ [])
+    (map_range_comes _ _ _ _
+    (c.in_ok-_word._word, c.in_ok-_word.ensures.is c.args.bytes.now) c.in_ok-name.ensures.reads
     (c.in_ok-range.ensures.reads c.args.bytes.now))
-    (stops_then (outer perhaps_key_range ∷ outer rows ∷ outer perhaps_maps ∷ [])
-    (outer rows ∷ outer perhaps_maps ∷ []) _ _ _
-    (reads_before (outer perhaps_key_range ∷ []) [] (outer rows ∷ outer perhaps_maps ∷ []) _ _
-    (c.in_ok-second.ensures.reads c.args.bytes.now))
-    (stops_then (outer rows ∷ outer perhaps_maps ∷ []) (outer rows ∷ outer perhaps_maps ∷ []) _ _ _
-    (reads_before (outer rows ∷ []) (outer rows ∷ []) (outer perhaps_maps ∷ []) _ _
-    c.in_ok-rows.ensures.reads)
-    (stops_then (outer rows ∷ outer perhaps_maps ∷ []) (outer end_of_map ∷ outer perhaps_maps ∷ [])
-    _ _ _ (reads_before (outer rows ∷ []) (outer end_of_map ∷ []) (outer perhaps_maps ∷ []) _ _
-    (c.in_ok-other.ensures.reads c.in_ok-rows.ensures.ends))
-    (stops_before (outer end_of_map ∷ []) (outer perhaps_maps ∷ []) _ _
+    (c.in_ok-second.ensures.reads c.args.bytes.now)
+    (reads_then _ _ _ _ _ _ c.in_ok-rows.ensures.reads
+    (c.in_ok-other.ensures.reads c.in_ok-rows.ensures.ends)))
+    (front_stop _ _ _ _
     (stops_by c.args.bytes.now _ (outer end_of_map ∷ []) _ _ (halts_end_of_map _)
-    (c.in_err-_last.ensures.stops c.args.bytes.now))))))))))
+    (c.in_err-_last.ensures.stops c.args.bytes.now))))
 
 pub returns-clause-reads : goal.returns-clause-reads
 returns-clause-reads c = λ is.
-    (reads_then (outer perhaps_maps ∷ [])
-    (outer map_name ∷ outer perhaps_key_range ∷ outer rows ∷ outer perhaps_maps ∷ [])
-    (outer perhaps_maps ∷ []) _ _ _
-    (word_taken perhaps_maps words.Labelmap
-    (map_name ∷ perhaps_key_range ∷ rows ∷ perhaps_maps ∷ []) _ _ refl
-    (c.in_ok-_word._word, c.in_ok-_word.ensures.is c.args.bytes.now))
-    (reads_then (outer map_name ∷ outer perhaps_key_range ∷ outer rows ∷ outer perhaps_maps ∷ [])
-    (outer plain_name ∷ outer (punctuation signs.OpenBracket) ∷ outer plain_number ∷
-    outer (punctuation signs.Colon) ∷ outer plain_number ∷
-    outer (punctuation signs.CloseBracket) ∷ outer perhaps_key_range ∷ outer rows ∷
-    outer perhaps_maps ∷ []) (outer perhaps_maps ∷ []) _ _ _
-    (reads_before (outer map_name ∷ [])
-    (outer plain_name ∷ outer (punctuation signs.OpenBracket) ∷ outer plain_number ∷
-    outer (punctuation signs.Colon) ∷ outer plain_number ∷
-    outer (punctuation signs.CloseBracket) ∷ [])
-    (outer perhaps_key_range ∷ outer rows ∷ outer perhaps_maps ∷ []) _ _ (begins_map_name _))
-    (reads_then (outer plain_name ∷ outer (punctuation signs.OpenBracket) ∷ outer plain_number ∷
-    outer (punctuation signs.Colon) ∷ outer plain_number ∷
-    outer (punctuation signs.CloseBracket) ∷ outer perhaps_key_range ∷ outer rows ∷
-    outer perhaps_maps ∷ [])
-    (outer (punctuation signs.OpenBracket) ∷ outer plain_number ∷
-    outer (punctuation signs.Colon) ∷ outer plain_number ∷
-    outer (punctuation signs.CloseBracket) ∷ outer perhaps_key_range ∷ outer rows ∷
-    outer perhaps_maps ∷ []) (outer perhaps_maps ∷ []) _ _ _
-    (reads_before (outer plain_name ∷ []) []
-    (outer (punctuation signs.OpenBracket) ∷ outer plain_number ∷
-    outer (punctuation signs.Colon) ∷ outer plain_number ∷
-    outer (punctuation signs.CloseBracket) ∷ outer perhaps_key_range ∷ outer rows ∷
-    outer perhaps_maps ∷ []) _ _ c.in_ok-name.ensures.reads)
-    (reads_then (outer (punctuation signs.OpenBracket) ∷ outer plain_number ∷
-    outer (punctuation signs.Colon) ∷ outer plain_number ∷
-    outer (punctuation signs.CloseBracket) ∷ outer perhaps_key_range ∷ outer rows ∷
-    outer perhaps_maps ∷ []) (outer perhaps_key_range ∷ outer rows ∷ outer perhaps_maps ∷ [])
-    (outer perhaps_maps ∷ []) _ _ _
-    (reads_before (outer (punctuation signs.OpenBracket) ∷ outer plain_number ∷
-    outer (punctuation signs.Colon) ∷ outer plain_number ∷
-    outer (punctuation signs.CloseBracket) ∷ []) []
-    (outer perhaps_key_range ∷ outer rows ∷ outer perhaps_maps ∷ []) _ _
+    reads_then _ _ _ _ _ _
+    (map_rows_come _ _ _ _ (outer end_of_map ∷ [])
+    (map_range_comes _ _ _ _
+    (c.in_ok-_word._word, c.in_ok-_word.ensures.is c.args.bytes.now) c.in_ok-name.ensures.reads
     (c.in_ok-range.ensures.reads c.args.bytes.now))
-    (reads_then (outer perhaps_key_range ∷ outer rows ∷ outer perhaps_maps ∷ [])
-    (outer rows ∷ outer perhaps_maps ∷ []) (outer perhaps_maps ∷ []) _ _ _
-    (reads_before (outer perhaps_key_range ∷ []) [] (outer rows ∷ outer perhaps_maps ∷ []) _ _
-    (c.in_ok-second.ensures.reads c.args.bytes.now))
-    (reads_then (outer rows ∷ outer perhaps_maps ∷ []) (outer rows ∷ outer perhaps_maps ∷ [])
-    (outer perhaps_maps ∷ []) _ _ _
-    (reads_before (outer rows ∷ []) (outer rows ∷ []) (outer perhaps_maps ∷ []) _ _
-    c.in_ok-rows.ensures.reads)
-    (reads_then (outer rows ∷ outer perhaps_maps ∷ []) (outer end_of_map ∷ outer perhaps_maps ∷ [])
-    (outer perhaps_maps ∷ []) _ _ _
-    (reads_before (outer rows ∷ []) (outer end_of_map ∷ []) (outer perhaps_maps ∷ []) _ _
-    (c.in_ok-other.ensures.reads c.in_ok-rows.ensures.ends))
-    (reads_before (outer end_of_map ∷ []) [] (outer perhaps_maps ∷ []) _ _
+    (c.in_ok-second.ensures.reads c.args.bytes.now)
+    (reads_then _ _ _ _ _ _ c.in_ok-rows.ensures.reads
+    (c.in_ok-other.ensures.reads c.in_ok-rows.ensures.ends)))
+    (front_read _ _ _ _
     (word_taken end_of_map words.Endlabelmap [] _ _ refl
-    (c.in_ok-_last._last, c.in_ok-_last.ensures.is c.args.bytes.now))))))))))
+    (c.in_ok-_last._last, c.in_ok-_last.ensures.is c.args.bytes.now)))
 
 pub returns-clause-is : goal.returns-clause-is
 returns-clause-is c =

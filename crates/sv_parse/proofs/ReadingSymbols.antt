@@ -21,7 +21,9 @@ use Rattle.sv_ast.specs.GrammarRules.{all_limits}
 use Rattle.sv_parse_machine.specs.Symbols.{Outer, punctuation, plain_name, plain_number, expression}
 use Rattle.sv_parse_machine.specs.Symbols.{more_names, more_values, lattice_lines, less_equal, map_name}
 use Rattle.sv_parse_machine.specs.Symbols.{rows, perhaps_second_key, end_of_map, event, event_inside}
-use Rattle.sv_parse_machine.specs.Symbols.{perhaps_maps, perhaps_key_range}
+use Rattle.sv_parse_machine.specs.Symbols.{perhaps_maps, perhaps_key_range, items, statement}
+use Rattle.sv_parse_machine.specs.Symbols.{one_module, perhaps_header_parameters, perhaps_ports}
+use Rattle.sv_parse_machine.specs.Symbols.{header_parameter, more_header_parameters}
 use Rattle.sv_parse_machine.specs.Symbols.{more_named_overrides, links, link, more_named_links}
 use Rattle.sv_parse_machine.specs.Symbols.{more_instances, outer, State, OuterReaction, takes}
 use Rattle.sv_parse_machine.specs.Symbols.{begins, over, stuck, and_then, unless_refused}
@@ -339,6 +341,33 @@ goes_on_instances = record {
       (plain_name ∷ punctuation signs.OpenParenthesis ∷ links ∷ more_instances ∷ []) ts rest
       refl comes;
 }
+
+-- ---- what a word or a sign in front says is to come
+
+pub module_comes : (ts rest : List Placed) → a_word words.Module ts rest →
+    Reads (outer one_module ∷ [])
+    (outside_on (plain_name ∷ perhaps_header_parameters ∷ perhaps_ports ∷
+    punctuation signs.Semicolon ∷ items ∷ [])) ts rest
+module_comes ts rest comes =
+    word_taken one_module words.Module
+    (plain_name ∷ perhaps_header_parameters ∷ perhaps_ports ∷ punctuation signs.Semicolon ∷
+    items ∷ []) ts rest refl comes
+
+pub process_comes : (ts rest : List Placed) → a_word words.Always ts rest →
+    Reads (outer items ∷ [])
+    (outside_on (punctuation signs.At ∷ event ∷ statement 0 ∷ items ∷ [])) ts rest
+process_comes ts rest comes =
+    word_taken items words.Always (punctuation signs.At ∷ event ∷ statement 0 ∷ items ∷ []) ts rest
+    refl comes
+
+pub parameters_come : (ts rest : List Placed) → a_sign signs.Hash ts rest →
+    Reads (outer perhaps_header_parameters ∷ [])
+    (outside_on (punctuation signs.OpenParenthesis ∷ header_parameter ∷
+    more_header_parameters ∷ [])) ts rest
+parameters_come ts rest comes =
+    sign_taken perhaps_header_parameters signs.Hash
+    (punctuation signs.OpenParenthesis ∷ header_parameter ∷ more_header_parameters ∷ []) ts rest
+    refl comes
 
 -- ---- operators
 

@@ -3,4 +3,3 @@ pub mod ReadingExpressions
 pub mod ReadingLists
 pub mod ReadingOperators
 pub mod ReadingRuns
-pub mod RefusedTexts

@@ -17,10 +17,10 @@ use Rattle.sv_parse_machine.specs.Machine.{ends_early, within_limits, tokens_of,
 use Rattle.sv_parse_machine.specs.Machine.{text_state}
 use Rattle.sv_parse_machine.specs.Verdict.{refused_word, stuck_number, stuck_names, rule_number}
 use Rattle.sv_parse_machine.specs.Verdict.{rule_names, rule_place}
-use Rattle.sv_parse_machine.specs.Reads.{failure_at, Halts}
+use Rattle.sv_parse_machine.specs.Reads.{failure_at}
 use Rattle.sv_ast.specs.GrammarExpressions.{is_within}
 use Rattle.sv_parse_machine.proofs.TextTrees.{form_of_text, text_of_form}
-use Rattle.sv_parse_machine.proofs.Walks.{walk, where_run_fails, Forecast, forecast}
+use Rattle.sv_parse_machine.proofs.Walks.{walk, Forecast, forecast}
 use Rattle.sv_parse_machine.proofs.Invariants.{Sound, sound_walk}
 use Rattle.sv_parse_machine.proofs.Beginnings.{start_is_sound}
 use Rattle.sv_parse_machine.proofs.Refusals.{Stopped, stopped, under_none, begins_within_all}
@@ -313,14 +313,3 @@ failure_breaks ts before (t ∷ after) too_deep stop parts failed = deep_breaks 
 failure_breaks ts before (t ∷ after) too_long stop parts failed = long_breaks ts t after stop failed
 failure_breaks ts before (t ∷ after) ends_early stop parts failed =
     absurd (no_early_step ts t after failed)
-
--- where reading the whole text halts
-pub halting_breaks : (ts : List Placed) (f : Failure) (left : ℕ) (stop : Place)
-    → Halts text_state ts f left
-    → (before rest : List Placed) × (ts ≡ before ++ rest) × (length rest ≡ left)
-    × BreaksGrammar (rule_number f before rest) (rule_names f before rest)
-    (rule_place stop rest) stop ts
-halting_breaks ts f left stop is =
-    let failed : run all_limits text_state ts ≡ fails (failure_at f is.rest) is.rest = is.runs [] in
-    let found = where_run_fails all_limits ts text_state (failure_at f is.rest) is.rest failed in
-    (found.0, is.rest, found.1, is.many, failure_breaks ts found.0 is.rest f stop found.1 failed)

@@ -23,8 +23,9 @@ use crate::list_lines::StepMark;
 use crate::path_queries::{frame_of, place_of};
 use crate::reads::signals_of;
 use crate::routes::StepRef;
-use crate::trail_walks::{Splice, TrailWalk, is_taken};
+use crate::trail_walks::{Splice, is_taken};
 use crate::trails::Trail;
+use crate::walks::TargetWalk;
 use std::alloc::{AllocError, Global};
 use std::mem;
 use sv_flat::{FExpr, FNode, Piece, Process, SigId, Signal};
@@ -132,7 +133,7 @@ fn along_way<'c>(
 
 // Takes an assignment that is wanted.
 fn along_assign<'c>(
-    walk: TrailWalk,
+    walk: TargetWalk,
     pieces: &[Piece],
     right: &FExpr,
     making: &mut Making<'c>,
@@ -181,7 +182,7 @@ fn along_rest<'c>(
 
 // Takes a statement before the path.
 #[cycle(along)]
-fn along<'c>(stmt: &Marked, walk: TrailWalk, making: &mut Making<'c>) -> Result<(), AllocError>
+fn along<'c>(stmt: &Marked, walk: TargetWalk, making: &mut Making<'c>) -> Result<(), AllocError>
     requires known { walk.target.0 < length walk.signals.now }
     requires few { length walk.signals.now < 4294967296 }
     requires tells { TellsTargets stmt.now }
@@ -220,7 +221,7 @@ fn along<'c>(stmt: &Marked, walk: TrailWalk, making: &mut Making<'c>) -> Result<
 fn along_arm<'c>(
     stmt: &Marked,
     step: StepRef,
-    walk: TrailWalk,
+    walk: TargetWalk,
     making: &mut Making<'c>,
 ) -> Result<(), AllocError>
     requires known { walk.target.0 < length walk.signals.now }
@@ -262,7 +263,7 @@ fn closed(
 }
 
 // The conditions of the path, in textual order.
-fn steps_along(walk: TrailWalk, body: &Marked, trail: &Trail) -> Result<Vec<Step>, AllocError>
+fn steps_along(walk: TargetWalk, body: &Marked, trail: &Trail) -> Result<Vec<Step>, AllocError>
     requires known { walk.target.0 < length walk.signals.now }
     requires few { length walk.signals.now < 4294967296 }
     requires tells { TellsTargets body.now }
@@ -298,7 +299,7 @@ pub fn trail_query(
         (signal_forms signals.now) (process_form process.now) target.0
         (marked_statement body.now) (trail_form trail.now)) }
 {
-    let walk = TrailWalk {
+    let walk = TargetWalk {
         alloc,
         signals,
         target,

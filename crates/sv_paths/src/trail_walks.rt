@@ -13,17 +13,10 @@ use crate::faults::{MOST_PATHS, WalkFault};
 use crate::list_lines::StepMark;
 use crate::routes::StepRef;
 use crate::trails::Trail;
+use crate::walks::TargetWalk;
 use std::alloc::{AllocError, Global};
 use sv_flat::{FExpr, FNode, Piece, SigId, Signal};
 use sv_obl::Marked;
-
-/// A walk back through a body for a target, among the signals of a design.
-#[derive(Clone, Copy)]
-pub struct TrailWalk<'a> {
-    pub alloc: Global,
-    pub signals: &'a [Signal],
-    pub target: SigId,
-}
 
 /// How a value is put for the result's own name: from one of its bits on, where there are so many
 /// signals.
@@ -182,7 +175,7 @@ fn put_rest(
 // Takes the trail through an assignment that is taken. Of the trails that come of it the last is
 // left in its place, and the others are added.
 fn put_assign(
-    walk: TrailWalk,
+    walk: TargetWalk,
     pieces: &[Piece],
     right: &FExpr,
     trail: &mut Trail,
@@ -229,7 +222,7 @@ pub fn is_taken(stmt: &Marked, trail: &Trail) -> bool
 #[cycle(trail_before)]
 fn before(
     stmt: &Marked,
-    walk: TrailWalk,
+    walk: TargetWalk,
     trail: &mut Trail,
     others: &mut Vec<Trail>,
 ) -> Result<(), WalkFault>
@@ -281,7 +274,7 @@ fn before(
 fn before_arm(
     stmt: &Marked,
     step: StepRef,
-    walk: TrailWalk,
+    walk: TargetWalk,
     trail: &mut Trail,
     others: &mut Vec<Trail>,
 ) -> Result<(), WalkFault>
@@ -316,7 +309,7 @@ fn before_arm(
 fn before_copied(
     stmt: &Marked,
     step: StepRef,
-    walk: TrailWalk,
+    walk: TargetWalk,
     trail: &Trail,
     all: &mut Vec<Trail>,
 ) -> Result<(), WalkFault>
@@ -341,7 +334,7 @@ fn before_copied(
 #[cycle(trail_before)]
 fn before_each(
     stmt: &Marked,
-    walk: TrailWalk,
+    walk: TargetWalk,
     trails: Vec<Trail>,
     all: &mut Vec<Trail>,
 ) -> Result<(), WalkFault>
@@ -380,7 +373,7 @@ pub fn trails_of(
     }
     let mut trails = Vec::new(alloc);
     let mut open = Trail::open(alloc, target);
-    let walk = TrailWalk {
+    let walk = TargetWalk {
         alloc,
         signals,
         target,

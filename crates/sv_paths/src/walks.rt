@@ -21,12 +21,12 @@ use sv_flat::{FExpr, FNode, Piece, SigId, Signal};
 use sv_num::Place;
 use sv_obl::BodySlice;
 
-// What a walk goes by: what allocates, the design's signals, and the target whose routes it takes.
+/// What a walk goes by: what allocates, the design's signals, and the target whose paths it takes.
 #[derive(Clone, Copy)]
-struct TargetWalk<'a> {
-    alloc: Global,
-    signals: &'a [Signal],
-    target: SigId,
+pub struct TargetWalk<'a> {
+    pub alloc: Global,
+    pub signals: &'a [Signal],
+    pub target: SigId,
 }
 
 // Adds a route, where they stay few enough.

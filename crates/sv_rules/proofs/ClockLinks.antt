@@ -4,7 +4,7 @@ use Rattle.std.proofs.Common.{get_or, refl, sym, ap, subst, ◌∙◌, zero-add}
 use Rattle.std.specs.Prelude.{IsTrue, IsFalse, Contains}
 use Rattle.std.specs.List.{list_any, list_all}
 use Rattle.std.proofs.lemmas.Bool.{false≢true, eqb-true, eq-eqb}
-use Rattle.std.proofs.lemmas.List.FromFn.{get_or-map-range_with_len}
+use Rattle.std.proofs.lemmas.List.FromFn.{length-map-range_with_len, get_or-map-range_with_len}
 use Rattle.sv_flat.specs.declared.statements.FStmt.{FStmt}
 use Rattle.sv_flat.specs.Design.{SignalForm, PieceForm, TypedTree, assign}
 use Rattle.sv_flat.specs.Design.{ProcessKind, continuous, port_in, port_out, combinational, clocked}
@@ -26,6 +26,11 @@ module _ (design : FlatDesign) (table : List Bool) (are : AreClocks design table
       ap (λ t. get_or t s false) are
       ∙ get_or-map-range_with_len (is_clock design) 0 (length design.signals) s s false inside
       (zero-add s)
+
+  -- it has a place for each signal
+  pub clocks_count : length table ≡ length design.signals
+  clocks_count =
+      ap length are ∙ length-map-range_with_len (is_clock design) 0 (length design.signals)
 
   module _ (e : TypedTree) (pieces : List PieceForm)
       (fits : IsTrue (list_all (piece_fits design.signals e) pieces)) where

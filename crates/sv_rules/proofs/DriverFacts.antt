@@ -22,7 +22,8 @@ use Rattle.sv_flat.specs.Processes.{drivers, is_top_input}
 use Rattle.sv_rules.specs.declared.drivers.Driver.{Driver}
 use Rattle.sv_rules.specs.declared.drivers.Drivers.{Drivers}
 use Rattle.sv_rules.specs.DriverTables.{driver_at, entries, and_one, first_at, second_at, AreBelow}
-use Rattle.sv_rules.specs.DriverTables.{AreDrivers, AreDriversOf, Notes, kept_of}
+use Rattle.sv_rules.specs.DriverTables.{AreDrivers, AreDriversOf, AreClocks, Notes, kept_of}
+use Rattle.sv_rules.proofs.ClockLinks.{clocks_count}
 use Rattle.sv_rules.proofs.NoteFacts.{same_drivers}
 
 push_on : (b a : Bool) (d e : Driver) (xs : List Driver)
@@ -163,3 +164,11 @@ pub inside_design : (flat : Flat) (items : List Signal) (i : ℕ) → items ≡ 
     i < length items → i < length (design_of flat).signals
 inside_design flat items i same inside =
     rw length-map (subst (λ (xs : List Signal). i < length xs) same inside)
+
+-- a table of clocks has a place for it
+pub clock_inside : (flat : Flat) (items : List Signal) (clocks : List Bool) (i : ℕ)
+    → items ≡ flat.signals.items → i < length items → AreClocks (design_of flat) clocks
+    → i < length clocks
+clock_inside flat items clocks i same inside are =
+    subst (λ n. i < n) (sym (clocks_count (design_of flat) clocks are))
+    (inside_design flat items i same inside)

@@ -1,14 +1,19 @@
 -- The first of what was found in two lists is the first of both.
-use Rattle.std.proofs.Common.{◌≡◌, ◌⊎◌, inl, inr, ℕ, ◌<◌, Bool, true, false, cond, ◌&&◌, ◌||◌, ◌==◌}
-use Rattle.std.proofs.Common.{nat_lt, ltb-true, lt-ltb, List, [], ◌++◌, ⊎_elim, refl, sym}
+use Rattle.std.proofs.Common.{◌≡◌, ◌⊎◌, inl, inr, ℕ, ◌+◌, ◌<◌, Bool, true, false, cond, ◌&&◌, ◌||◌, ◌==◌}
+use Rattle.std.proofs.Common.{nat_lt, ltb-true, lt-ltb, List, [], ◌∷◌, ◌++◌, map, ⊎_elim, refl, sym}
 use Rattle.std.proofs.Common.{subst, ◌∙◌, arith, Some, None, Option}
-use Rattle.std.specs.Prelude.{IsTrue, IsFalse}
+use Rattle.std.specs.Prelude.{IsTrue, IsFalse, filter}
+use Rattle.std.specs.List.{range_with_len}
 use Rattle.std.proofs.lemmas.Bool.{false≢true, eqb-true, eq-eqb}
-use Rattle.sv_flat.specs.Breaches.{Breach, then_by, comes_before, first_signal}
+use Rattle.sv_flat.specs.Breaches.{Breach, breach, then_by, comes_before, first_signal}
+use Rattle.sv_flat.specs.Design.{SignalForm, FlatDesign}
+use Rattle.sv_flat.specs.Processes.{declared_at}
+use Rattle.sv_flat.specs.Values.{signal_of}
 use Rattle.sv_flat.proofs.LeastSets.{or_cases, either_way}
 use Rattle.sv_flat.proofs.Depths.{first_of, second_of}
 use Rattle.sv_flat.proofs.AdmittedFacts.{none_in}
 use Rattle.sv_flat.proofs.Members.{Contains-left, Contains-right, Contains-either}
+use Rattle.sv_graph.proofs.ListFacts.{passed_more}
 use Rattle.sv_rules.specs.declared.found.Found.{Found}
 use Rattle.sv_rules.specs.First.{breach_of, IsFirst, FindsFirst, found_before, first_found}
 
@@ -187,3 +192,22 @@ itself found =
     ∙ unequal found.place.column (nat_lt found.signal.0 found.signal.0)
     ∙ ⊎_elim (λ l. absurd (let k = ltb-true found.signal.0 found.signal.0 l in omega arith)) (λ f.
     f) (either_way (nat_lt found.signal.0 found.signal.0))
+
+-- one signal more of a design, whose declaration is at hand
+pub finds_more : (design : FlatDesign) (rule : ℕ) (test : ℕ → Bool) (i : ℕ) (form : SignalForm)
+    (wrong : Bool) (before here now : Option Found)
+    → signal_of design.signals i ≡ form → wrong ≡ test i → now ≡ first_found before here
+    → FindsFirst rule (map (λ s. breach rule (declared_at design s) s)
+    (filter test (range_with_len 0 i))) before
+    → FindsFirst rule (cond wrong (breach rule form.place i ∷ []) []) here
+    → FindsFirst rule (map (λ s. breach rule (declared_at design s) s)
+    (filter test (range_with_len 0 (i + 1)))) now
+finds_more design rule test i form wrong before here now at is joined so_far this =
+    let fault = λ (s : ℕ). breach rule (declared_at design s) s in
+    let done = map fault (filter test (range_with_len 0 i)) in
+    subst (FindsFirst rule (map fault (filter test (range_with_len 0 (i + 1))))) (sym joined)
+    (subst (λ bs. FindsFirst rule bs (first_found before here)) (sym (passed_more fault test i))
+    (finds_both done (cond (test i) (fault i ∷ []) []) rule before here so_far
+    (subst (λ b. FindsFirst rule (cond b (fault i ∷ []) []) here) is
+    (subst (λ (s : SignalForm). FindsFirst rule (cond wrong (breach rule s.place i ∷ []) []) here)
+    (sym at) this))))

@@ -5,8 +5,6 @@ use Rattle.std.proofs.Common.{sym, ap, ap₂, subst, ◌∙◌, arith}
 use Rattle.std.specs.Prelude.{IsTrue, IsFalse, filter}
 use Rattle.std.specs.List.{list_any, range_with_len}
 use Rattle.std.proofs.lemmas.Bool.{false≢true, le-leb}
-use Rattle.std.proofs.lemmas.List.FromFn.{length-map-range_with_len}
-use Rattle.std.proofs.Math.ListN.{length-map}
 use Rattle.sv_flat.specs.Clocks.{is_clock, origins, agrees_with_earlier}
 use Rattle.sv_flat.specs.Design.{FlatDesign}
 use Rattle.sv_flat.specs.Processes.{is_top_input}
@@ -24,7 +22,7 @@ use Rattle.sv_rules.specs.Tops.{AreOrigins, AreSinks, leads_to, is_led, is_one, 
 use Rattle.sv_rules.specs.Tops.{IsFirstLed, IsLeadingTop, both_have, IsFirstOfBoth}
 use Rattle.sv_rules.specs.Tops.{FindsFirstOfBoth, some_before, agrees_by}
 use Rattle.sv_graph.proofs.BitFacts.{same_answer}
-use Rattle.sv_rules.proofs.ClockLinks.{at_table}
+use Rattle.sv_rules.proofs.ClockLinks.{at_table, clocks_count}
 use Rattle.sv_graph.proofs.ListFacts.{range_more}
 use Rattle.sv_graph.proofs.GraphFacts.{turned_below, turned_has}
 use Rattle.sv_graph.proofs.MarkFacts.{any_append, or_no}
@@ -85,9 +83,6 @@ module _ (design : FlatDesign) (clocks led tops : List Bool) (are : AreClocks de
   abbrev n : ℕ
   n = length design.signals
 
-  clocks_size : length clocks ≡ n
-  clocks_size = ap length are ∙ length-map-range_with_len (is_clock design) 0 n
-
   marked_led : (s : ℕ) → s < n → both_have clocks led s ≡ (is_clock design s && is_led design s)
   marked_led s below = ap₂ ◌&&◌ (at_table design clocks are s below) (leads.1 s below)
 
@@ -99,11 +94,11 @@ module _ (design : FlatDesign) (clocks led tops : List Bool) (are : AreClocks de
   none_leads none s clock =
       let below = clock_below design s clock in
       second_false (is_clock design s) (is_led design s)
-      (sym (marked_led s below) ∙ none s (subst (λ m. s < m) (sym clocks_size) below)) clock
+      (sym (marked_led s below) ∙ none s (subst (λ m. s < m) (sym (clocks_count design clocks are)) below)) clock
 
   module _ (c : ℕ) (first : IsFirstOfBoth clocks led c) where
     below_all : c < n
-    below_all = subst (λ m. c < m) clocks_size first.within
+    below_all = subst (λ m. c < m) (clocks_count design clocks are) first.within
 
     first_led : IsFirstLed design c
     first_led =
@@ -187,8 +182,7 @@ pub agree_end : (design : FlatDesign) (left_out : Option ℕ) (clocks led astray
     → IsTable (length design.signals) agree (agrees_with_earlier design)
 agree_end design left_out clocks led astray agree are leads strays leading table =
     let n = length design.signals in
-    let size : length clocks ≡ n =
-    ap length are ∙ length-map-range_with_len (is_clock design) 0 n in
+    let size = clocks_count design clocks are in
     let other = leads_to design (is_other_top design left_out) in
     let marked : (test : ℕ → Bool) (these : List Bool) → IsTable n these test → (s : ℕ) → s < n →
     some_before (both_have clocks these) s ≡ some_before (λ c. is_clock design c && test c) s =

@@ -1,6 +1,5 @@
-use Rattle.std.proofs.Common.{◌≡◌, ◌<◌, ◌||◌, not, false, length, get_or, sym, ap, ap₂, subst, ◌∙◌}
-use Rattle.std.proofs.Common.{arith, nat_lt, lt-ltb}
-use Rattle.std.proofs.lemmas.List.FromFn.{length-map-range_with_len}
+use Rattle.std.proofs.Common.{◌<◌, ◌||◌, not, false, length, get_or, sym, ap, ap₂, subst, ◌∙◌}
+use Rattle.std.proofs.Common.{nat_lt, lt-ltb}
 use Rattle.sv_flat.specs.Clocks.{is_clock}
 use Rattle.sv_flat.specs.Design.{SignalForm}
 use Rattle.sv_flat.specs.Processes.{is_top_kind, is_top_input, is_register}
@@ -8,19 +7,14 @@ use Rattle.sv_flat.specs.Reads.{is_combinational}
 use Rattle.sv_flat.specs.Views.{design_of, signal_form}
 use Rattle.std.proofs.Math.ListN.{length-map}
 use Rattle.sv_rules.proofs.ClockLinks.{at_table}
-use Rattle.sv_rules.proofs.DriverFacts.{signal_at, inside_design}
+use Rattle.sv_rules.proofs.DriverFacts.{signal_at, inside_design, clock_inside}
 use Rattle.sv_rules.proofs.TableFacts.{table_more, and_left}
 use Rattle.sv_design.proofs.registers.comb_table.Goals as goal
 
 pub bounds-clocks-s : goal.bounds-clocks-s
 bounds-clocks-s c =
-    let design = design_of c.args.flat.now in
-    let size : length c.args.clocks.now ≡ length design.signals =
-    ap length c.requires.clocks
-    ∙ length-map-range_with_len (is_clock design) 0 (length design.signals) in
-    let inside = inside_design c.args.flat.now c.deref-signal-items.result.now c.loop-s.s
-    c.deref-signal-items.ensures.value c.loop-s-test.true in
-    omega arith
+    clock_inside c.args.flat.now c.deref-signal-items.result.now c.args.clocks.now c.loop-s.s
+    c.deref-signal-items.ensures.value c.loop-s-test.true c.requires.clocks
 
 pub loop-s-preserved : goal.loop-s-preserved
 loop-s-preserved c =

@@ -1,6 +1,5 @@
 use Rattle.std.proofs.Common.{◌≡◌, ◌&&◌, not, false, length, get_or, sym, ap, ap₂, ◌∙◌, arith}
 use Rattle.std.proofs.Math.ListN.{length-map}
-use Rattle.std.proofs.lemmas.List.FromFn.{length-map-range_with_len}
 use Rattle.std.specs.List.{range_with_len}
 use Rattle.std.specs.Prelude.{filter}
 use Rattle.sv_flat.specs.Clocks.{is_clock}
@@ -8,19 +7,14 @@ use Rattle.sv_flat.specs.Design.{SignalForm}
 use Rattle.sv_flat.specs.Processes.{is_top_kind, is_top_input}
 use Rattle.sv_flat.specs.Views.{design_of, signal_form}
 use Rattle.sv_rules.proofs.ClockLinks.{at_table}
-use Rattle.sv_rules.proofs.DriverFacts.{signal_at, inside_design}
+use Rattle.sv_rules.proofs.DriverFacts.{signal_at, inside_design, clock_inside}
 use Rattle.sv_rules.proofs.TableFacts.{table_more, listed_are}
 use Rattle.sv_design.proofs.signal_lists.inputs_of.Goals as goal
 
 pub bounds-clocks-s : goal.bounds-clocks-s
 bounds-clocks-s c =
-    let design = design_of c.args.flat.now in
-    let size : length c.args.clocks.now ≡ length design.signals =
-    ap length c.requires.clocks
-    ∙ length-map-range_with_len (is_clock design) 0 (length design.signals) in
-    let inside = inside_design c.args.flat.now c.deref-signal-items.result.now c.loop-s.s
-    c.deref-signal-items.ensures.value c.loop-s-test.true in
-    omega arith
+    clock_inside c.args.flat.now c.deref-signal-items.result.now c.args.clocks.now c.loop-s.s
+    c.deref-signal-items.ensures.value c.loop-s-test.true c.requires.clocks
 
 pub loop-s-preserved : goal.loop-s-preserved
 loop-s-preserved c =
@@ -40,9 +34,6 @@ loop-s-preserved c =
 pub returns : goal.returns
 returns c =
     let design = design_of c.args.flat.now in
-    let size : length c.args.clocks.now ≡ length design.signals =
-    ap length c.requires.clocks
-    ∙ length-map-range_with_len (is_clock design) 0 (length design.signals) in
     let count = length-map c.args.flat.now.signals.items signal_form in
     let most = c.loop-s.auto.s-end in
     let same : length design.signals ≡ c.loop-s.s =

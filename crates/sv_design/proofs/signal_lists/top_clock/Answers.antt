@@ -3,7 +3,6 @@ use Rattle.std.proofs.Common.{get_or, Option, Some, None, refl, sym, ap, ap₂, 
 use Rattle.std.proofs.Common.{rules, tests}
 use Rattle.std.proofs.Math.ListN.{length-map}
 use Rattle.std.proofs.lemmas.List.{get_or_default}
-use Rattle.std.proofs.lemmas.List.FromFn.{length-map-range_with_len}
 use Rattle.std.specs.Prelude.{find}
 use Rattle.sv_flat.specs.Clocks.{is_clock}
 use Rattle.sv_flat.specs.Design.{SignalForm}
@@ -14,7 +13,7 @@ use Rattle.sv_flat.specs.declared.designs.Flat.{Flat}
 use Rattle.sv_flat.specs.declared.signals.Signal.{Signal}
 use Rattle.sv_flat.proofs.Depths.{first_of, second_of}
 use Rattle.sv_rules.specs.DriverTables.{AreClocks}
-use Rattle.sv_rules.proofs.ClockLinks.{at_table}
+use Rattle.sv_rules.proofs.ClockLinks.{at_table, clocks_count}
 use Rattle.sv_design.proofs.ClockOrder.{NoneBelow, clocks_in_order, first_of_both, none_of_both}
 use Rattle.sv_rules.proofs.DriverFacts.{signal_at}
 use Rattle.sv_rules.proofs.FirstPlaces.{IsFirstPlace, position_finds}
@@ -29,10 +28,7 @@ module _ (flat : Flat) (clocks : List Bool) (are : AreClocks (design_of flat) cl
   is_first_at k = is_clock (design_of flat) k && is_top_input (design_of flat) k
 
   table_size : length clocks ≡ length flat.signals.items
-  table_size =
-      ap length are
-      ∙ length-map-range_with_len (is_clock (design_of flat)) 0 (length (design_of flat).signals)
-      ∙ length-map flat.signals.items signal_form
+  table_size = clocks_count (design_of flat) clocks are ∙ length-map flat.signals.items signal_form
 
   at_place : (k : ℕ) (d : Signal × Bool) → k < length flat.signals.items
       → is_top_clock (get_or flat.signals.items k d.0, get_or clocks k d.1) ≡ is_first_at k

@@ -14,6 +14,7 @@ pub mod BlockPasses
 pub mod DriverNumbers
 pub mod LinkFacts
 pub mod TableFacts
+pub mod ProcessMarks
 pub mod UseFacts
 pub mod TopFacts
 pub mod ClockFaults

@@ -1,22 +1,23 @@
-use Rattle.std.proofs.Common.{◌≡◌, ◌+◌, ◌||◌, false, get_or, Vec, Global, length, map, drop, refl}
-use Rattle.std.proofs.Common.{sym, ap, subst, ◌∙◌, arith}
-use Rattle.std.specs.List.{list_any, range_with_len}
+use Rattle.std.proofs.Common.{ℕ, Bool, false, get_or, Vec, Global, length, refl}
+use Rattle.std.proofs.Common.{ap, subst, ◌∙◌, arith}
+use Rattle.std.specs.List.{range_with_len}
 use Rattle.std.specs.Prelude.{IfOk, filter}
 use Rattle.sv_flat.specs.declared.signals.SigId.{SigId}
 use Rattle.sv_graph.specs.Numbers.{numbers}
 use Rattle.std.proofs.Math.ListN.{length-map}
-use Rattle.std.proofs.lemmas.List.{at_drop_all, length-replicate}
 use Rattle.sv_flat.specs.Clocks.{has_edge, is_edge}
 use Rattle.sv_flat.specs.Design.{ProcessForm}
 use Rattle.sv_flat.specs.Views.{design_of, process_form, signal_form}
-use Rattle.sv_graph.specs.Marks.{is_marked, Marks}
 use Rattle.sv_rules.specs.ReadMarks.{HasClockBelow}
-use Rattle.sv_graph.proofs.MarkFacts.{MarksSoFar, marks_more, marks_end}
 use Rattle.sv_rules.proofs.Sound.{process_at}
-use Rattle.sv_graph.proofs.ListFacts.{any_more}
-use Rattle.sv_rules.proofs.TableFacts.{written_back, from_nothing, clock_below}
+use Rattle.sv_rules.proofs.TableFacts.{clock_below}
 use Rattle.sv_rules.proofs.TableFacts.{listed_are}
+use Rattle.sv_rules.proofs.ProcessMarks.{slice_size, all_left, marks_next, all_marked}
 use Rattle.sv_rules.proofs.clocks.edges_of.Goals as goal
+
+-- the signal whose edges a process waits for
+edges : ProcessForm → ℕ → Bool
+edges p s = has_edge s p.kind
 
 pub mark_edge-requires : goal.mark_edge-requires
 mark_edge-requires c =
@@ -24,71 +25,35 @@ mark_edge-requires c =
     let sound = process_at c.args.flat.now c.deref-process-items.result.now
     c.loop-process.process-index process
     c.deref-process-items.ensures.value c.loop-process-test.true c.process-item.is c.requires in
-    let size : length (design_of c.args.flat.now).signals ≡ length c.deref_mut.result.now =
-    length-map c.args.flat.now.signals.items signal_form
-    ∙ sym (length-replicate (length c.args.flat.now.signals.items) false)
-    ∙ sym (ap length c.in_ok-table.ensures) ∙ sym c.loop-process.invariant.0
-    ∙ sym (ap length c.deref_mut.ensures.value) in
-    subst (λ n. HasClockBelow n (process_form process).kind) size
+    subst (λ n. HasClockBelow n (process_form process).kind)
+    (slice_size c.args.flat.now c.in_ok-table.table.items c.loop-process.table.items
+    c.deref_mut.result.now c.in_ok-table.ensures c.loop-process.invariant.0
+    c.deref_mut.ensures.value)
     (clock_below (design_of c.args.flat.now) (process_form process) sound)
 
 pub loop-process-init : goal.loop-process-init
 loop-process-init c = (
   refl,
-  λ s below. ap (λ ps.
-      is_marked c.in_ok-table.table.items s || list_any (λ (p : ProcessForm).
-      has_edge s p.kind) (map process_form ps)) c.deref-process-items.ensures.value,
+  all_left c.args.flat.now edges c.in_ok-table.table.items c.deref-process-items.result.now
+      c.deref-process-items.ensures.value,
 )
 
 pub loop-process-preserved : goal.loop-process-preserved
 loop-process-preserved c =
-    let processes = c.deref-process-items.result.now in
-    let i = c.loop-process.process-index in
-    let process = c.process-item.result in
-    let old = c.in_ok-table.table.items in
-    let items = c.loop-process.table.items in
-    let new = c.mark_edge.new.table in
-    let all = is_edge (design_of c.args.flat.now) in
-    let kept : length new ≡ length items =
-    c.mark_edge.auto.table ∙ ap length c.deref_mut.ensures.value in
-    let back = written_back new items c.loop-process.table.len kept (omega arith) in (
-      ap length back ∙ kept ∙ c.loop-process.invariant.0,
-      subst (λ t. MarksSoFar old t all (λ s.
-          list_any (λ (p : ProcessForm).
-          has_edge s p.kind) (map process_form (drop (i + 1) processes)))) (sym back)
-          (marks_more old items new all (λ s.
-          list_any (λ (p : ProcessForm).
-          has_edge s p.kind) (map process_form (drop i processes)))
-          (λ s. has_edge s (process_form process).kind) (λ s.
-          list_any (λ (p : ProcessForm).
-          has_edge s p.kind) (map process_form (drop (i + 1) processes)))
-          c.loop-process.invariant.0
-          (λ s. any_more process_form (λ (p : ProcessForm).
-          has_edge s p.kind) processes i process c.loop-process-test.true c.process-item.is)
-          (subst (λ t. Marks t new (λ s. has_edge s (process_form process).kind))
-          c.deref_mut.ensures.value c.mark_edge.ensures)
-          c.loop-process.invariant.1),
-    )
+    marks_next c.args.flat.now edges c.in_ok-table.table.items c.deref-process-items.result.now
+    c.loop-process.table.items c.deref_mut.result.now c.mark_edge.new.table
+    c.loop-process.table.len c.loop-process.process-index c.process-item.result
+    c.loop-process.invariant (omega arith) c.deref_mut.ensures.value c.mark_edge.auto.table
+    c.loop-process-test.true c.process-item.is c.mark_edge.ensures
 
 pub returns : goal.returns
 returns c =
-    let processes = c.deref-process-items.result.now in
     let design = design_of c.args.flat.now in
-    let old = c.in_ok-table.table.items in
     let now = c.loop-process.table.items in
     let n = length c.args.flat.now.signals.items in
-    let all = marks_end old now (is_edge design)
-    (λ s. list_any (λ (p : ProcessForm).
-    has_edge s p.kind) (map process_form (drop c.loop-process.process-index processes)))
-    (λ s. at_drop_all (λ ps.
-    list_any (λ (p : ProcessForm).
-    has_edge s p.kind) (map process_form ps)) processes c.loop-process.process-index
-    c.loop-process-test.false)
-    c.loop-process.invariant.1 in
-    let count : length now ≡ n =
-    c.loop-process.invariant.0 ∙ ap length c.in_ok-table.ensures ∙ length-replicate n false in
-    let table = from_nothing n now (is_edge design)
-    (subst (λ t. Marks t now (is_edge design)) c.in_ok-table.ensures all) count in
+    let table = all_marked c.args.flat.now edges c.in_ok-table.table.items
+    c.deref-process-items.result.now now c.loop-process.process-index c.loop-process.invariant
+    c.loop-process-test.false c.in_ok-table.ensures in
     subst (λ ks. IfOk c.listed.result (λ (signals : Vec SigId Global). numbers signals.items ≡ ks))
     (ap (λ ts. filter (λ s. get_or ts s false) (range_with_len 0 (length ts))) c.deref.ensures.value
     ∙ listed_are n now (is_edge design) (length design.signals) table

@@ -1,30 +1,33 @@
 -- The drivers of a list of processes.
-use Rattle.std.proofs.Common.{◌≡◌, ℕ, ◌+◌, ◌<◌, Bool, true, false, cond, not, List, [], ◌∷◌, ◌++◌}
+use Rattle.std.proofs.Common.{◌≡◌, ℕ, ◌+◌, ◌<◌, ◌≤◌, ◌&&◌, nat_le, nat_lt, Bool, true, false, cond, not, List, [], ◌∷◌, ◌++◌}
 use Rattle.std.proofs.Common.{length, map, Option, None, get_or, Some, refl, sym, ap, ap₂, subst}
 use Rattle.std.proofs.Common.{◌∙◌, arith, append_assoc, zero-add}
-use Rattle.std.specs.Prelude.{filter, slice_get, option_map, is_none}
+use Rattle.std.specs.Prelude.{IsTrue, filter, slice_get, option_map, is_none}
 use Rattle.std.proofs.lemmas.List.{get_or-map}
 use Rattle.std.proofs.Math.ListN.{length-map}
 use Rattle.sv_flat.specs.declared.designs.Flat.{Flat}
 use Rattle.sv_flat.specs.declared.signals.Signal.{Signal}
 use Rattle.sv_flat.specs.Breaches.{breach}
 use Rattle.sv_flat.specs.Drivers.{driver_fault}
-use Rattle.sv_flat.specs.Values.{signal_of}
+use Rattle.sv_flat.specs.Values.{signal_of, signal_width}
+use Rattle.sv_flat.specs.Soundness.{sound}
 use Rattle.sv_flat.specs.Views.{design_of, signal_form}
 use Rattle.std.proofs.lemmas.List.{append-nil}
 use Rattle.std.proofs.lemmas.List.Elements.{filter-append}
 use Rattle.std.proofs.lemmas.Option.{slice_get-map}
 use Rattle.sv_num.specs.declared.faults.Place.{Place}
-use Rattle.sv_flat.specs.Design.{ProcessForm, FlatDesign}
+use Rattle.sv_flat.specs.Design.{SignalForm, ProcessForm, FlatDesign}
 use Rattle.sv_flat.specs.Assigned.{assigns}
 use Rattle.sv_flat.specs.Clocks.{is_clock_link, processes_of}
 use Rattle.sv_flat.specs.Processes.{drivers, is_top_input}
+use Rattle.sv_graph.specs.BitSets.{is_set}
 use Rattle.sv_rules.specs.declared.drivers.Driver.{Driver}
 use Rattle.sv_rules.specs.declared.drivers.Drivers.{Drivers}
 use Rattle.sv_rules.specs.DriverTables.{driver_at, entries, and_one, first_at, second_at, AreBelow}
 use Rattle.sv_rules.specs.DriverTables.{AreDrivers, AreDriversOf, AreClocks, Notes, kept_of}
 use Rattle.sv_rules.proofs.ClockLinks.{clocks_count}
 use Rattle.sv_rules.proofs.NoteFacts.{same_drivers}
+use Rattle.sv_rules.proofs.Sound.{few_bits}
 
 push_on : (b a : Bool) (d e : Driver) (xs : List Driver)
     → cond b (d ∷ and_one e a xs) (and_one e a xs) ≡ and_one e a (cond b (d ∷ xs) xs)
@@ -164,6 +167,25 @@ pub inside_design : (flat : Flat) (items : List Signal) (i : ℕ) → items ≡ 
     i < length items → i < length (design_of flat).signals
 inside_design flat items i same inside =
     rw length-map (subst (λ (xs : List Signal). i < length xs) same inside)
+
+-- the signal of a read
+module _ (flat : Flat) (s : ℕ) (signal : Signal) (inside : s < length flat.signals.items)
+    (is : signal ≡ get_or flat.signals.items s signal) where
+  pub few_at : IsTrue (sound (design_of flat)) → signal.width ≤ 64
+  few_at is_sound =
+      subst (λ (form : SignalForm). form.width ≤ 64)
+      (signal_at flat flat.signals.items s signal refl inside is)
+      (few_bits (design_of flat) is_sound s (inside_design flat flat.signals.items s refl inside))
+
+  -- the bits that are read of it
+  pub bits_at : (low high bits : ℕ)
+      → ((b : ℕ) → is_set bits b ≡ (nat_le low b && nat_le b high && nat_lt b signal.width))
+      → (b : ℕ) → is_set bits b
+      ≡ (nat_le low b && nat_le b high && nat_lt b (signal_width (design_of flat).signals s))
+  bits_at low high bits are b =
+      are b ∙ ap (λ (form : SignalForm).
+      nat_le low b && nat_le b high && nat_lt b form.width)
+      (sym (signal_at flat flat.signals.items s signal refl inside is))
 
 -- a table of clocks has a place for it
 pub clock_inside : (flat : Flat) (items : List Signal) (clocks : List Bool) (i : ℕ)

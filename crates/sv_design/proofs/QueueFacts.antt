@@ -212,12 +212,14 @@ module _ (reads : Reads) (queue : Queue) (next : ℕ) (s : SigId)
       (is_below design (get_or (ordered queue) next 0)
       (signal_comb design reads are queue next queued in_order)))
 
-  pub readers_are : (v : Vec SigId Global) (slice : List SigId) → slice ≡ v.items
-      → v ≡ get_or reads.readers.rows.items s.0 v → s.0 < size reads.readers
+  pub readers_are : (design : FlatDesign) → AreReads design reads
+      → Queued design (take next (ordered queue)) (ordered queue) (open_at queue)
+      → (v : Vec SigId Global) (slice : List SigId) → slice ≡ v.items
+      → v ≡ get_or reads.readers.rows.items s.0 v
       → numbers slice ≡ row reads.readers (get_or (ordered queue) next 0)
-  readers_are v slice same is_row below =
+  readers_are design are queued v slice same is_row =
       ap numbers same
-      ∙ row_is reads.readers s.0 v below is_row
+      ∙ row_is reads.readers s.0 v (signal_inside design are queued) is_row
       ∙ ap (row reads.readers) (sym is_signal)
 
 -- ---- counts

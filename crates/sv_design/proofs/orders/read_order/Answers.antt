@@ -36,10 +36,9 @@ settle_all-requires-clause-within c = λ t at.
     let next = c.loop-next.next in
     let s = c.index-signal.result.now in
     let inside : next < length queue.order.items = omega arith in
-    let below = signal_inside reads queue next s inside c.index-signal.ensures c.requires.0
-    c.requires.1 (c.loop-next.invariant.2 c.requires.0 c.requires.1) in
-    let is = readers_are reads queue next s inside c.index-signal.ensures c.index.result.now
-    c.as_slice-readers.result.now c.as_slice-readers.ensures.value c.index.ensures below in
+    let is = readers_are reads queue next s inside c.index-signal.ensures c.requires.0 c.requires.1
+    (c.loop-next.invariant.2 c.requires.0 c.requires.1) c.index.result.now c.as_slice-readers.result.now c.as_slice-readers.ensures.value
+    c.index.ensures in
     let readers = row reads.readers (get_or (ordered queue) next 0) in
     subst (λ n. t < n)
     (sym (reads_size c.requires.0 reads c.requires.1) ∙ sym c.loop-next.invariant.1)
@@ -54,10 +53,9 @@ settle_all-requires-clause-some c = λ t at.
     let s = c.index-signal.result.now in
     let queued = c.loop-next.invariant.2 c.requires.0 c.requires.1 in
     let inside : next < length queue.order.items = omega arith in
-    let below = signal_inside reads queue next s inside c.index-signal.ensures c.requires.0
-    c.requires.1 queued in
-    let is = readers_are reads queue next s inside c.index-signal.ensures c.index.result.now
-    c.as_slice-readers.result.now c.as_slice-readers.ensures.value c.index.ensures below in
+    let is = readers_are reads queue next s inside c.index-signal.ensures c.requires.0 c.requires.1
+    queued c.index.result.now c.as_slice-readers.result.now c.as_slice-readers.ensures.value
+    c.index.ensures in
     readers_open c.requires.0 reads c.requires.1 queue next queued
     (in_order reads queue next s inside c.index-signal.ensures) t
     (subst (λ ks. Contains ks t) is at)
@@ -69,10 +67,9 @@ settle_all-requires-clause-differ c =
     let next = c.loop-next.next in
     let s = c.index-signal.result.now in
     let inside : next < length queue.order.items = omega arith in
-    let below = signal_inside reads queue next s inside c.index-signal.ensures c.requires.0
-    c.requires.1 (c.loop-next.invariant.2 c.requires.0 c.requires.1) in
-    let is = readers_are reads queue next s inside c.index-signal.ensures c.index.result.now
-    c.as_slice-readers.result.now c.as_slice-readers.ensures.value c.index.ensures below in
+    let is = readers_are reads queue next s inside c.index-signal.ensures c.requires.0 c.requires.1
+    (c.loop-next.invariant.2 c.requires.0 c.requires.1) c.index.result.now c.as_slice-readers.result.now c.as_slice-readers.ensures.value
+    c.index.ensures in
     subst (λ ks. IsTrue (all_differ ks)) (sym is)
     ((c.requires.1).once (get_or (ordered queue) next 0))
 
@@ -84,10 +81,9 @@ loop-next-smaller c =
     let s = c.index-signal.result.now in
     let queued = c.loop-next.invariant.2 c.requires.0 c.requires.1 in
     let inside : next < length queue.order.items = omega arith in
-    let below = signal_inside reads queue next s inside c.index-signal.ensures c.requires.0
-    c.requires.1 queued in
-    let is = readers_are reads queue next s inside c.index-signal.ensures c.index.result.now
-    c.as_slice-readers.result.now c.as_slice-readers.ensures.value c.index.ensures below in
+    let is = readers_are reads queue next s inside c.index-signal.ensures c.requires.0 c.requires.1
+    queued c.index.result.now c.as_slice-readers.result.now c.as_slice-readers.ensures.value
+    c.index.ensures in
     fewer_left c.requires.0 reads c.requires.1 queue next queued
     (in_order reads queue next s inside c.index-signal.ensures) c.settle_all.new.self
     (subst (Settles queue c.settle_all.new.self) is c.in_ok-settle_all.ensures)
@@ -103,10 +99,9 @@ loop-next-preserved c =
     let queued = c.loop-next.invariant.2 c.requires.0 c.requires.1 in
     let inside : next < length queue.order.items = omega arith in
     let within = in_order reads queue next s inside c.index-signal.ensures in
-    let below = signal_inside reads queue next s inside c.index-signal.ensures c.requires.0
-    c.requires.1 queued in
-    let is = readers_are reads queue next s inside c.index-signal.ensures c.index.result.now
-    c.as_slice-readers.result.now c.as_slice-readers.ensures.value c.index.ensures below in
+    let is = readers_are reads queue next s inside c.index-signal.ensures c.requires.0 c.requires.1
+    queued c.index.result.now c.as_slice-readers.result.now c.as_slice-readers.ensures.value
+    c.index.ensures in
     let settles = subst (Settles queue new) is c.in_ok-settle_all.ensures in (
       still_inside c.requires.0 reads c.requires.1 queue next queued within new settles,
       settles.count ∙ c.loop-next.invariant.1,

@@ -9,7 +9,6 @@ use Rattle.std.specs.List.{list_any}
 use Rattle.std.proofs.lemmas.Bool.{false≢true}
 use Rattle.std.proofs.lemmas.Grind.{flat_map-append}
 use Rattle.std.proofs.lemmas.List.{append-nil, length-map, map-append}
-use Rattle.std.proofs.lemmas.List.Folds.{length-flat_map-take}
 use Rattle.sv_num.specs.declared.faults.Place.{Place}
 use Rattle.sv_flat.specs.ByNumber.{signal_forms}
 use Rattle.sv_flat.specs.Views.{signal_form}
@@ -27,7 +26,7 @@ use Rattle.sv_paths.specs.Trails.{own_pieces, own_times, times_put, without_cove
 use Rattle.sv_paths.specs.Trails.{with_right_put, whole_from, with_own_ways, with_own_put}
 use Rattle.sv_paths.specs.Trails.{with_assign, trails_before}
 use Rattle.sv_paths.specs.TrailViews.{trail_form, trail_forms, AddsTrails}
-use Rattle.sv_paths.proofs.WalkFacts.{flat_longer}
+use Rattle.sv_paths.proofs.WalkFacts.{flat_longer, next_longer}
 
 -- ---- what is not taken
 
@@ -271,28 +270,6 @@ one_too_many trails trail full =
 -- ---- the trails before a statement, one by one
 
 module _ (f : TrailForm → List TrailForm) where
-  flat_trails : (trails : List Trail) →
-      flat_map f (trail_forms trails) ≡ flat_map (λ (t : Trail). f (trail_form t)) trails
-  flat_trails [] = refl
-  flat_trails (t ∷ trails) = ap (λ ts. f (trail_form t) ++ ts) (flat_trails trails)
-
-  -- the trails so far and the next one give no more trails than all of them
-  pub next_longer : (trails seen : List Trail) (x : Trail) → seen ≡ take (length seen) trails
-      → length seen < length trails → x ≡ get_or trails (length seen) x
-      → length (flat_map f (trail_forms seen)) + length (f (trail_form x))
-      ≤ length (flat_map f (trail_forms trails))
-  next_longer trails seen x so_far inside is =
-      let g = λ (t : Trail). f (trail_form t) in
-      let more = length-flat_map-take g trails (length seen) x inside in
-      let front : length (flat_map g (take (length seen) trails))
-      ≡ length (flat_map f (trail_forms seen)) =
-      ap length (ap (flat_map g) (sym so_far) ∙ sym (flat_trails seen)) in
-      let next : length (g (get_or trails (length seen) x)) ≡ length (f (trail_form x)) =
-      ap (λ (t : Trail). length (f (trail_form t))) (sym is) in
-      let whole : length (flat_map g trails) ≡ length (flat_map f (trail_forms trails)) =
-      ap length (sym (flat_trails trails)) in
-      omega arith
-
   -- where the next one gives too many, all of them do
   pub turn_fails : (trails seen : List Trail) (x : Trail) (old all now later : List TrailForm)
       → seen ≡ take (length seen) trails → length seen < length trails
@@ -301,7 +278,7 @@ module _ (f : TrailForm → List TrailForm) where
       → AddsTrails (all ++ f (trail_form x)) now (Err e)
       → AddsTrails (old ++ flat_map f (trail_forms trails)) later result
   turn_fails trails seen x old all now later so_far inside next adds e result is h =
-      let longer = next_longer trails seen x so_far inside next in
+      let longer = next_longer trail_form f trails seen x so_far inside next in
       let here : length all ≡ length old + length (flat_map f (trail_forms seen)) =
       ap length adds ∙ length-append old (flat_map f (trail_forms seen)) in
       let more = length-append all (f (trail_form x)) in

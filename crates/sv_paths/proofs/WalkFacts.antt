@@ -98,29 +98,28 @@ one_too_many routes route full =
     let more = length-append (route_forms routes) (route ∷ []) in
     omega (arith, same, more)
 
--- ---- the routes before a slice, one by one
+-- ---- the routes or the trails before a part, one by one
 
-module _ (f : RouteForm → List RouteForm) where
-  flat_routes : (routes : List Route) →
-      flat_map f (route_forms routes) ≡ flat_map (λ (t : Route). f (route_form t)) routes
-  flat_routes [] = refl
-  flat_routes (t ∷ routes) = ap (λ rs. f (route_form t) ++ rs) (flat_routes routes)
+module _ {X Y : Type 0} (form : X → Y) (f : Y → List Y) where
+  flat_forms : (xs : List X) → flat_map f (map form xs) ≡ flat_map (λ x. f (form x)) xs
+  flat_forms [] = refl
+  flat_forms (x ∷ xs) = ap (λ ys. f (form x) ++ ys) (flat_forms xs)
 
-  -- the routes so far and the next one give no more routes than all of them
-  pub next_longer : (routes seen : List Route) (x : Route) → seen ≡ take (length seen) routes
-      → length seen < length routes → x ≡ get_or routes (length seen) x
-      → length (flat_map f (route_forms seen)) + length (f (route_form x))
-      ≤ length (flat_map f (route_forms routes))
-  next_longer routes seen x so_far inside is =
-      let g = λ (t : Route). f (route_form t) in
-      let more = length-flat_map-take g routes (length seen) x inside in
-      let front : length (flat_map g (take (length seen) routes))
-      ≡ length (flat_map f (route_forms seen)) =
-      ap length (ap (flat_map g) (sym so_far) ∙ sym (flat_routes seen)) in
-      let next : length (g (get_or routes (length seen) x)) ≡ length (f (route_form x)) =
-      ap (λ (t : Route). length (f (route_form t))) (sym is) in
-      let whole : length (flat_map g routes) ≡ length (flat_map f (route_forms routes)) =
-      ap length (sym (flat_routes routes)) in
+  -- those so far and the next one give no more than all of them
+  pub next_longer : (xs seen : List X) (x : X) → seen ≡ take (length seen) xs
+      → length seen < length xs → x ≡ get_or xs (length seen) x
+      → length (flat_map f (map form seen)) + length (f (form x))
+      ≤ length (flat_map f (map form xs))
+  next_longer xs seen x so_far inside is =
+      let g = λ (t : X). f (form t) in
+      let more = length-flat_map-take g xs (length seen) x inside in
+      let front : length (flat_map g (take (length seen) xs))
+      ≡ length (flat_map f (map form seen)) =
+      ap length (ap (flat_map g) (sym so_far) ∙ sym (flat_forms seen)) in
+      let next : length (g (get_or xs (length seen) x)) ≡ length (f (form x)) =
+      ap (λ (t : X). length (f (form t))) (sym is) in
+      let whole : length (flat_map g xs) ≡ length (flat_map f (map form xs)) =
+      ap length (sym (flat_forms xs)) in
       omega arith
 
 -- where the second of two slices gives too many, both do

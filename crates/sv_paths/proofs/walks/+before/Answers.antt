@@ -109,7 +109,7 @@ before_each-returns-in_err-before-clause-adds t c =
     c.loop-route.yielded_by in
     let one = YieldsList-turn yields seen c.loop-route.route-iterator c.loop-route.yielded_by
     c.next.result c.next.new.self x c.in-Some.is c.next.ensures.steps in
-    let longer = next_longer f routes seen x (sym (map-id seen) ∙ so_far) one.0 one.1 in
+    let longer = next_longer route_form f routes seen x (sym (map-id seen) ∙ so_far) one.0 one.1 in
     let old = route_forms c.args.all.now.items in
     let all = route_forms c.loop-route.all.items in
     let here : length all ≡ length old + length (flat_map f (route_forms seen)) =

@@ -24,9 +24,10 @@ use Rattle.sv_obl.specs.Wanted.{with_copies, copy_of, is_copy, original, wanted_
 use Rattle.sv_obl.specs.Wanted.{with_piece_put, put_value, pieces_put, put_in, close, closed_tree}
 use Rattle.sv_obl.specs.Paths.{StepForm, step_with, name_itself, pieces_of, puts_in}
 use Rattle.sv_obl.proofs.PutFacts.{copy_is_copy, original_of_copy, signal_is_settled}
-use Rattle.sv_obl.specs.Routes.{signals_of_reads, names_in}
-use Rattle.sv_obl.proofs.RouteNames.{stands, exchanged_in, names_alike}
-use Rattle.sv_paths.proofs.PutNames.{piece_names, all_put, some_piece}
+use Rattle.sv_obl.specs.Routes.{names_in}
+use Rattle.sv_obl.proofs.RouteNames.{names_alike}
+use Rattle.sv_paths.proofs.PutNames.{piece_names, some_piece, some_of, put_names}
+use Rattle.sv_paths.proofs.PutNames.{names_put as all_names_put}
 use Rattle.sv_obl.proofs.Unchanged.{exchanged_itself}
 
 -- ---- lists
@@ -42,12 +43,6 @@ pub kept_each : (f : ℕ → List ℕ) (xs : List ℕ) → ((x : ℕ) → Contai
 kept_each f [] same = refl
 kept_each f (x ∷ xs) same = ap₂ (λ a b. a ++ b) (same x (Contains-head x xs))
     (kept_each f xs (λ y at. same y (Contains-later x xs y at)))
-
--- of reads only the signals matter
-pub by_signals : (f : ReadForm → List ℕ) (g : ℕ → List ℕ) → ((r : ReadForm) → f r ≡ g r.signal)
-    → (rs : List ReadForm) → flat_map f rs ≡ flat_map g (signals_of_reads rs)
-by_signals f g same [] = refl
-by_signals f g same (r ∷ rs) = ap₂ (λ a b. a ++ b) (same r) (by_signals f g same rs)
 
 pub none_counted : (f : ℕ → ℕ) (xs : List ℕ) → ((x : ℕ) → Contains xs x → f x ≡ 0) →
     sum (map f xs) ≡ 0
@@ -231,38 +226,20 @@ module _ (signals : List SignalForm) (s : ℕ) where
   here wants = cond wants (copy_of signals s ∷ []) []
 
   module _ (pieces : List PieceForm) (way : TypedTree) where
-    abbrev some_of : ℕ → Bool
-    some_of o = list_any (λ (piece : PieceForm). piece.signal == o) pieces
+    abbrev put_for : ℕ → List ℕ
+    put_for = put_names signals pieces way
 
-    -- the names in what is put for a name
-    abbrev put_names : ℕ → List ℕ
-    put_names x = cond (is_copy signals x && some_of (original signals x))
-        (fold (piece_names signals both way (original signals x))
-        (copy_of signals (original signals x) ∷ []) pieces) (x ∷ [])
-
-    put_is : (r : ReadForm) → stands both (pieces_put signals pieces way r) ≡ put_names r.signal
-    put_is r = by_test (is_copy signals r.signal && some_of (original signals r.signal))
-      where
-        by_test : (c : Bool)
-            → stands both (cond c (content (original signals r.signal)
-            (put_value signals pieces way (original signals r.signal) r.place)) (name r.signal))
-            ≡ cond c (fold (piece_names signals both way (original signals r.signal))
-            (copy_of signals (original signals r.signal) ∷ []) pieces) (r.signal ∷ [])
-        by_test true = all_put signals both way (original signals r.signal) pieces
-            (wanted_name signals (original signals r.signal) r.place)
-        by_test false = refl
-
-    settled_put : (rest : List ℕ) → AllSettled rest → flat_map put_names rest ≡ rest
-    settled_put rest settled = kept_each put_names rest (λ x at.
-        ap (λ b. cond (b && some_of (original signals x))
+    settled_put : (rest : List ℕ) → AllSettled rest → flat_map put_for rest ≡ rest
+    settled_put rest settled = kept_each put_for rest (λ x at.
+        ap (λ b. cond (b && some_of signals pieces way (original signals x))
         (fold (piece_names signals both way (original signals x))
         (copy_of signals (original signals x) ∷ []) pieces) (x ∷ [])) (settled x at))
 
     target_put : IsTrue (some_piece signals both way s pieces)
-        → put_names (copy_of signals s)
+        → put_for (copy_of signals s)
         ≡ fold (piece_names signals both way s) (copy_of signals s ∷ []) pieces
     target_put some =
-        ap (λ o. cond (is_copy signals (copy_of signals s) && some_of o)
+        ap (λ o. cond (is_copy signals (copy_of signals s) && some_of signals pieces way o)
         (fold (piece_names signals both way o) (copy_of signals o ∷ []) pieces)
         (copy_of signals s ∷ [])) (original_of_copy signals s)
         ∙ ap₂ (λ b c. cond (b && c)
@@ -276,10 +253,8 @@ module _ (signals : List SignalForm) (s : ℕ) where
         → names_in both (put_in signals pieces way e)
         ≡ fold (piece_names signals both way s) (copy_of signals s ∷ []) pieces ++ rest
     names_put e rest some are settled =
-        exchanged_in both both (pieces_put signals pieces way) e
-        ∙ by_signals (λ r. stands both (pieces_put signals pieces way r)) put_names put_is
-        (reads both e)
-        ∙ ap (flat_map put_names) are
+        all_names_put signals pieces way e
+        ∙ ap (flat_map put_for) are
         ∙ ap₂ (λ a b. a ++ b) (target_put some) (settled_put rest settled)
 
   -- ---- counts

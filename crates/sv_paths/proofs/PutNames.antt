@@ -1,6 +1,6 @@
 -- The names in what is put for a name.
 use Rattle.std.proofs.Common.{◌≡◌, ℕ, ◌-◌, ◌+◌, Bool, true, false, cond, ◌&&◌, ◌||◌, ◌==◌, not}
-use Rattle.std.proofs.Common.{List, [], ◌∷◌, ◌++◌, fold, refl, sym, ap, ap₂, ◌∙◌}
+use Rattle.std.proofs.Common.{List, [], ◌∷◌, ◌++◌, fold, flat_map, refl, sym, ap, ap₂, ◌∙◌}
 use Rattle.std.proofs.Common.{append_assoc, append-nil}
 use Rattle.std.specs.Prelude.{IsTrue}
 use Rattle.std.specs.List.{list_any}
@@ -13,8 +13,11 @@ use Rattle.sv_flat.specs.Soundness.{is_whole}
 use Rattle.sv_flat.specs.Values.{signal_of, signal_width}
 use Rattle.sv_flat.specs.Readings.{ReadForm, reads}
 use Rattle.sv_obl.specs.Paths.{pieces_of, covers}
-use Rattle.sv_obl.specs.Routes.{names_in}
-use Rattle.sv_obl.specs.Wanted.{piece_value, with_piece_put}
+use Rattle.sv_obl.specs.Exchange.{name, content}
+use Rattle.sv_obl.specs.Routes.{signals_of_reads, names_in}
+use Rattle.sv_obl.specs.Wanted.{with_copies, copy_of, is_copy, original, wanted_name, piece_value}
+use Rattle.sv_obl.specs.Wanted.{with_piece_put, put_value, pieces_put, put_in}
+use Rattle.sv_obl.proofs.RouteNames.{stands, exchanged_in}
 
 -- ---- what is put for a name
 
@@ -154,3 +157,44 @@ module _ (signals both : List SignalForm) (right : TypedTree) (s : ℕ) where
       let found = then_left old piece pieces (piece.signal == s) (is_whole signals piece)
       (left_of pieces (piece_names old piece)) refl in
       record { more = found.0; are = found.1; each = found.2 }
+
+-- ---- names put in
+
+-- of reads only the signals matter
+pub by_signals : (f : ReadForm → List ℕ) (g : ℕ → List ℕ) → ((r : ReadForm) → f r ≡ g r.signal)
+    → (rs : List ReadForm) → flat_map f rs ≡ flat_map g (signals_of_reads rs)
+by_signals f g same [] = refl
+by_signals f g same (r ∷ rs) = ap₂ (λ a b. a ++ b) (same r) (by_signals f g same rs)
+
+-- what is put in an expression for the wanted names of pieces
+module _ (signals : List SignalForm) (pieces : List PieceForm) (way : TypedTree) where
+  abbrev both : List SignalForm
+  both = with_copies signals
+
+  abbrev pub some_of : ℕ → Bool
+  some_of o = list_any (λ (piece : PieceForm). piece.signal == o) pieces
+
+  -- the names in what is put for a name
+  abbrev pub put_names : ℕ → List ℕ
+  put_names x = cond (is_copy signals x && some_of (original signals x))
+      (fold (piece_names signals both way (original signals x))
+      (copy_of signals (original signals x) ∷ []) pieces) (x ∷ [])
+
+  put_is : (r : ReadForm) → stands both (pieces_put signals pieces way r) ≡ put_names r.signal
+  put_is r = by_test (is_copy signals r.signal && some_of (original signals r.signal))
+    where
+      by_test : (c : Bool)
+          → stands both (cond c (content (original signals r.signal)
+          (put_value signals pieces way (original signals r.signal) r.place)) (name r.signal))
+          ≡ cond c (fold (piece_names signals both way (original signals r.signal))
+          (copy_of signals (original signals r.signal) ∷ []) pieces) (r.signal ∷ [])
+      by_test true = all_put signals both way (original signals r.signal) pieces
+          (wanted_name signals (original signals r.signal) r.place)
+      by_test false = refl
+
+  pub names_put : (e : TypedTree) →
+      names_in both (put_in signals pieces way e) ≡ flat_map put_names (names_in both e)
+  names_put e =
+      exchanged_in both both (pieces_put signals pieces way) e
+      ∙ by_signals (λ r. stands both (pieces_put signals pieces way r)) put_names put_is
+      (reads both e)

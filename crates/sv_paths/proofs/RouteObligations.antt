@@ -36,7 +36,8 @@ use Rattle.sv_obl.specs.Wanted.{with_copies, copy_of, is_copy, original, close, 
 use Rattle.sv_paths.proofs.NumberSets.{filter_alike}
 use Rattle.sv_flat.proofs.Members.{contained_all, only}
 use Rattle.sv_obl.proofs.PutFacts.{copy_is_copy, original_of_copy, settled_is_signal}
-use Rattle.sv_paths.proofs.PutAlone.{Settled, AllSettled, kept_each, by_signals, close_leaves}
+use Rattle.sv_paths.proofs.PutAlone.{Settled, AllSettled, kept_each, close_leaves}
+use Rattle.sv_paths.proofs.PutNames.{by_signals}
 use Rattle.sv_paths.proofs.PutAlone.{steps_stay, here, settled_names}
 use Rattle.sv_obl.proofs.RouteNames.{stands, exchanged_in, names_alike, held_name}
 use Rattle.sv_paths.proofs.RoutePaths.{Matches, AllMatch, open_matches, before_match}

@@ -30,7 +30,8 @@ use Rattle.sv_paths.proofs.TrailNames.{copy_high}
 use Rattle.sv_paths.proofs.TrailNumbers.{node_sum, some_nodes, some_same, none_some, both_none}
 use Rattle.sv_paths.proofs.TrailNumbers.{no_first, copy_named}
 use Rattle.sv_paths.proofs.TrailPuts.{Lone, puts, puts_append, total_puts, puts_are}
-use Rattle.sv_paths.proofs.TrailPuts.{put_names, names_put, flat_counts}
+use Rattle.sv_paths.proofs.TrailPuts.{flat_counts}
+use Rattle.sv_paths.proofs.PutNames.{put_names, names_put}
 use Rattle.sv_paths.proofs.TrailOwn.{own_names, covers_own, covers_is, own_after, own_put}
 use Rattle.sv_paths.proofs.TrailOwn.{one_whole}
 use Rattle.sv_paths.proofs.TrailOwn.{no_whole_from, none_own, some_counted, own_step}

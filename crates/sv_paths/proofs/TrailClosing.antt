@@ -17,7 +17,7 @@ use Rattle.sv_obl.specs.Paths.{StepForm, Path, step_with, path_names, closed}
 use Rattle.sv_obl.specs.Routes.{names_in}
 use Rattle.sv_paths.specs.Trails.{TrailForm}
 use Rattle.sv_obl.specs.Wanted.{with_copies, is_copy, original, close, closed_tree}
-use Rattle.sv_paths.proofs.PutAlone.{by_signals}
+use Rattle.sv_paths.proofs.PutNames.{by_signals}
 use Rattle.sv_obl.proofs.RouteNames.{stands, exchanged_in, names_alike, held_name}
 use Rattle.sv_paths.proofs.TrailCounts.{count, held_count}
 use Rattle.sv_paths.proofs.TrailNames.{range_alike}

@@ -8,14 +8,10 @@ use Rattle.std.proofs.lemmas.List.Sums.{sum_by-cons}
 use Rattle.sv_flat.specs.Design.{SignalForm, TypedTree, PieceForm}
 use Rattle.sv_flat.specs.Soundness.{is_whole}
 use Rattle.sv_flat.specs.Readings.{ReadForm, reads}
-use Rattle.sv_obl.specs.Exchange.{name, content}
 use Rattle.sv_obl.specs.Paths.{pieces_of, covers, puts_in}
 use Rattle.sv_obl.specs.Routes.{signals_of_reads, names_in}
-use Rattle.sv_obl.specs.Wanted.{with_copies, copy_of, is_copy, original, wanted_name, put_value}
-use Rattle.sv_obl.specs.Wanted.{pieces_put, put_in}
-use Rattle.sv_paths.proofs.PutAlone.{by_signals}
-use Rattle.sv_obl.proofs.RouteNames.{stands, exchanged_in}
-use Rattle.sv_paths.proofs.PutNames.{piece_names, all_put}
+use Rattle.sv_obl.specs.Wanted.{with_copies}
+use Rattle.sv_paths.proofs.PutNames.{piece_names, some_of, put_names}
 use Rattle.sv_paths.proofs.TrailCounts.{weigh, count, weigh_append, weigh_none, weigh_more}
 use Rattle.sv_paths.proofs.TrailCounts.{one_at, unless, either_same}
 use Rattle.sv_paths.proofs.TrailNames.{total, gone}
@@ -125,33 +121,11 @@ module _ (signals : List SignalForm) (pieces : List PieceForm) where
     abbrev R : List ℕ
     R = names_in both way
 
-    abbrev pub some_of : ℕ → Bool
-    some_of o = list_any (λ (piece : PieceForm). piece.signal == o) pieces
+    abbrev some_names : ℕ → Bool
+    some_names = some_of signals pieces way
 
-    -- the names in what is put for a name
-    abbrev pub put_names : ℕ → List ℕ
-    put_names x = cond (is_copy signals x && some_of (original signals x))
-        (fold (piece_names signals both way (original signals x))
-        (copy_of signals (original signals x) ∷ []) pieces) (x ∷ [])
-
-    put_is : (r : ReadForm) → stands both (pieces_put signals pieces way r) ≡ put_names r.signal
-    put_is r = by_test (is_copy signals r.signal && some_of (original signals r.signal))
-      where
-        by_test : (c : Bool)
-            → stands both (cond c (content (original signals r.signal)
-            (put_value signals pieces way (original signals r.signal) r.place)) (name r.signal))
-            ≡ cond c (fold (piece_names signals both way (original signals r.signal))
-            (copy_of signals (original signals r.signal) ∷ []) pieces) (r.signal ∷ [])
-        by_test true = all_put signals both way (original signals r.signal) pieces
-            (wanted_name signals (original signals r.signal) r.place)
-        by_test false = refl
-
-    pub names_put : (e : TypedTree) →
-        names_in both (put_in signals pieces way e) ≡ flat_map put_names (names_in both e)
-    names_put e =
-        exchanged_in both both (pieces_put signals pieces way) e
-        ∙ by_signals (λ r. stands both (pieces_put signals pieces way r)) put_names put_is
-        (reads both e)
+    abbrev put_for : ℕ → List ℕ
+    put_for = put_names signals pieces way
 
     -- ---- how often they stand there
 
@@ -256,13 +230,13 @@ module _ (signals : List SignalForm) (pieces : List PieceForm) where
       n = length signals
 
       copy_counts : (y : ℕ) → n ≤ y
-          → count (cond (some_of (y - length signals))
+          → count (cond (some_names (y - length signals))
           (fold (piece_names signals both way (y - length signals))
           ((length signals + (y - length signals)) ∷ []) pieces) (y ∷ [])) x
           ≡ cond (covers signals (y - length signals) pieces) 0 (cond (y == x) 1 0)
           + weigh (length (pieces_of (y - length signals) pieces)) R x
       copy_counts y high =
-          by_some (some_of (y - length signals)) refl
+          by_some (some_names (y - length signals)) refl
           ∙ ap (λ z. count (fold (piece_names signals both way (y - length signals))
           (z ∷ []) pieces) x) back
           ∙ fold_counts (y - length signals) x pieces (lone (y - length signals)) (y ∷ [])
@@ -273,7 +247,7 @@ module _ (signals : List SignalForm) (pieces : List PieceForm) where
           back : length signals + (y - length signals) ≡ y
           back = omega arith
 
-          by_some : (c : Bool) → some_of (y - length signals) ≡ c
+          by_some : (c : Bool) → some_names (y - length signals) ≡ c
               → count (cond c (fold (piece_names signals both way (y - length signals))
               ((length signals + (y - length signals)) ∷ []) pieces) (y ∷ [])) x
               ≡ count (fold (piece_names signals both way (y - length signals))
@@ -285,7 +259,7 @@ module _ (signals : List SignalForm) (pieces : List PieceForm) where
               ((length signals + (y - length signals)) ∷ []) is))
 
       name_counts : (y : ℕ) → (b : Bool) → nat_le (length signals) y ≡ b
-          → count (cond (b && some_of (y - length signals))
+          → count (cond (b && some_names (y - length signals))
           (fold (piece_names signals both way (y - length signals))
           ((length signals + (y - length signals)) ∷ []) pieces) (y ∷ [])) x
           ≡ cond (b && covers signals (y - length signals) pieces) 0 (cond (y == x) 1 0)
@@ -308,12 +282,12 @@ module _ (signals : List SignalForm) (pieces : List PieceForm) where
               either_same (gone signals pieces y) 0 ∙ sym (either_same (gone signals pieces x) 0)
 
       pub flat_counts : (ys : List ℕ)
-          → count (flat_map put_names ys) x
+          → count (flat_map put_for ys) x
           ≡ cond (gone signals pieces x) 0 (count ys x) + weigh (puts ys) R x
       flat_counts [] = sym (ap₂ (λ a b. a + b) (either_same (gone signals pieces x) 0)
           (weigh_none R x))
       flat_counts (y ∷ ys) =
-          weigh_append 1 (put_names y) (flat_map put_names ys) x
+          weigh_append 1 (put_for y) (flat_map put_for ys) x
           ∙ ap₂ (λ a b. a + b)
           (name_counts y (nat_le (length signals) y) refl
           ∙ ap (λ m. m + weigh (times_of y) R x) (here y))

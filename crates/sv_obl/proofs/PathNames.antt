@@ -24,14 +24,14 @@ use Rattle.sv_obl.specs.Exchange.{name, content}
 use Rattle.sv_obl.specs.Wanted.{with_copies, copy_of, is_copy, original, mark, marked_tree, marked}
 use Rattle.sv_obl.specs.Wanted.{wanted_name, piece_value, with_piece_put, put_value, pieces_put}
 use Rattle.sv_obl.specs.Wanted.{put_in}
-use Rattle.sv_obl.specs.Paths.{StepForm, Path, under, step_with, Way, way_under, ways, covers_name}
-use Rattle.sv_obl.specs.Paths.{name_itself, ways_taken, with_way, path_names, is_taken, open_path}
+use Rattle.sv_obl.specs.Paths.{StepForm, Path, under, step_with, Way, ways}
+use Rattle.sv_obl.specs.Paths.{ways_taken, with_way, path_names, is_taken, open_path}
 use Rattle.sv_obl.specs.Paths.{before}
 use Rattle.sv_flat.proofs.Members.{only}
 use Rattle.sv_obl.proofs.PathLists.{cond_true, cond_false, from_cond, from_flat_map}
 use Rattle.sv_obl.proofs.PutFacts.{copy_is, copy_is_copy, signal_is_settled}
 use Rattle.sv_obl.proofs.PathTells.{marked_assigns}
-use Rattle.sv_obl.proofs.PathRuns.{step_of, whole_way}
+use Rattle.sv_obl.proofs.PathRuns.{step_of, whole_way, way_cases, taken_cases}
 use Rattle.sv_obl.proofs.TreeFacts.{Comes, exchanged_names}
 
 module _ (signals : List SignalForm) (in_block : Bool) (s : ℕ) (Served Member : ℕ → Type 0) where
@@ -97,32 +97,23 @@ module _ (signals : List SignalForm) (in_block : Bool) (s : ℕ) (Served Member 
   ways_fine (typed w signed (choice p c a b)) fine way at =
       let front = fine_left (reads both c ++ reads both a) (reads both b) fine in
       let fine_c = fine_left (reads both c) (reads both a) front in
-      ⊎_elim
-      (λ l.
-      let from = Contains-from_map (way_under (step_of p c true)) (ways a) way l in
-      let inner = ways_fine a (fine_right (reads both c) (reads both a) front) from.0 from.1 in
-      subst (λ (y : Way). StepsFine y.steps × Fine y.right) from.2
-      (with_step (step_of p c true) from.0.steps fine_c inner.0, inner.1))
-      (λ r.
-      let from = Contains-from_map (way_under (step_of p c false)) (ways b) way r in
-      let inner = ways_fine b (fine_right (reads both c ++ reads both a) (reads both b) fine) from.0
-      from.1 in
-      subst (λ (y : Way). StepsFine y.steps × Fine y.right) from.2
-      (with_step (step_of p c false) from.0.steps fine_c inner.0, inner.1))
-      (Contains-either (map (way_under (step_of p c true)) (ways a))
-      (map (way_under (step_of p c false)) (ways b)) way at)
+      way_cases (λ (y : Way). StepsFine y.steps × Fine y.right) p c a b
+      (λ from is.
+      let inner = ways_fine a (fine_right (reads both c) (reads both a) front) from is in
+      (with_step (step_of p c true) from.steps fine_c inner.0, inner.1))
+      (λ from is.
+      let inner = ways_fine b (fine_right (reads both c ++ reads both a) (reads both b) fine) from is in
+      (with_step (step_of p c false) from.steps fine_c inner.0, inner.1))
+      way at
   ways_fine right fine way at =
       subst (λ (y : Way). StepsFine y.steps × Fine y.right) (only (whole_way right) way at)
       (no_steps, fine)
 
   taken_fine : (pieces : List PieceForm) (right : TypedTree) (p : Path) → Fine right → (way : Way)
       → Contains (ways_taken signals pieces right p) way → StepsFine way.steps × Fine way.right
-  taken_fine pieces right p fine way at = ⊎_elim
-      (λ split. ways_fine right fine way split.1)
-      (λ whole. subst (λ (y : Way).
-      StepsFine y.steps × Fine y.right) (only (whole_way right) way whole.1) (no_steps, fine))
-      (from_cond (covers_name signals pieces (name_itself p.result)) (ways right)
-      (whole_way right ∷ []) way at)
+  taken_fine pieces right p fine =
+      taken_cases signals (λ (y : Way). StepsFine y.steps × Fine y.right) pieces right p
+      (ways_fine right fine) (no_steps, fine)
 
   -- ---- what is put
 

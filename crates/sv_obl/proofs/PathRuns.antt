@@ -39,6 +39,34 @@ whole_way right = record { steps = []; right = right }
 
 -- ---- conditions and ways
 
+-- a way of a choice is one of an arm, under the condition
+pub way_cases : (P : Way → Type 0) (p : Place) (c a b : TypedTree)
+    → ((way : Way) → Contains (ways a) way → P (way_under (step_of p c true) way))
+    → ((way : Way) → Contains (ways b) way → P (way_under (step_of p c false) way))
+    → (way : Way) → Contains (map (way_under (step_of p c true)) (ways a)
+    ++ map (way_under (step_of p c false)) (ways b)) way
+    → P way
+way_cases P p c a b yes no way at = ⊎_elim
+    (λ l.
+    let from = Contains-from_map (way_under (step_of p c true)) (ways a) way l in
+    subst P from.2 (yes from.0 from.1))
+    (λ r.
+    let from = Contains-from_map (way_under (step_of p c false)) (ways b) way r in
+    subst P from.2 (no from.0 from.1))
+    (Contains-either (map (way_under (step_of p c true)) (ways a))
+    (map (way_under (step_of p c false)) (ways b)) way at)
+
+-- a way that is taken is one of the right side, or the whole of it
+pub taken_cases : (signals : List SignalForm) (P : Way → Type 0) (pieces : List PieceForm)
+    (right : TypedTree) (p : Path)
+    → ((way : Way) → Contains (ways right) way → P way) → P (whole_way right)
+    → (way : Way) → Contains (ways_taken signals pieces right p) way → P way
+taken_cases signals P pieces right p each all way at = ⊎_elim
+    (λ split. each way split.1)
+    (λ whole. subst P (only (whole_way right) way whole.1) all)
+    (from_cond (covers_name signals pieces (name_itself p.result)) (ways right)
+    (whole_way right ∷ []) way at)
+
 module _ (A : List SignalForm) (E : Environment ℕ) where
   abbrev pub step_holds : StepForm → Bool
   step_holds step = beq (is_true (value A E step.condition)) step.truth
@@ -50,25 +78,19 @@ module _ (A : List SignalForm) (E : Environment ℕ) where
   pub ways_value : (right : TypedTree) (way : Way) → Contains (ways right) way
       → IsTrue (steps_hold way.steps)
       → value A E way.right ≡ value A E right
-  ways_value (typed w s (choice p c a b)) way at h = ⊎_elim
-      (λ l.
-      let from = Contains-from_map (way_under (step_of p c true)) (ways a) way l in
-      let inner = subst (λ (y : Way). IsTrue (steps_hold y.steps)) (sym from.2) h in
+  ways_value (typed w s (choice p c a b)) way at h =
       let v = is_true (value A E c) in
-      ap (λ (y : Way). value A E y.right) (sym from.2)
-      ∙ ways_value a from.0 from.1 (second_of (beq v true) (steps_hold from.0.steps) inner)
+      way_cases (λ (y : Way). IsTrue (steps_hold y.steps)
+      → value A E y.right ≡ value A E (typed w s (choice p c a b))) p c a b
+      (λ from is inner.
+      ways_value a from is (second_of (beq v true) (steps_hold from.steps) inner)
       ∙ sym (cond_true v (value A E a) (value A E b)
-      (same_truth v true (first_of (beq v true) (steps_hold from.0.steps) inner))))
-      (λ r.
-      let from = Contains-from_map (way_under (step_of p c false)) (ways b) way r in
-      let inner = subst (λ (y : Way). IsTrue (steps_hold y.steps)) (sym from.2) h in
-      let v = is_true (value A E c) in
-      ap (λ (y : Way). value A E y.right) (sym from.2)
-      ∙ ways_value b from.0 from.1 (second_of (beq v false) (steps_hold from.0.steps) inner)
+      (same_truth v true (first_of (beq v true) (steps_hold from.steps) inner))))
+      (λ from is inner.
+      ways_value b from is (second_of (beq v false) (steps_hold from.steps) inner)
       ∙ sym (cond_false v (value A E a) (value A E b)
-      (same_truth v false (first_of (beq v false) (steps_hold from.0.steps) inner))))
-      (Contains-either (map (way_under (step_of p c true)) (ways a))
-      (map (way_under (step_of p c false)) (ways b)) way at)
+      (same_truth v false (first_of (beq v false) (steps_hold from.steps) inner))))
+      way at h
   ways_value right way at h =
       ap (λ (y : Way). value A E y.right) (sym (only (whole_way right) way at))
 
@@ -222,20 +244,15 @@ module _ (signals : List SignalForm) where
   ways_held (typed w signed (choice p c a b)) h way at =
       let front = first_of (held_below n c && held_below n a) (held_below n b) h in
       let held_c = first_of (held_below n c) (held_below n a) front in
-      ⊎_elim
-      (λ l.
-      let from = Contains-from_map (way_under (step_of p c true)) (ways a) way l in
-      let inner = ways_held a (second_of (held_below n c) (held_below n a) front) from.0 from.1 in
-      subst (λ (y : Way). HeldSteps y.steps × Held y.right) from.2
-      (held_cons (step_of p c true) from.0.steps held_c inner.0, inner.1))
-      (λ r.
-      let from = Contains-from_map (way_under (step_of p c false)) (ways b) way r in
+      way_cases (λ (y : Way). HeldSteps y.steps × Held y.right) p c a b
+      (λ from is.
+      let inner = ways_held a (second_of (held_below n c) (held_below n a) front) from is in
+      (held_cons (step_of p c true) from.steps held_c inner.0, inner.1))
+      (λ from is.
       let inner = ways_held b (second_of (held_below n c && held_below n a) (held_below n b) h)
-      from.0 from.1 in
-      subst (λ (y : Way). HeldSteps y.steps × Held y.right) from.2
-      (held_cons (step_of p c false) from.0.steps held_c inner.0, inner.1))
-      (Contains-either (map (way_under (step_of p c true)) (ways a))
-      (map (way_under (step_of p c false)) (ways b)) way at)
+      from is in
+      (held_cons (step_of p c false) from.steps held_c inner.0, inner.1))
+      way at
   ways_held right h way at =
       subst (λ (y : Way). HeldSteps y.steps × Held y.right) (only (whole_way right) way at)
       ((λ step none. absurd (Contains-nil step none)), h)
@@ -243,13 +260,9 @@ module _ (signals : List SignalForm) where
   pub taken_held : (pieces : List PieceForm) (right : TypedTree) (p : Path) → Held right
       → (way : Way)
       → Contains (ways_taken signals pieces right p) way → HeldSteps way.steps × Held way.right
-  taken_held pieces right p h way at = ⊎_elim
-      (λ split. ways_held right h way split.1)
-      (λ whole. subst (λ (y : Way).
-      HeldSteps y.steps × Held y.right) (only (whole_way right) way whole.1)
-      ((λ step none. absurd (Contains-nil step none)), h))
-      (from_cond (covers_name signals pieces (name_itself p.result)) (ways right)
-      (whole_way right ∷ []) way at)
+  taken_held pieces right p h =
+      taken_cases signals (λ (y : Way). HeldSteps y.steps × Held y.right) pieces right p
+      (ways_held right h) ((λ step none. absurd (Contains-nil step none)), h)
 
   held_cond : (c : Bool) (x y : TypedTree) → Held x → Held y → Held (cond c x y)
   held_cond true x y held_x held_y = held_x

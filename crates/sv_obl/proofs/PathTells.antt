@@ -31,7 +31,7 @@ use Rattle.sv_obl.proofs.PathLists.{in_flat_map, from_flat_map}
 use Rattle.sv_obl.proofs.PutFacts.{State, all_are, running, running_leaves, beside, put_same}
 use Rattle.sv_obl.proofs.PutFacts.{copy_is}
 use Rattle.sv_obl.proofs.TreeFacts.{same_names}
-use Rattle.sv_obl.proofs.PathRuns.{step_of, whole_way, step_holds, steps_hold, ways_value, some_way}
+use Rattle.sv_obl.proofs.PathRuns.{step_of, whole_way, taken_cases, step_holds, steps_hold, ways_value, some_way}
 use Rattle.sv_obl.proofs.PathRuns.{one_way, two_truths, steps_alike, same_steps, Tidy, held_cons}
 use Rattle.sv_obl.proofs.PathRuns.{held_both, held_map, marked_held, taken_held, put_in_held}
 
@@ -226,12 +226,10 @@ module _ (signals : List SignalForm) (in_block b : Bool) (target : ℕ) (z : Env
       → Contains (ways_taken signals pieces right p) way
       → IsTrue (steps_hold both (here now) way.steps)
       → value both (here now) way.right ≡ value both (here now) right
-  taken_value pieces right p now way at h = ⊎_elim
-      (λ split. ways_value both (here now) right way split.1 h)
-      (λ one. ap (λ (y : Way).
-      value both (here now) y.right) (sym (only (whole_way right) way one.1)))
-      (from_cond (covers_name signals pieces (name_itself p.result)) (ways right)
-      (whole_way right ∷ []) way at)
+  taken_value pieces right p now =
+      taken_cases signals (λ (y : Way). IsTrue (steps_hold both (here now) y.steps)
+      → value both (here now) y.right ≡ value both (here now) right) pieces right p
+      (ways_value both (here now) right) (λ h. refl)
 
   some_taken : (pieces : List PieceForm) (right : TypedTree) (p : Path) (now : State)
       → (way : Way) × Contains (ways_taken signals pieces right p) way

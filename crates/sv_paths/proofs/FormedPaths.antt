@@ -21,15 +21,15 @@ use Rattle.sv_flat.proofs.Depths.{first_of, second_of}
 use Rattle.sv_flat.proofs.Members.{Contains-either, only}
 use Rattle.sv_flat.proofs.ReadSignals.{reads_signals}
 use Rattle.sv_obl.specs.Exchange.{name, content}
-use Rattle.sv_obl.specs.Paths.{StepForm, Path, under, step_with, Way, way_under, ways, covers_name}
-use Rattle.sv_obl.specs.Paths.{name_itself, ways_taken, with_way, is_taken, open_path, before}
+use Rattle.sv_obl.specs.Paths.{StepForm, Path, under, step_with, Way, ways}
+use Rattle.sv_obl.specs.Paths.{ways_taken, with_way, is_taken, open_path, before}
 use Rattle.sv_obl.specs.Paths.{closed}
 use Rattle.sv_obl.specs.Wanted.{with_copies, copy_of, is_copy, original, mark, marked_tree, marked}
 use Rattle.sv_obl.specs.Wanted.{wanted_name, piece_value, with_piece_put, put_value, pieces_put}
 use Rattle.sv_obl.specs.Wanted.{put_in, close, closed_tree}
 use Rattle.sv_paths.proofs.FormedExchange.{Fits, exchanged_formed}
-use Rattle.sv_obl.proofs.PathLists.{both_true, from_cond, from_flat_map}
-use Rattle.sv_obl.proofs.PathRuns.{step_of, whole_way}
+use Rattle.sv_obl.proofs.PathLists.{both_true, from_flat_map}
+use Rattle.sv_obl.proofs.PathRuns.{step_of, whole_way, way_cases, taken_cases}
 use Rattle.sv_obl.proofs.PutFacts.{width_settled, width_copy, width_original, settled_is_signal}
 use Rattle.sv_obl.proofs.TreeFacts.{held_below, well_held, exchanged_held, Below}
 
@@ -397,29 +397,20 @@ module _ (signals : List SignalForm)
       → StepsFormed way.steps
   ways_formed (typed w signed (choice place c a b)) formed way at =
       let parts = choice_formed w signed place c a b formed in
-      ⊎_elim
-      (λ l.
-      let from = Contains-from_map (way_under (step_of place c true)) (ways a) way l in
-      subst (λ (y : Way). StepsFormed y.steps) from.2
-      (with_step (step_of place c true) from.0.steps parts.0
-      (ways_formed a parts.1 from.0 from.1)))
-      (λ r.
-      let from = Contains-from_map (way_under (step_of place c false)) (ways b) way r in
-      subst (λ (y : Way). StepsFormed y.steps) from.2
-      (with_step (step_of place c false) from.0.steps parts.0
-      (ways_formed b parts.2 from.0 from.1)))
-      (Contains-either (map (way_under (step_of place c true)) (ways a))
-      (map (way_under (step_of place c false)) (ways b)) way at)
+      way_cases (λ (y : Way). StepsFormed y.steps) place c a b
+      (λ from is.
+      with_step (step_of place c true) from.steps parts.0 (ways_formed a parts.1 from is))
+      (λ from is.
+      with_step (step_of place c false) from.steps parts.0 (ways_formed b parts.2 from is))
+      way at
   ways_formed right formed way at =
       subst (λ (y : Way). StepsFormed y.steps) (only (whole_way right) way at) no_steps
 
   taken_formed : (pieces : List PieceForm) (right : TypedTree) (path : Path) → Formed right
       → (way : Way) → Contains (ways_taken signals pieces right path) way → StepsFormed way.steps
-  taken_formed pieces right path formed way at = ⊎_elim
-      (λ split. ways_formed right formed way split.1)
-      (λ whole. subst (λ (y : Way). StepsFormed y.steps) (only (whole_way right) way whole.1) no_steps)
-      (from_cond (covers_name signals pieces (name_itself path.result)) (ways right)
-      (whole_way right ∷ []) way at)
+  taken_formed pieces right path formed =
+      taken_cases signals (λ (y : Way). StepsFormed y.steps) pieces right path
+      (ways_formed right formed) no_steps
 
   -- ---- statements
 

@@ -102,7 +102,8 @@ module _ (signals : List SignalForm) (in_block : Bool) (s : ℕ) (Served Member 
       let inner = ways_fine a (fine_right (reads both c) (reads both a) front) from is in
       (with_step (step_of p c true) from.steps fine_c inner.0, inner.1))
       (λ from is.
-      let inner = ways_fine b (fine_right (reads both c ++ reads both a) (reads both b) fine) from is in
+      let inner = ways_fine b (fine_right (reads both c ++ reads both a) (reads both b) fine) from
+      is in
       (with_step (step_of p c false) from.steps fine_c inner.0, inner.1))
       way at
   ways_fine right fine way at =

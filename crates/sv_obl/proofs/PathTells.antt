@@ -31,7 +31,8 @@ use Rattle.sv_obl.proofs.PathLists.{in_flat_map, from_flat_map}
 use Rattle.sv_obl.proofs.PutFacts.{State, all_are, running, running_leaves, beside, put_same}
 use Rattle.sv_obl.proofs.PutFacts.{copy_is}
 use Rattle.sv_obl.proofs.TreeFacts.{same_names}
-use Rattle.sv_obl.proofs.PathRuns.{step_of, whole_way, taken_cases, step_holds, steps_hold, ways_value, some_way}
+use Rattle.sv_obl.proofs.PathRuns.{step_of, whole_way, step_holds, steps_hold, ways_value, some_way}
+use Rattle.sv_obl.proofs.PathRuns.{taken_cases}
 use Rattle.sv_obl.proofs.PathRuns.{one_way, two_truths, steps_alike, same_steps, Tidy, held_cons}
 use Rattle.sv_obl.proofs.PathRuns.{held_both, held_map, marked_held, taken_held, put_in_held}
 

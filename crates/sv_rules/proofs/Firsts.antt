@@ -1,5 +1,6 @@
 -- The first of what was found in two lists is the first of both.
-use Rattle.std.proofs.Common.{◌≡◌, ◌⊎◌, inl, inr, ℕ, ◌+◌, ◌<◌, Bool, true, false, cond, ◌&&◌, ◌||◌, ◌==◌}
+use Rattle.std.proofs.Common.{◌≡◌, ◌⊎◌, inl, inr, ℕ, ◌+◌, ◌<◌, Bool, true, false, cond, ◌&&◌}
+use Rattle.std.proofs.Common.{◌||◌, ◌==◌}
 use Rattle.std.proofs.Common.{nat_lt, ltb-true, lt-ltb, List, [], ◌∷◌, ◌++◌, map, ⊎_elim, refl, sym}
 use Rattle.std.proofs.Common.{subst, ◌∙◌, arith, Some, None, Option}
 use Rattle.std.specs.Prelude.{IsTrue, IsFalse, filter}

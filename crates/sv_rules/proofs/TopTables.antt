@@ -94,7 +94,8 @@ module _ (design : FlatDesign) (clocks led tops : List Bool) (are : AreClocks de
   none_leads none s clock =
       let below = clock_below design s clock in
       second_false (is_clock design s) (is_led design s)
-      (sym (marked_led s below) ∙ none s (subst (λ m. s < m) (sym (clocks_count design clocks are)) below)) clock
+      (sym (marked_led s below)
+      ∙ none s (subst (λ m. s < m) (sym (clocks_count design clocks are)) below)) clock
 
   module _ (c : ℕ) (first : IsFirstOfBoth clocks led c) where
     below_all : c < n

@@ -37,8 +37,8 @@ settle_all-requires-clause-within c = λ t at.
     let s = c.index-signal.result.now in
     let inside : next < length queue.order.items = omega arith in
     let is = readers_are reads queue next s inside c.index-signal.ensures c.requires.0 c.requires.1
-    (c.loop-next.invariant.2 c.requires.0 c.requires.1) c.index.result.now c.as_slice-readers.result.now c.as_slice-readers.ensures.value
-    c.index.ensures in
+    (c.loop-next.invariant.2 c.requires.0 c.requires.1) c.index.result.now
+    c.as_slice-readers.result.now c.as_slice-readers.ensures.value c.index.ensures in
     let readers = row reads.readers (get_or (ordered queue) next 0) in
     subst (λ n. t < n)
     (sym (reads_size c.requires.0 reads c.requires.1) ∙ sym c.loop-next.invariant.1)
@@ -68,8 +68,8 @@ settle_all-requires-clause-differ c =
     let s = c.index-signal.result.now in
     let inside : next < length queue.order.items = omega arith in
     let is = readers_are reads queue next s inside c.index-signal.ensures c.requires.0 c.requires.1
-    (c.loop-next.invariant.2 c.requires.0 c.requires.1) c.index.result.now c.as_slice-readers.result.now c.as_slice-readers.ensures.value
-    c.index.ensures in
+    (c.loop-next.invariant.2 c.requires.0 c.requires.1) c.index.result.now
+    c.as_slice-readers.result.now c.as_slice-readers.ensures.value c.index.ensures in
     subst (λ ks. IsTrue (all_differ ks)) (sym is)
     ((c.requires.1).once (get_or (ordered queue) next 0))
 

@@ -11,7 +11,7 @@ use Rattle.sv_rules.proofs.ProcessMarks.{slice_size, all_left, marks_next, all_m
 use Rattle.sv_design.proofs.registers.register_table.Goals as goal
 
 -- a process that waits for an edge marks what it assigns
-registers : ProcessForm → ℕ → Bool
+abbrev registers : ProcessForm → ℕ → Bool
 registers p s = is_clocked p.kind && assigns p.body s
 
 pub mark_registers-requires : goal.mark_registers-requires

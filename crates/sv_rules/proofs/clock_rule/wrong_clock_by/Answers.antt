@@ -51,9 +51,9 @@ loop-i-preserved c =
     (in_table n c.as_slice-used.result.now tables.used.items (is_used design) i
     c.as_slice-used.ensures.value are.used_are inside) in
     let is = c.is_wrong-wrong.ensures ∙ ap₂ (λ k p. k && not p) clock proper in
-    finds_more design 602 (is_fault design) i (signal_form c.signal-item.result) c.is_wrong-wrong.result
-    c.loop-i.found c.found_if.result c.first_of-found.result at is c.first_of-found.ensures
-    c.loop-i.invariant (c.found_if.ensures 602)
+    finds_more design 602 (is_fault design) i (signal_form c.signal-item.result)
+    c.is_wrong-wrong.result c.loop-i.found c.found_if.result c.first_of-found.result at is
+    c.first_of-found.ensures c.loop-i.invariant (c.found_if.ensures 602)
 
 pub returns : goal.returns
 returns c =

@@ -16,7 +16,7 @@ use Rattle.sv_rules.proofs.ProcessMarks.{slice_size, all_left, marks_next, all_m
 use Rattle.sv_rules.proofs.clocks.edges_of.Goals as goal
 
 -- the signal whose edges a process waits for
-edges : ProcessForm → ℕ → Bool
+abbrev edges : ProcessForm → ℕ → Bool
 edges p s = has_edge s p.kind
 
 pub mark_edge-requires : goal.mark_edge-requires

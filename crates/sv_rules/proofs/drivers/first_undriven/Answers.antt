@@ -33,6 +33,6 @@ loop-i-preserved c =
     ∙ ap₂ (λ t u. not t && not u && is_none (get_or c.as_slice-first.result.now i None))
     top clock
     ∙ ap (λ u. not (is_top_input design i) && not (is_clock design i) && u) none in
-    finds_more design 604 (is_undriven design) i (signal_form c.signal-item.result) c.lacks_driver-undriven.result
-    c.loop-i.found c.found_if.result c.first_of-found.result at is c.first_of-found.ensures
-    c.loop-i.invariant (c.found_if.ensures 604)
+    finds_more design 604 (is_undriven design) i (signal_form c.signal-item.result)
+    c.lacks_driver-undriven.result c.loop-i.found c.found_if.result c.first_of-found.result at is
+    c.first_of-found.ensures c.loop-i.invariant (c.found_if.ensures 604)

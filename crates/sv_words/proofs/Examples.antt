@@ -1,397 +1,209 @@
--- Examples of the definitions, computed.
-use Rattle.std.proofs.Common.{◌≡◌, [], ◌∷◌, true, false, Some, None, codes, refl}
+-- Examples of the definitions, computed. Words are written as one text, with a blank between two
+-- of them.
+use Rattle.std.proofs.Common.{◌≡◌, ◌==◌, ℕ, List, [], ◌∷◌, map, cond, true, false, Option, Some}
+use Rattle.std.proofs.Common.{None, codes, refl}
 use Rattle.clap.proofs.OnLiterals.{clap_on_literals}
+use Rattle.clap.specs.Words.{Text}
 use Rattle.sv_words.specs.Lines.{found_in, is_read, line_of}
-use Rattle.sv_words.specs.Words.{check, cnf, compare, gen, help_asked, list, request_of, sim}
-use Rattle.sv_words.specs.Words.{usage_of, verify}
+use Rattle.sv_words.specs.Words.{Request, check, cnf, compare, gen, help_asked, list, request_of}
+use Rattle.sv_words.specs.Words.{sim, usage_of, verify}
 use Rattle.sv_words.specs.declared.command.CommandName.TheVariants.{Check, Compare, Gen}
+use Rattle.sv_words.specs.declared.command.UsageKind.{UsageKind}
 use Rattle.sv_words.specs.declared.command.UsageKind.TheVariants.{NoCommand, UnknownCommand, Words}
+
+-- the words with this byte before the first
+abbrev begun_by : ℕ → List Text → List Text
+begun_by byte [] = (byte ∷ []) ∷ []
+begun_by byte (word ∷ rest) = (byte ∷ word) ∷ rest
+
+abbrev words : Text → List Text
+words [] = [] ∷ []
+words (byte ∷ rest) = cond (byte == 32) ([] ∷ words rest) (begun_by byte (words rest))
+
+-- the words of each text are read, and ask for what stands beside it
+abbrev AreRead : List (Text × Request) → Type 0
+AreRead examples =
+    map {B = Option UsageKind × Option Request}
+    (λ (e : Text × Request). (usage_of (words e.0), request_of (words e.0))) examples
+    ≡ map {B = Option UsageKind × Option Request} (λ (e : Text × Request). (None, Some e.1))
+    examples
+
+-- the words of no text go with the command
+abbrev AreRefused : List Text → Type 0
+AreRefused texts =
+    map (λ (t : Text). usage_of (words t)) texts ≡ map (λ (t : Text). Some Words) texts
 
 no_words : usage_of [] ≡ Some NoCommand
 no_words = refl
 
-unknown : usage_of (codes "Check" ∷ codes "f" ∷ []) ≡ Some UnknownCommand
+unknown : usage_of (words (codes "Check f")) ≡ Some UnknownCommand
 unknown = refl
 
--- the empty name after `--top=`
-empty_top : request_of (codes "check" ∷ codes "f" ∷ codes "--top=" ∷ [])
-    ≡ Some (check (codes "f") None 20000 (Some []) false)
-unfolding found_in line_of clap_on_literals
-empty_top = refl
+checks : AreRead (
+    -- the empty name after `--top=`
+    (codes "check f --top=", check (codes "f") None 20000 (Some []) false)
+    -- after `--` no word is an option
+    ∷ (codes "check -- --top", check (codes "--top") None 20000 None false)
+    -- a certificate to store and a budget, before FILE and behind it
+    ∷ (
+      codes "check --budget +07 f --proof=-x",
+      check (codes "f") (Some (codes "-x")) 7 None false,
+    )
+    -- the bounds of a budget
+    ∷ (codes "check f --budget=1", check (codes "f") None 1 None false)
+    ∷ (codes "check f --budget=4000000000", check (codes "f") None 4000000000 None false)
+    -- a flag stands before FILE or behind it
+    ∷ (codes "check f --json", check (codes "f") None 20000 None true)
+    ∷ (codes "check --json f", check (codes "f") None 20000 None true)
+    ∷ [])
+unfolding found_in is_read line_of clap_on_literals
+checks = refl
 
-empty_top_is_right : usage_of (codes "check" ∷ codes "f" ∷ codes "--top=" ∷ []) ≡ None
+no_checks : AreRefused (
+    -- a budget out of bounds, with a minus, and twice
+    codes "check f --budget=0"
+    ∷ codes "check f --budget=4000000001"
+    ∷ codes "check f --budget=-0"
+    ∷ codes "check f --budget 5 --budget 6"
+    -- a flag twice, with a value, with a word behind it, as a value and behind `--`
+    ∷ codes "check f --json --json"
+    ∷ codes "check f --json="
+    ∷ codes "check f --json=true"
+    ∷ codes "check f --json x"
+    ∷ codes "check f --top --json"
+    ∷ codes "check -- f --json"
+    -- two tops, no file, and `--help`, which is no word of the command
+    ∷ codes "check f --top=m --top=m"
+    ∷ codes "check --top m"
+    ∷ codes "check --help"
+    ∷ [])
 unfolding is_read line_of clap_on_literals
-empty_top_is_right = refl
-
--- after `--` no word is an option
-past_options : request_of (codes "check" ∷ codes "--" ∷ codes "--top" ∷ [])
-    ≡ Some (check (codes "--top") None 20000 None false)
-unfolding found_in line_of clap_on_literals
-past_options = refl
-
-past_options_is_right : usage_of (codes "check" ∷ codes "--" ∷ codes "--top" ∷ []) ≡ None
-unfolding is_read line_of clap_on_literals
-past_options_is_right = refl
-
--- a certificate to store and a budget, before FILE and behind it
-budgeted : request_of (codes "check" ∷ codes "--budget" ∷ codes "+07" ∷ codes "f"
-    ∷ codes "--proof=-x" ∷ [])
-    ≡ Some (check (codes "f") (Some (codes "-x")) 7 None false)
-unfolding found_in line_of clap_on_literals
-budgeted = refl
-
-budgeted_is_right : usage_of (codes "check" ∷ codes "--budget" ∷ codes "+07" ∷ codes "f"
-    ∷ codes "--proof=-x" ∷ []) ≡ None
-unfolding is_read line_of clap_on_literals
-budgeted_is_right = refl
-
--- the bounds of a budget
-least_budget : usage_of (codes "check" ∷ codes "f" ∷ codes "--budget=1" ∷ []) ≡ None
-unfolding is_read line_of clap_on_literals
-least_budget = refl
-
-most_budget : usage_of (codes "check" ∷ codes "f" ∷ codes "--budget=4000000000" ∷ []) ≡ None
-unfolding is_read line_of clap_on_literals
-most_budget = refl
-
-no_budget : usage_of (codes "check" ∷ codes "f" ∷ codes "--budget=0" ∷ []) ≡ Some Words
-unfolding is_read line_of clap_on_literals
-no_budget = refl
-
-too_large_a_budget : usage_of (codes "check" ∷ codes "f" ∷ codes "--budget=4000000001" ∷ [])
-    ≡ Some Words
-unfolding is_read line_of clap_on_literals
-too_large_a_budget = refl
-
-minus_budget : usage_of (codes "check" ∷ codes "f" ∷ codes "--budget=-0" ∷ []) ≡ Some Words
-unfolding is_read line_of clap_on_literals
-minus_budget = refl
-
-two_budgets : usage_of (codes "check" ∷ codes "f" ∷ codes "--budget" ∷ codes "5"
-    ∷ codes "--budget" ∷ codes "6" ∷ []) ≡ Some Words
-unfolding is_read line_of clap_on_literals
-two_budgets = refl
+no_checks = refl
 
 -- a text and its certificate
-certified : request_of (codes "verify" ∷ codes "f" ∷ codes "--top=m" ∷ codes "g" ∷ [])
-    ≡ Some (verify (codes "f") (codes "g") (Some (codes "m")))
-unfolding found_in line_of clap_on_literals
-certified = refl
+verifications : AreRead (
+    (codes "verify f --top=m g", verify (codes "f") (codes "g") (Some (codes "m")))
+    ∷ [])
+unfolding found_in is_read line_of clap_on_literals
+verifications = refl
 
-certified_is_right : usage_of (codes "verify" ∷ codes "f" ∷ codes "--top=m" ∷ codes "g" ∷ [])
-    ≡ None
+-- the certificate has to be there and stands alone, and there is no budget
+no_verifications : AreRefused (
+    codes "verify f"
+    ∷ codes "verify f --proof g"
+    ∷ codes "verify f g --budget=5"
+    ∷ [])
 unfolding is_read line_of clap_on_literals
-certified_is_right = refl
+no_verifications = refl
 
-no_certificate : usage_of (codes "verify" ∷ codes "f" ∷ []) ≡ Some Words
+-- a file, and a module of it
+lists : AreRead (
+    (codes "list f", list (codes "f") None)
+    ∷ (codes "list f --top=m", list (codes "f") (Some (codes "m")))
+    ∷ [])
+unfolding found_in is_read line_of clap_on_literals
+lists = refl
+
+-- a list is not JSON, has no level, and is of one file
+no_lists : AreRefused (
+    codes "list f --json"
+    ∷ codes "list f --level L"
+    ∷ codes "list f g"
+    ∷ [])
 unfolding is_read line_of clap_on_literals
-no_certificate = refl
+no_lists = refl
 
--- the certificate of `verify` stands alone, and it has no budget
-no_option : usage_of (codes "verify" ∷ codes "f" ∷ codes "--proof" ∷ codes "g" ∷ []) ≡ Some Words
-unfolding is_read line_of clap_on_literals
-no_option = refl
-
-budget_of_verify : usage_of (codes "verify" ∷ codes "f" ∷ codes "g" ∷ codes "--budget=5" ∷ [])
-    ≡ Some Words
-unfolding is_read line_of clap_on_literals
-budget_of_verify = refl
-
--- a flag stands before FILE or behind it, once at most, and has no value
-as_json : request_of (codes "check" ∷ codes "f" ∷ codes "--json" ∷ [])
-    ≡ Some (check (codes "f") None 20000 None true)
-unfolding found_in line_of clap_on_literals
-as_json = refl
-
-as_json_is_right : usage_of (codes "check" ∷ codes "f" ∷ codes "--json" ∷ []) ≡ None
-unfolding is_read line_of clap_on_literals
-as_json_is_right = refl
-
-as_json_first : request_of (codes "check" ∷ codes "--json" ∷ codes "f" ∷ [])
-    ≡ Some (check (codes "f") None 20000 None true)
-unfolding found_in line_of clap_on_literals
-as_json_first = refl
-
-as_json_first_is_right : usage_of (codes "check" ∷ codes "--json" ∷ codes "f" ∷ []) ≡ None
-unfolding is_read line_of clap_on_literals
-as_json_first_is_right = refl
-
-json_twice : usage_of (codes "check" ∷ codes "f" ∷ codes "--json" ∷ codes "--json" ∷ [])
-    ≡ Some Words
-unfolding is_read line_of clap_on_literals
-json_twice = refl
-
-json_with_nothing : usage_of (codes "check" ∷ codes "f" ∷ codes "--json=" ∷ []) ≡ Some Words
-unfolding is_read line_of clap_on_literals
-json_with_nothing = refl
-
-json_with_a_value : usage_of (codes "check" ∷ codes "f" ∷ codes "--json=true" ∷ []) ≡ Some Words
-unfolding is_read line_of clap_on_literals
-json_with_a_value = refl
-
-json_and_a_word : usage_of (codes "check" ∷ codes "f" ∷ codes "--json" ∷ codes "x" ∷ [])
-    ≡ Some Words
-unfolding is_read line_of clap_on_literals
-json_and_a_word = refl
-
-json_as_a_top : usage_of (codes "check" ∷ codes "f" ∷ codes "--top" ∷ codes "--json" ∷ [])
-    ≡ Some Words
-unfolding is_read line_of clap_on_literals
-json_as_a_top = refl
-
-json_past_options : usage_of (codes "check" ∷ codes "--" ∷ codes "f" ∷ codes "--json" ∷ [])
-    ≡ Some Words
-unfolding is_read line_of clap_on_literals
-json_past_options = refl
-
--- `check` alone has it
-a_list_as_json : usage_of (codes "list" ∷ codes "f" ∷ codes "--json" ∷ []) ≡ Some Words
-unfolding is_read line_of clap_on_literals
-a_list_as_json = refl
-
--- a number may have a `+` and zeros before it, and `-` alone is a name
-numbered : request_of (codes "sim" ∷ codes "--order" ∷ codes "+07" ∷ codes "-" ∷ [])
-    ≡ Some (sim (codes "-") None (Some 7) None)
-unfolding found_in line_of clap_on_literals
-numbered = refl
-
-numbered_is_right : usage_of (codes "sim" ∷ codes "--order" ∷ codes "+07" ∷ codes "-" ∷ []) ≡ None
-unfolding is_read line_of clap_on_literals
-numbered_is_right = refl
-
--- a level is the point that is shown, and neither a top nor an order
-at_a_level : request_of (codes "sim" ∷ codes "f" ∷ codes "--level" ∷ codes "L" ∷ [])
-    ≡ Some (sim (codes "f") (Some (codes "L")) None None)
-unfolding found_in line_of clap_on_literals
-at_a_level = refl
-
-at_a_level_is_right : usage_of (codes "sim" ∷ codes "f" ∷ codes "--level" ∷ codes "L" ∷ []) ≡ None
-unfolding is_read line_of clap_on_literals
-at_a_level_is_right = refl
-
--- a top is the module, and no level
-of_a_top : request_of (codes "sim" ∷ codes "f" ∷ codes "--top" ∷ codes "m" ∷ [])
-    ≡ Some (sim (codes "f") None None (Some (codes "m")))
-unfolding found_in line_of clap_on_literals
-of_a_top = refl
-
-of_a_top_is_right : usage_of (codes "sim" ∷ codes "f" ∷ codes "--top" ∷ codes "m" ∷ []) ≡ None
-unfolding is_read line_of clap_on_literals
-of_a_top_is_right = refl
-
--- all three options, before FILE and behind it
-all_options : request_of (codes "sim" ∷ codes "--order" ∷ codes "1" ∷ codes "f"
-    ∷ codes "--level" ∷ codes "L" ∷ codes "--top" ∷ codes "m" ∷ [])
-    ≡ Some (sim (codes "f") (Some (codes "L")) (Some 1) (Some (codes "m")))
-unfolding found_in line_of clap_on_literals
-all_options = refl
-
-all_options_are_right : usage_of (codes "sim" ∷ codes "--order" ∷ codes "1" ∷ codes "f"
-    ∷ codes "--level" ∷ codes "L" ∷ codes "--top" ∷ codes "m" ∷ []) ≡ None
-unfolding is_read line_of clap_on_literals
-all_options_are_right = refl
-
--- a list of a file, and of a module of it
-listed : request_of (codes "list" ∷ codes "f" ∷ []) ≡ Some (list (codes "f") None)
-unfolding found_in line_of clap_on_literals
-listed = refl
-
-listed_is_right : usage_of (codes "list" ∷ codes "f" ∷ []) ≡ None
-unfolding is_read line_of clap_on_literals
-listed_is_right = refl
-
-listed_of_a_top : request_of (codes "list" ∷ codes "f" ∷ codes "--top=m" ∷ [])
-    ≡ Some (list (codes "f") (Some (codes "m")))
-unfolding found_in line_of clap_on_literals
-listed_of_a_top = refl
-
-listed_of_a_top_is_right : usage_of (codes "list" ∷ codes "f" ∷ codes "--top=m" ∷ []) ≡ None
-unfolding is_read line_of clap_on_literals
-listed_of_a_top_is_right = refl
-
--- the clauses of an obligation
-clauses : request_of (codes "cnf" ∷ codes "f" ∷ codes "7" ∷ []) ≡ Some (cnf (codes "f") 7 None)
-unfolding found_in line_of clap_on_literals
+clauses : AreRead (
+    (codes "cnf f 7", cnf (codes "f") 7 None)
+    -- behind `--` the number may be 0 with a minus
+    ∷ (codes "cnf --top=m -- f -0", cnf (codes "f") 0 (Some (codes "m")))
+    ∷ [])
+unfolding found_in is_read line_of clap_on_literals
 clauses = refl
 
-clauses_are_right : usage_of (codes "cnf" ∷ codes "f" ∷ codes "7" ∷ []) ≡ None
+-- a number below 0, too large a number, and none
+no_clauses : AreRefused (
+    codes "cnf -- f -1"
+    ∷ codes "cnf f 4294967296"
+    ∷ codes "cnf f"
+    ∷ [])
 unfolding is_read line_of clap_on_literals
-clauses_are_right = refl
+no_clauses = refl
 
--- behind `--` the number may be 0 with a minus
-minus_zero : request_of (codes "cnf" ∷ codes "--top=m" ∷ codes "--" ∷ codes "f" ∷ codes "-0" ∷ [])
-    ≡ Some (cnf (codes "f") 0 (Some (codes "m")))
-unfolding found_in line_of clap_on_literals
-minus_zero = refl
+runs : AreRead (
+    -- a number may have a `+` and zeros before it, and `-` alone is a name
+    (codes "sim --order +07 -", sim (codes "-") None (Some 7) None)
+    -- a level is the point that is shown, and neither a top nor an order
+    ∷ (codes "sim f --level L", sim (codes "f") (Some (codes "L")) None None)
+    -- a top is the module, and no level
+    ∷ (codes "sim f --top m", sim (codes "f") None None (Some (codes "m")))
+    -- all three options, before FILE and behind it
+    ∷ (
+      codes "sim --order 1 f --level L --top m",
+      sim (codes "f") (Some (codes "L")) (Some 1) (Some (codes "m")),
+    )
+    ∷ [])
+unfolding found_in is_read line_of clap_on_literals
+runs = refl
 
-minus_zero_is_right : usage_of (codes "cnf" ∷ codes "--top=m" ∷ codes "--" ∷ codes "f"
-    ∷ codes "-0" ∷ []) ≡ None
+too_large_an_order : AreRefused (codes "sim f --order=18446744073709551616" ∷ [])
 unfolding is_read line_of clap_on_literals
-minus_zero_is_right = refl
+too_large_an_order = refl
 
-minus_one : usage_of (codes "cnf" ∷ codes "--" ∷ codes "f" ∷ codes "-1" ∷ []) ≡ Some Words
+-- a text and two stimuli, in this order, and a level, which may be the empty name
+comparisons : AreRead ((
+  codes "compare f a b --level L",
+  compare (codes "f") (codes "a") (codes "b") (codes "L") None,
+)
+    ∷ (
+      codes "compare --level=L f --top=m a -",
+      compare (codes "f") (codes "a") (codes "-") (codes "L") (Some (codes "m")),
+    )
+    ∷ (
+      codes "compare f a b --level=",
+      compare (codes "f") (codes "a") (codes "b") [] None,
+    )
+    ∷ [])
+unfolding found_in is_read line_of clap_on_literals
+comparisons = refl
+
+-- no level, two of them, one stimulus, and three
+no_comparisons : AreRefused (
+    codes "compare f a b"
+    ∷ codes "compare f a b --level=L --level=L"
+    ∷ codes "compare f a --level=L"
+    ∷ codes "compare f a b c --level=L"
+    ∷ [])
 unfolding is_read line_of clap_on_literals
-minus_one = refl
+no_comparisons = refl
 
-too_large_a_number : usage_of (codes "cnf" ∷ codes "f" ∷ codes "4294967296" ∷ []) ≡ Some Words
+-- a sample design, and its verdict; the lanes are any number that a u32 holds
+samples : AreRead (
+    (codes "gen 200", gen 200 false)
+    ∷ (codes "gen --check +01", gen 1 true)
+    ∷ (codes "gen 4294967295", gen 4294967295 false)
+    ∷ (codes "gen -- -0", gen 0 false)
+    ∷ [])
+unfolding found_in is_read line_of clap_on_literals
+samples = refl
+
+no_samples : AreRefused (
+    -- a flag twice and with a value
+    codes "gen 1 --check --check"
+    ∷ codes "gen 1 --check=x"
+    -- no lanes, two numbers of them, and one out of bounds
+    ∷ codes "gen --check"
+    ∷ codes "gen 1 1"
+    ∷ codes "gen 4294967296"
+    ∷ codes "gen -- -1"
+    -- its top is known
+    ∷ codes "gen 1 --top=m"
+    ∷ [])
 unfolding is_read line_of clap_on_literals
-too_large_a_number = refl
+no_samples = refl
 
-no_number : usage_of (codes "cnf" ∷ codes "f" ∷ []) ≡ Some Words
-unfolding is_read line_of clap_on_literals
-no_number = refl
-
--- a list has no level
-list_at_a_level : usage_of (codes "list" ∷ codes "f" ∷ codes "--level" ∷ codes "L" ∷ [])
-    ≡ Some Words
-unfolding is_read line_of clap_on_literals
-list_at_a_level = refl
-
--- a text and two stimuli, in this order, and a level
-compared : request_of (codes "compare" ∷ codes "f" ∷ codes "a" ∷ codes "b" ∷ codes "--level"
-    ∷ codes "L" ∷ []) ≡ Some (compare (codes "f") (codes "a") (codes "b") (codes "L") None)
-unfolding found_in line_of clap_on_literals
-compared = refl
-
-compared_is_right : usage_of (codes "compare" ∷ codes "f" ∷ codes "a" ∷ codes "b" ∷ codes "--level"
-    ∷ codes "L" ∷ []) ≡ None
-unfolding is_read line_of clap_on_literals
-compared_is_right = refl
-
-compared_of_a_top : request_of (codes "compare" ∷ codes "--level=L" ∷ codes "f" ∷ codes "--top=m"
-    ∷ codes "a" ∷ codes "-" ∷ [])
-    ≡ Some (compare (codes "f") (codes "a") (codes "-") (codes "L") (Some (codes "m")))
-unfolding found_in line_of clap_on_literals
-compared_of_a_top = refl
-
-compared_of_a_top_is_right : usage_of (codes "compare" ∷ codes "--level=L" ∷ codes "f"
-    ∷ codes "--top=m" ∷ codes "a" ∷ codes "-" ∷ []) ≡ None
-unfolding is_read line_of clap_on_literals
-compared_of_a_top_is_right = refl
-
--- the level has to be there, and may be the empty name
-compared_at_no_name : request_of (codes "compare" ∷ codes "f" ∷ codes "a" ∷ codes "b"
-    ∷ codes "--level=" ∷ []) ≡ Some (compare (codes "f") (codes "a") (codes "b") [] None)
-unfolding found_in line_of clap_on_literals
-compared_at_no_name = refl
-
-compared_at_no_name_is_right : usage_of (codes "compare" ∷ codes "f" ∷ codes "a" ∷ codes "b"
-    ∷ codes "--level=" ∷ []) ≡ None
-unfolding is_read line_of clap_on_literals
-compared_at_no_name_is_right = refl
-
-compared_at_no_level : usage_of (codes "compare" ∷ codes "f" ∷ codes "a" ∷ codes "b" ∷ [])
-    ≡ Some Words
-unfolding is_read line_of clap_on_literals
-compared_at_no_level = refl
-
-compared_at_two_levels : usage_of (codes "compare" ∷ codes "f" ∷ codes "a" ∷ codes "b"
-    ∷ codes "--level=L" ∷ codes "--level=L" ∷ []) ≡ Some Words
-unfolding is_read line_of clap_on_literals
-compared_at_two_levels = refl
-
-one_stimulus : usage_of (codes "compare" ∷ codes "f" ∷ codes "a" ∷ codes "--level=L" ∷ [])
-    ≡ Some Words
-unfolding is_read line_of clap_on_literals
-one_stimulus = refl
-
-three_stimuli : usage_of (codes "compare" ∷ codes "f" ∷ codes "a" ∷ codes "b" ∷ codes "c"
-    ∷ codes "--level=L" ∷ []) ≡ Some Words
-unfolding is_read line_of clap_on_literals
-three_stimuli = refl
-
--- a sample design, and its verdict
-sample : request_of (codes "gen" ∷ codes "200" ∷ []) ≡ Some (gen 200 false)
-unfolding found_in line_of clap_on_literals
-sample = refl
-
-sample_is_right : usage_of (codes "gen" ∷ codes "200" ∷ []) ≡ None
-unfolding is_read line_of clap_on_literals
-sample_is_right = refl
-
-checked_sample : request_of (codes "gen" ∷ codes "--check" ∷ codes "+01" ∷ []) ≡ Some (gen 1 true)
-unfolding found_in line_of clap_on_literals
-checked_sample = refl
-
-checked_sample_is_right : usage_of (codes "gen" ∷ codes "--check" ∷ codes "+01" ∷ []) ≡ None
-unfolding is_read line_of clap_on_literals
-checked_sample_is_right = refl
-
-checked_twice : usage_of (codes "gen" ∷ codes "1" ∷ codes "--check" ∷ codes "--check" ∷ [])
-    ≡ Some Words
-unfolding is_read line_of clap_on_literals
-checked_twice = refl
-
-checked_with_a_value : usage_of (codes "gen" ∷ codes "1" ∷ codes "--check=x" ∷ []) ≡ Some Words
-unfolding is_read line_of clap_on_literals
-checked_with_a_value = refl
-
-no_lanes : usage_of (codes "gen" ∷ codes "--check" ∷ []) ≡ Some Words
-unfolding is_read line_of clap_on_literals
-no_lanes = refl
-
-lanes_twice : usage_of (codes "gen" ∷ codes "1" ∷ codes "1" ∷ []) ≡ Some Words
-unfolding is_read line_of clap_on_literals
-lanes_twice = refl
-
--- its top is known
-sample_of_a_top : usage_of (codes "gen" ∷ codes "1" ∷ codes "--top=m" ∷ []) ≡ Some Words
-unfolding is_read line_of clap_on_literals
-sample_of_a_top = refl
-
--- the lanes are any number that a u32 holds
-most_lanes : request_of (codes "gen" ∷ codes "4294967295" ∷ []) ≡ Some (gen 4294967295 false)
-unfolding found_in line_of clap_on_literals
-most_lanes = refl
-
-most_lanes_is_right : usage_of (codes "gen" ∷ codes "4294967295" ∷ []) ≡ None
-unfolding is_read line_of clap_on_literals
-most_lanes_is_right = refl
-
-minus_no_lanes : request_of (codes "gen" ∷ codes "--" ∷ codes "-0" ∷ []) ≡ Some (gen 0 false)
-unfolding found_in line_of clap_on_literals
-minus_no_lanes = refl
-
-minus_no_lanes_is_right : usage_of (codes "gen" ∷ codes "--" ∷ codes "-0" ∷ []) ≡ None
-unfolding is_read line_of clap_on_literals
-minus_no_lanes_is_right = refl
-
-too_many_lanes : usage_of (codes "gen" ∷ codes "4294967296" ∷ []) ≡ Some Words
-unfolding is_read line_of clap_on_literals
-too_many_lanes = refl
-
-minus_one_lane : usage_of (codes "gen" ∷ codes "--" ∷ codes "-1" ∷ []) ≡ Some Words
-unfolding is_read line_of clap_on_literals
-minus_one_lane = refl
-
-too_large : usage_of (codes "sim" ∷ codes "f" ∷ codes "--order=18446744073709551616" ∷ [])
-    ≡ Some Words
-unfolding is_read line_of clap_on_literals
-too_large = refl
-
-two_tops : usage_of (codes "check" ∷ codes "f" ∷ codes "--top=m" ∷ codes "--top=m" ∷ [])
-    ≡ Some Words
-unfolding is_read line_of clap_on_literals
-two_tops = refl
-
-two_files : usage_of (codes "list" ∷ codes "f" ∷ codes "g" ∷ []) ≡ Some Words
-unfolding is_read line_of clap_on_literals
-two_files = refl
-
-no_file : usage_of (codes "check" ∷ codes "--top" ∷ codes "m" ∷ []) ≡ Some Words
-unfolding is_read line_of clap_on_literals
-no_file = refl
-
--- `--help` asks for help, and is no word of the command
-helped : help_asked (codes "check" ∷ codes "--help" ∷ []) ≡ Some Check
+-- `--help` asks for help
+helped : map (λ (t : Text). help_asked (words t))
+    (codes "check --help" ∷ codes "compare --help" ∷ codes "gen --help" ∷ [])
+    ≡ Some Check ∷ Some Compare ∷ Some Gen ∷ []
 helped = refl
-
-helped_to_compare : help_asked (codes "compare" ∷ codes "--help" ∷ []) ≡ Some Compare
-helped_to_compare = refl
-
-helped_to_a_sample : help_asked (codes "gen" ∷ codes "--help" ∷ []) ≡ Some Gen
-helped_to_a_sample = refl
-
-help_is_no_word : usage_of (codes "check" ∷ codes "--help" ∷ []) ≡ Some Words
-unfolding is_read line_of clap_on_literals
-help_is_no_word = refl

@@ -1,3 +1,4 @@
+pub mod Added
 pub mod Examples
 pub mod Given
 pub mod Numbers

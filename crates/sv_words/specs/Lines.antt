@@ -64,6 +64,16 @@ greatest = 18446744073709551615
 abbrev pub named : Text → App
 named name = let a = new_app name in record a { top = record a.top { disable_help_flag = true } }
 
+-- the word of a command
+abbrev pub word_of : CommandName → Text
+word_of Check = codes "check"
+word_of Verify = codes "verify"
+word_of ListName = codes "list"
+word_of Cnf = codes "cnf"
+word_of Sim = codes "sim"
+word_of Compare = codes "compare"
+word_of Gen = codes "gen"
+
 -- `check FILE [--proof NAME] [--budget N] [--top M] [--json]`
 abbrev pub check_line : App
 check_line = with_rule (with_rule (with_rule (with_rule (with_rule (named (codes "check"))

@@ -1,10 +1,11 @@
 // The words of each command, as a command of `clap`.
 ghost use Rattle.std.specs.Prelude.{◌≡◌, IfOk, codes, false};
-ghost use Rattle.clap.specs.Words.{app_of, rule_of};
+ghost use Rattle.clap.specs.Words.{app_of, rule_of, with_rule};
 ghost use Rattle.sv_words.specs.Lines.{command_named, line_of, named, needed, needed_number};
 ghost use Rattle.sv_words.specs.Lines.{flag, option, number, small_number, greatest};
 ghost use Rattle.sv_words.specs.Lines.{check_line, verify_line, list_line, cnf_line, sim_line};
 ghost use Rattle.sv_words.specs.Lines.{compare_line, gen_line, greatest_budget, needed_option};
+ghost use Rattle.sv_words.specs.Lines.{word_of};
 
 use crate::command::CommandName;
 use clap::{Arg, ArgAction, value_parser};
@@ -53,136 +54,140 @@ pub fn line_of<'a>(alloc: Global, name: CommandName) -> Result<clap::Command<'a>
 fn check_line<'a>(alloc: Global) -> Result<clap::Command<'a>, AllocError>
     ensures { IfOk result (λ line. app_of line ≡ check_line) }
 {
-    named(
-        alloc,
-        "check",
-        "secv check",
-        "Say whether the labels of a design keep every secret",
-    )?
-    .arg(file_word(alloc))?
-    .arg(text_option(
-        alloc,
-        "proof",
-        "NAME",
-        "Store the certificate of an accepted design in this file",
-    ))?
-    .arg(budget_option(alloc))?
-    .arg(top_option(alloc))?
-    .arg(flag(alloc, "json", "Print the verdict as JSON, on one line"))
+    of_file(alloc, CommandName::Check)?
+        .arg(text_option(
+            alloc,
+            "proof",
+            "NAME",
+            "Store the certificate of an accepted design in this file",
+        ))?
+        .arg(budget_option(alloc))?
+        .arg(top_option(alloc))?
+        .arg(flag(alloc, "json", "Print the verdict as JSON, on one line"))
 }
 
 fn verify_line<'a>(alloc: Global) -> Result<clap::Command<'a>, AllocError>
     ensures { IfOk result (λ line. app_of line ≡ verify_line) }
 {
-    named(
-        alloc,
-        "verify",
-        "secv verify",
-        "Say whether a certificate proves that the labels of a design keep every secret",
-    )?
-    .arg(file_word(alloc))?
-    .arg(text_word(alloc, "PROOF", "The file of the certificate"))?
-    .arg(top_option(alloc))
+    of_file(alloc, CommandName::Verify)?
+        .arg(text_word(alloc, "PROOF", "The file of the certificate"))?
+        .arg(top_option(alloc))
 }
 
 fn list_line<'a>(alloc: Global) -> Result<clap::Command<'a>, AllocError>
     ensures { IfOk result (λ line. app_of line ≡ list_line) }
 {
-    named(
-        alloc,
-        "list",
-        "secv list",
-        "List the obligations of a design, one a line",
-    )?
-    .arg(file_word(alloc))?
-    .arg(top_option(alloc))
+    of_file(alloc, CommandName::List)?.arg(top_option(alloc))
 }
 
 fn cnf_line<'a>(alloc: Global) -> Result<clap::Command<'a>, AllocError>
     ensures { IfOk result (λ line. app_of line ≡ cnf_line) }
 {
-    named(
-        alloc,
-        "cnf",
-        "secv cnf",
-        "Print the clauses of one obligation of a design, as DIMACS",
-    )?
-    .arg(file_word(alloc))?
-    .arg(number_word(alloc, "NUMBER", "The number of the obligation, from 1"))?
-    .arg(top_option(alloc))
+    of_file(alloc, CommandName::Cnf)?
+        .arg(number_word(alloc, "NUMBER", "The number of the obligation, from 1"))?
+        .arg(top_option(alloc))
 }
 
 fn sim_line<'a>(alloc: Global) -> Result<clap::Command<'a>, AllocError>
     ensures { IfOk result (λ line. app_of line ≡ sim_line) }
 {
-    named(
-        alloc,
-        "sim",
-        "secv sim",
-        "Simulate a design on the inputs that standard input gives, cycle by cycle",
-    )?
-    .arg(file_word(alloc))?
-    .arg(text_option(
-        alloc,
-        "level",
-        "POINT",
-        "Show only the signals whose labels flow to this point",
-    ))?
-    .arg(order_option(alloc))?
-    .arg(top_option(alloc))
+    of_file(alloc, CommandName::Sim)?
+        .arg(text_option(
+            alloc,
+            "level",
+            "POINT",
+            "Show only the signals whose labels flow to this point",
+        ))?
+        .arg(order_option(alloc))?
+        .arg(top_option(alloc))
 }
 
 fn compare_line<'a>(alloc: Global) -> Result<clap::Command<'a>, AllocError>
     ensures { IfOk result (λ line. app_of line ≡ compare_line) }
 {
-    named(
-        alloc,
-        "compare",
-        "secv compare",
-        "Run a design on two stimuli and tell the first difference that a level sees",
-    )?
-    .arg(file_word(alloc))?
-    .arg(text_word(alloc, "A", "The file of the first stimulus"))?
-    .arg(text_word(alloc, "B", "The file of the second stimulus"))?
-    .arg(needed_option(
-        alloc,
-        "level",
-        "POINT",
-        "Compare only the signals whose labels flow to this point",
-    ))?
-    .arg(top_option(alloc))
+    of_file(alloc, CommandName::Compare)?
+        .arg(text_word(alloc, "A", "The file of the first stimulus"))?
+        .arg(text_word(alloc, "B", "The file of the second stimulus"))?
+        .arg(needed_option(
+            alloc,
+            "level",
+            "POINT",
+            "Compare only the signals whose labels flow to this point",
+        ))?
+        .arg(top_option(alloc))
 }
 
 fn gen_line<'a>(alloc: Global) -> Result<clap::Command<'a>, AllocError>
     ensures { IfOk result (λ line. app_of line ≡ gen_line) }
 {
-    named(
-        alloc,
-        "gen",
-        "secv gen",
-        "Print a sample design of so many lanes, or check it",
-    )?
-    .arg(number_word(alloc, "LANES", "The number of lanes, 1 to 200"))?
-    .arg(flag(
-        alloc,
-        "check",
-        "Print the verdict on the design, and not the design",
-    ))
+    named(alloc, CommandName::Gen)?
+        .arg(number_word(alloc, "LANES", "The number of lanes, 1 to 200"))?
+        .arg(flag(
+            alloc,
+            "check",
+            "Print the verdict on the design, and not the design",
+        ))
 }
 
-// A command with no words yet, under its name, how it is called, and what it does.
-fn named<'a>(
-    alloc: Global,
-    name: &'a str,
-    call: &str,
-    about: &'a str,
-) -> Result<clap::Command<'a>, AllocError>
-    ensures { IfOk result (λ line. app_of line ≡ named name.entry.now) }
+// A command with no words yet.
+fn named<'a>(alloc: Global, name: CommandName) -> Result<clap::Command<'a>, AllocError>
+    ensures { IfOk result (λ line. app_of line ≡ named (word_of name)) }
 {
-    let line = clap::Command::new(alloc, name)
+    let line = clap::Command::new(alloc, word_of(name))
         .disable_help_flag(true)
-        .bin_name(call)?;
-    Ok(line.about(about))
+        .bin_name(call_of(name))?;
+    Ok(line.about(about_of(name)))
+}
+
+// A command whose first word is a file.
+fn of_file<'a>(alloc: Global, name: CommandName) -> Result<clap::Command<'a>, AllocError>
+    ensures { IfOk result
+        (λ line. app_of line ≡ with_rule (named (word_of name)) (needed (codes "FILE"))) }
+{
+    named(alloc, name)?.arg(file_word(alloc))
+}
+
+fn word_of<'a>(name: CommandName) -> &'a str
+    ensures { result.now ≡ word_of name }
+{
+    match name {
+        CommandName::Check => "check",
+        CommandName::Verify => "verify",
+        CommandName::List => "list",
+        CommandName::Cnf => "cnf",
+        CommandName::Sim => "sim",
+        CommandName::Compare => "compare",
+        CommandName::Gen => "gen",
+    }
+}
+
+// How a command is called.
+fn call_of<'a>(name: CommandName) -> &'a str {
+    match name {
+        CommandName::Check => "secv check",
+        CommandName::Verify => "secv verify",
+        CommandName::List => "secv list",
+        CommandName::Cnf => "secv cnf",
+        CommandName::Sim => "secv sim",
+        CommandName::Compare => "secv compare",
+        CommandName::Gen => "secv gen",
+    }
+}
+
+// What a command does.
+fn about_of<'a>(name: CommandName) -> &'a str {
+    match name {
+        CommandName::Check => "Say whether the labels of a design keep every secret",
+        CommandName::Verify =>
+            "Say whether a certificate proves that the labels of a design keep every secret",
+        CommandName::List => "List the obligations of a design, one a line",
+        CommandName::Cnf => "Print the clauses of one obligation of a design, as DIMACS",
+        CommandName::Sim =>
+            "Simulate a design on the inputs that standard input gives, cycle by cycle",
+        CommandName::Compare =>
+            "Run a design on two stimuli and tell the first difference that a level sees",
+        CommandName::Gen => "Print a sample design of so many lanes, or check it",
+    }
 }
 
 fn file_word<'a>(alloc: Global) -> Arg<'a>

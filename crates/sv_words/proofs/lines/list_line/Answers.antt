@@ -1,10 +1,9 @@
-use Rattle.std.proofs.Common.{◌∙◌, ap₂}
 use Rattle.std.proofs.lemmas.Result.{IfOk-weaker}
-use Rattle.clap.specs.Words.{with_rule}
+use Rattle.sv_words.proofs.Added.{added}
 use Rattle.sv_words.proofs.lines.list_line.Goals as goal
 
 pub returns : goal.returns
-returns c = IfOk-weaker c.arg-2.result _ _ (λ line h. h.shape c.top_option.ensures.local
-    ∙ ap₂ with_rule (c.in_ok-arg.ensures.shape c.file_word.ensures.local
-    ∙ ap₂ with_rule c.in_ok-named.ensures c.file_word.ensures.rule) c.top_option.ensures.rule)
-    c.arg-2.ensures
+returns c = IfOk-weaker c.arg.result _ _ (λ line adds.
+    added adds c.top_option.ensures.local c.top_option.ensures.rule
+    c.in_ok-of_file.ensures)
+    c.arg.ensures

@@ -39,9 +39,6 @@ stays_same : (s : Bool) (m n v : ℕ) → (s ≡ true → false ≡ true) → m 
 stays_same s m n v h wider low =
     sym (unsigned_extended m n v wider low) ∙ ap (λ b. extended b m n v) (sym (taken_unsigned s h))
 
-both_signed : (a b : Bool) → (a && b) ≡ true → (a ≡ true) × (b ≡ true)
-both_signed a b h = and_parts a b h
-
 unary_kept : (op : UnOp) (own m n : ℕ) (signed s kept : Bool) (f : ℕ → Bool → ℕ)
     → (gives_one_bit op || keeps_operand op && kept) ≡ true
     → (s ≡ true → (if gives_one_bit op then false else signed) ≡ true)
@@ -91,12 +88,6 @@ module _ (scope : Scope) (environment : Environment (List ℕ))
       keeps_length s e ≡ true → (s ≡ true → signed_of scope e ≡ true) → length_of scope e ≤ m
       → value scope environment e n s ≡ extended s m n (value scope environment e m s)
 
-  pair_kept : (f : ℕ → ℕ → ℕ) (s : Bool) (m n x y a b : ℕ) → x ≡ extended s m n a
-      → y ≡ extended s m n b
-      → f (extended s m n a) (extended s m n b) ≡ extended s m n (f a b)
-      → f x y ≡ extended s m n (f a b)
-  pair_kept f s m n x y a b p q r = ap (λ z. f z y) p ∙ ap (λ z. f (extended s m n a) z) q ∙ r
-
   -- an unsigned expression whose value is the same at both lengths
   flat_kept : (e : ExpressionTree) (s : Bool) (m n : ℕ) → (s ≡ true → false ≡ true)
       → length_of scope e ≤ m → m ≤ n
@@ -108,38 +99,35 @@ module _ (scope : Scope) (environment : Environment (List ℕ))
     abbrev both : BinOp → ExpressionTree
     both op = binary op p a b
 
+    -- an operator that works bit by bit
+    bits_kept : (f : ℕ → ℕ → ℕ) (s : Bool) → Keeps a s m n → Keeps b s m n
+        → ((x y : ℕ) → x < 2 ^ m → y < 2 ^ m
+        → f (extended s m n x) (extended s m n y) ≡ extended s m n (f x y))
+        → (keeps_length s a && keeps_length s b) ≡ true
+        → (s ≡ true → (signed_of scope a && signed_of scope b) ≡ true)
+        → length_of scope a ≤ m → length_of scope b ≤ m
+        → f (value scope environment a n s) (value scope environment b n s)
+        ≡ extended s m n (f (value scope environment a m s) (value scope environment b m s))
+    bits_kept f s first second same keeps signs left right =
+        let kept = and_parts (keeps_length s a) (keeps_length s b) keeps in
+        let signed = λ (h : s ≡ true). and_parts (signed_of scope a) (signed_of scope b) (signs h) in
+        ap (λ z. f z (value scope environment b n s))
+        (first kept.0 (λ h. (signed h).0) left)
+        ∙ ap (f (extended s m n (value scope environment a m s)))
+        (second kept.1 (λ h. (signed h).1) right)
+        ∙ same _ _ (value_low scope environment a m s left) (value_low scope environment b m s right)
+
     binary_kept : (op : BinOp) (s : Bool) → Keeps a s m n → Keeps b s m n → Keeps (both op) s m n
     unfolding keeps_length value joined_value length_of joined_length signed_of
     binary_kept And s first second keeps signs fits =
-        let kept = and_parts (keeps_length s a) (keeps_length s b) keeps in
-        let left : length_of scope a ≤ m = omega arith in
-        let right : length_of scope b ≤ m = omega arith in
-        pair_kept bit_and s m n _ _ _ _
-        (first kept.0 (λ h. (both_signed (signed_of scope a) (signed_of scope b) (signs h)).0) left)
-        (second kept.1 (λ h. (both_signed (signed_of scope a) (signed_of scope b)
-        (signs h)).1) right)
-        (extended_and s m n _ _ wider (value_low scope environment a m s left)
-        (value_low scope environment b m s right))
+        bits_kept bit_and s first second (λ x y. extended_and s m n x y wider) keeps signs
+        (omega arith) (omega arith)
     binary_kept Or s first second keeps signs fits =
-        let kept = and_parts (keeps_length s a) (keeps_length s b) keeps in
-        let left : length_of scope a ≤ m = omega arith in
-        let right : length_of scope b ≤ m = omega arith in
-        pair_kept bit_or s m n _ _ _ _
-        (first kept.0 (λ h. (both_signed (signed_of scope a) (signed_of scope b) (signs h)).0) left)
-        (second kept.1 (λ h. (both_signed (signed_of scope a) (signed_of scope b)
-        (signs h)).1) right)
-        (extended_or s m n _ _ wider (value_low scope environment a m s left)
-        (value_low scope environment b m s right))
+        bits_kept bit_or s first second (λ x y. extended_or s m n x y wider) keeps signs
+        (omega arith) (omega arith)
     binary_kept Xor s first second keeps signs fits =
-        let kept = and_parts (keeps_length s a) (keeps_length s b) keeps in
-        let left : length_of scope a ≤ m = omega arith in
-        let right : length_of scope b ≤ m = omega arith in
-        pair_kept bit_xor s m n _ _ _ _
-        (first kept.0 (λ h. (both_signed (signed_of scope a) (signed_of scope b) (signs h)).0) left)
-        (second kept.1 (λ h. (both_signed (signed_of scope a) (signed_of scope b)
-        (signs h)).1) right)
-        (extended_xor s m n _ _ wider (value_low scope environment a m s left)
-        (value_low scope environment b m s right))
+        bits_kept bit_xor s first second (λ x y. extended_xor s m n x y wider) keeps signs
+        (omega arith) (omega arith)
     binary_kept Shr true first second keeps signs fits = absurd (cc keeps)
     binary_kept Shr false first second keeps signs fits =
         moved_kept m n _ _ _ (first keeps signs fits) wider
@@ -192,9 +180,9 @@ module _ (scope : Scope) (environment : Environment (List ℕ))
       choice_kept (is_true (value scope environment c (length_of scope c) (signed_of scope c))) s m
       n _ _ _ _
       (kept a s m n numbers.1 wider both_keep.0 (λ h.
-      (both_signed (signed_of scope a) (signed_of scope b) (signs h)).0) (omega arith))
+      (and_parts (signed_of scope a) (signed_of scope b) (signs h)).0) (omega arith))
       (kept b s m n numbers.2 wider both_keep.1 (λ h.
-      (both_signed (signed_of scope a) (signed_of scope b) (signs h)).1) (omega arith))
+      (and_parts (signed_of scope a) (signed_of scope b) (signs h)).1) (omega arith))
   kept (join p es) s m n numbers wider keeps signs fits =
       flat_kept (join p es) s m n signs fits wider
   kept (replication p k es) s m n numbers wider keeps signs fits =

@@ -8,6 +8,7 @@ pub mod PartsGrown
 pub mod PartsItems
 pub mod PartsLinks
 pub mod PartsSettings
+pub mod PartsEntered
 pub mod PartsSites
 pub mod PartsPaths
 pub mod PartsMaps

@@ -2,12 +2,11 @@
 use Rattle.std.proofs.Common.{◌≡◌, ℕ, zero, suc, ◌+◌, ◌<◌, ◌≤◌, true, false, List, []}
 use Rattle.std.proofs.Common.{◌∷◌, ◌++◌, map, length, Option, Some, None, refl, sym, ap, subst, ◌∙◌}
 use Rattle.std.proofs.Common.{arith, ⊎_elim}
-use Rattle.std.specs.Prelude.{not, nat_lt, flat_map, Contains, Ok}
-use Rattle.std.specs.Prelude.{option_map}
+use Rattle.std.specs.Prelude.{flat_map, Contains, Ok}
 use Rattle.std.specs.List.{list_any, filter_map, cons_option, AllZip}
 use Rattle.std.specs.Option.{option_map_or}
 use Rattle.std.specs.Str.{bytes_eq}
-use Rattle.std.proofs.lemmas.Bool.{and_parts, not-true, ltb-true, or_parts}
+use Rattle.std.proofs.lemmas.Bool.{and_parts, or_parts}
 use Rattle.std.proofs.lemmas.Bool.{both_ways}
 use Rattle.std.proofs.lemmas.List.{append-nil, length-append}
 use Rattle.std.proofs.lemmas.List.Concat.{flat_map-append}
@@ -18,32 +17,29 @@ use Rattle.sv_ast.specs.Tree.{parameter_item, declared, memory_item, continuous,
 use Rattle.sv_ast.specs.Tree.{always_item, invariant_item, instance_item, ModuleTree}
 use Rattle.sv_ast.specs.Shape.{is_inner, is_shaped_span, is_shaped_expression}
 use Rattle.sv_ast.specs.Shape.{is_shaped_declaration}
-use Rattle.sv_ast.specs.Instances.{entry, is_empty, module_named, instance_of, instances, settings}
+use Rattle.sv_ast.specs.Instances.{entry, is_empty, instance_of, instances}
 use Rattle.sv_ast.specs.Instances.{all_items}
-use Rattle.sv_ast.specs.Parts.{Path, Part, part_with, within, child, children, parts_from}
+use Rattle.sv_ast.specs.Parts.{Path, Part, child, children, parts_from}
 use Rattle.sv_ast.specs.Parts.{PartSignal, declaration_of, declarations, signals_of}
 use Rattle.sv_ast.specs.Parts.{links_to}
 use Rattle.sv_ast.specs.Processes.{Process, linking}
 use Rattle.sv_flat.specs.Design.{SignalForm}
-use Rattle.sv_elab_rules.specs.Walks.{Walk, done, ask, found}
-use Rattle.sv_elab_rules.specs.Rules.{unknown_module, twice, recursive, too_many}
+use Rattle.sv_elab_rules.specs.Walks.{Walk, done}
 use Rattle.sv_elab_rules.specs.Names.{Names, names_of}
 use Rattle.sv_elab_rules.specs.Declarations.{Site, kind_of, declared_signal, nothing_declared}
 use Rattle.sv_elab_rules.specs.Declarations.{declarations_walk}
 use Rattle.sv_elab_rules.specs.LabelSteps.{SharedTables, label_walk, given_label, labels_walk}
-use Rattle.sv_elab_rules.specs.Overrides.{overrides_walk}
-use Rattle.sv_elab_rules.specs.Links.{Ports, port_number, links_walk}
+use Rattle.sv_elab_rules.specs.Links.{Ports, port_number}
 use Rattle.sv_elab_rules.specs.InstanceSteps.{Built, ports_of, instance_walk, instance_names, item_walk}
 use Rattle.sv_elab_rules.specs.InstanceSteps.{items_from, module_walk, site_walk}
-use Rattle.sv_elab_rules.proofs.WalkLemmas.{parts_done, asked_true, found_some}
+use Rattle.sv_elab_rules.proofs.WalkLemmas.{parts_done}
 use Rattle.sv_elab_laws.proofs.PartsShapes.{IsFlattenedItem, IsFlattenedModule}
 use Rattle.sv_elab_laws.proofs.PartsLists.{StandsAt, stands_split, zip_length, AllDiffer}
 use Rattle.sv_elab_laws.proofs.PartsLists.{contains_left, contains_right, contains_either}
 use Rattle.sv_elab_laws.proofs.PartsBindings.{name_itself}
 use Rattle.sv_elab_laws.proofs.PartsDeclared.{same_ok, walked, forms, form_in}
-use Rattle.sv_elab_laws.proofs.PartsOverrides.{overrides_done, overrides_open}
 use Rattle.sv_elab_laws.proofs.PartsNamed.{IsNamed, IsSound, part_of, site_named, same_scope}
-use Rattle.sv_elab_laws.proofs.PartsNamed.{port_ahead, item_declarations, found_place}
+use Rattle.sv_elab_laws.proofs.PartsNamed.{port_ahead, item_declarations}
 use Rattle.sv_elab_laws.proofs.PartsNamed.{from_filter_map, to_filter_map}
 use Rattle.sv_elab_laws.proofs.PartsPaths.{to_flat_map}
 use Rattle.sv_elab_laws.proofs.PartsGrown.{LabelFound, IsForm, IsFlat, Grown, grown_none, grown_join}
@@ -51,7 +47,7 @@ use Rattle.sv_elab_laws.specs.SideBySide.{item_made, made_from, item_edges, edge
 use Rattle.sv_elab_laws.proofs.PartsGrown.{instance_names_in, ChildrenIn}
 use Rattle.sv_elab_laws.proofs.PartsItems.{value_grown, assign_grown, block_grown, clocked_grown}
 use Rattle.sv_elab_laws.proofs.PartsLinks.{links_done}
-use Rattle.sv_elab_laws.proofs.PartsSettings.{settings_fit}
+use Rattle.sv_elab_laws.proofs.PartsEntered.{inner_site, with_instance, entered}
 
 -- ---- labels
 
@@ -204,67 +200,26 @@ module _ (tables : SharedTables) (sources : List PartSignal) (everything : List 
         (instance_item i))
         (item_edges (edges_from levels tables.modules) tables.modules here (instance_item i))
         × (list_any (bytes_eq i.name) taken ≡ false) × (1 ≤ levels)
-    unfolding instance_walk ports_of
+    unfolding ports_of
     instance_grown taken built next i h many stands within_all =
         let modules = tables.modules in
-        let module_step = parts_done
-        (found (module_named modules i.master) (unknown_module i.place i.master)) _ next h in
-        let m = module_step.0 in
-        let fresh = parts_done
-        (ask (not (list_any (bytes_eq i.name) taken)) (twice i.name_place i.name)) _ next
-        module_step.2 in
-        let apart = parts_done
-        (ask (not (list_any (bytes_eq i.master) site.around)) (recursive i.place i.master)) _
-        next fresh.2 in
-        let room = parts_done (ask (nat_lt built.instances 1024) (too_many i.place)) _ next
-        apart.2 in
-        let setting = parts_done (overrides_walk names m i.overrides) _ next room.2 in
-        let set = setting.0 in
-        let inner : Site = record {
-          path = site.path ++ i.name ∷ [];
-          around = i.master ∷ site.around;
-          master = m;
-          set = set;
-        } in
+        let e = entered tables inside site names taken built next i h in
+        let flattened = fine e.master e.listed in
+        let inner = inner_site site i e.master e.set in
         let ports : Ports = ports_of tables.least inner (length built.signals) in
-        let linked = parts_done (links_walk names ports built.processes i.links) _ next setting.2 in
-        let start : Built = record {
-          signals = built.signals;
-          processes = linked.0;
-          instances = built.instances + 1;
-        } in
+        let start = with_instance built e.processes in
         let q : Part = part_of inner in
-        let found_module : module_named modules i.master ≡ Some m =
-        found_some (module_named modules i.master) (unknown_module i.place i.master) m
-        module_step.1 in
-        let listed : Contains modules m =
-        let place = found_place (λ (x : ModuleTree).
-        bytes_eq i.master x.name) modules m found_module in
-        Rattle.sv_elab_laws.proofs.PartsLists.get_contains modules place.0 m place.2 in
-        let flattened = fine m listed in
-        let set_is : set ≡ settings here.scope m i.overrides =
-        overrides_done names m i.overrides set setting.1
-        ∙ ap (λ s. settings s m i.overrides) named.scope in
-        let child_is : child modules here i ≡ Some q =
-        ap (option_map (λ (x : ModuleTree).
-        part_with (within here i.name) (settings here.scope x i.overrides) x)) found_module
-        ∙ ap (λ s. Some (part_with (within here i.name) s m)) (sym set_is) in
-        let below : built.instances < 1024 =
-        ltb-true built.instances 1024
-        (asked_true (nat_lt built.instances 1024) (too_many i.place) room.1) in
-        let sound : IsSound inner = record {
-          header = flattened.header;
-          open_set = overrides_open names m i.overrides set setting.1;
-          fits = settings_fit names m i.overrides set setting.1;
-        } in
-        let ins = works inner start next linked.2 sound flattened (omega arith) (omega arith)
+        let child_is : child modules here i ≡ Some q = e.is_child named.scope in
+        let below : built.instances < 1024 = e.has_room in
+        let ins = works inner start next e.inside_done (e.sound flattened) flattened (omega arith)
+        (omega arith)
         (subst (λ o. StandsAt sources (length built.signals)
         (flat_map signals_of (option_map_or (parts_from levels modules) o []))) child_is stands)
         (λ r at. within_all r
         (subst (λ o. Contains (option_map_or (parts_from levels modules) o []) r)
         (sym child_is) at)) in
         let links = links_done tables sources everything here q names ins.names named ins.named
-        ports refl ins.ports i built.processes linked.0 linked.1 in
+        ports refl ins.ports i built.processes e.processes e.links_done in
         let grown_links : Grown tables sources everything built start []
         (map linking (links_to here q i)) [] = record {
           forms = [];
@@ -289,9 +244,7 @@ module _ (tables : SharedTables) (sources : List PartSignal) (everything : List 
               (option_map_or (λ r.
               map linking (links_to here r i) ++ made_from levels modules r) o [])
               (option_map_or (edges_from levels modules) o [])) (sym child_is) whole,
-          not-true (list_any (bytes_eq i.name) taken)
-              (asked_true (not (list_any (bytes_eq i.name) taken)) (twice i.name_place i.name)
-              fresh.1),
+          e.is_free,
           omega arith,
         )
 

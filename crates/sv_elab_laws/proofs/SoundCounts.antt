@@ -1,9 +1,7 @@
 -- A design has at most 4,096 signals where the walk of its text ends well.
 use Rattle.std.proofs.Common.{◌≡◌, ℕ, zero, suc, ◌+◌, ◌<◌, ◌≤◌, true, List, [], ◌∷◌, ◌++◌, map}
 use Rattle.std.proofs.Common.{length, Option, Some, None, subst, arith}
-use Rattle.std.specs.Prelude.{not, nat_lt, Ok}
-use Rattle.std.specs.List.{list_any}
-use Rattle.std.specs.Str.{bytes_eq}
+use Rattle.std.specs.Prelude.{not, Ok}
 use Rattle.std.proofs.lemmas.Bool.{ltb-true}
 use Rattle.std.proofs.lemmas.List.{length-append}
 use Rattle.sv_num.specs.declared.faults.Place.{Place}
@@ -12,11 +10,11 @@ use Rattle.sv_ast.specs.Tree.{ExpressionTree, TargetTree, StatementTree, PlacedN
 use Rattle.sv_ast.specs.Tree.{DeclarationTree, ParameterTree, InstanceTree, ItemTree}
 use Rattle.sv_ast.specs.Tree.{parameter_item, declared, memory_item, continuous, released}
 use Rattle.sv_ast.specs.Tree.{always_item, invariant_item, instance_item}
-use Rattle.sv_ast.specs.Instances.{entry, is_signal, module_named, all_items, span_width}
+use Rattle.sv_ast.specs.Instances.{entry, is_signal, all_items, span_width}
 use Rattle.sv_ast.specs.Parts.{declarations}
 use Rattle.sv_flat.specs.Design.{SignalForm}
-use Rattle.sv_elab_rules.specs.Walks.{Walk, ask, found}
-use Rattle.sv_elab_rules.specs.Rules.{unknown_module, unknown_name, twice, recursive, too_many}
+use Rattle.sv_elab_rules.specs.Walks.{Walk, ask}
+use Rattle.sv_elab_rules.specs.Rules.{unknown_name, twice}
 use Rattle.sv_elab_rules.specs.Names.{Names, names_of, names_at, is_bound}
 use Rattle.sv_elab_rules.specs.ExpressionSteps.{expression_walk}
 use Rattle.sv_elab_rules.specs.Targets.{assignment_walk}
@@ -26,14 +24,13 @@ use Rattle.sv_elab_rules.specs.Declarations.{range_steps, override_of, final_wal
 use Rattle.sv_elab_rules.specs.Declarations.{signal_ahead, signal_walk, declaration_walk}
 use Rattle.sv_elab_rules.specs.Declarations.{declarations_walk}
 use Rattle.sv_elab_rules.specs.LabelSteps.{SharedTables, given_label, labels_walk}
-use Rattle.sv_elab_rules.specs.Overrides.{overrides_walk}
-use Rattle.sv_elab_rules.specs.Links.{links_walk}
-use Rattle.sv_elab_rules.specs.InstanceSteps.{Built, ports_of, value_walk, assign_walk, always_walk}
+use Rattle.sv_elab_rules.specs.InstanceSteps.{Built, value_walk, assign_walk, always_walk}
 use Rattle.sv_elab_rules.specs.InstanceSteps.{instance_walk, instance_names, item_walk, items_from}
 use Rattle.sv_elab_rules.specs.InstanceSteps.{module_walk, site_walk}
 use Rattle.sv_elab_rules.proofs.WalkLemmas.{parts_done}
 use Rattle.sv_elab_rules.proofs.DeclarationLemmas.{signal_within}
 use Rattle.sv_elab_laws.proofs.PartsDeclared.{same_ok}
+use Rattle.sv_elab_laws.proofs.PartsEntered.{inner_site, with_instance, entered}
 
 -- ---- declarations
 
@@ -144,34 +141,10 @@ module _ (tables : SharedTables) where
     instance_few : (taken : List (List ℕ)) (built next : Built) (i : InstanceTree)
         → (instance_walk inside tables site names taken built i).end ≡ Ok next → HasFew built
         → HasFew next
-    unfolding instance_walk
     instance_few taken built next i h few =
-        let module_step = parts_done
-        (found (module_named tables.modules i.master) (unknown_module i.place i.master)) _
-        next h in
-        let fresh = parts_done
-        (ask (not (list_any (bytes_eq i.name) taken)) (twice i.name_place i.name)) _ next
-        module_step.2 in
-        let apart = parts_done
-        (ask (not (list_any (bytes_eq i.master) site.around)) (recursive i.place i.master)) _
-        next fresh.2 in
-        let room = parts_done (ask (nat_lt built.instances 1024) (too_many i.place)) _ next
-        apart.2 in
-        let setting = parts_done (overrides_walk names module_step.0 i.overrides) _ next room.2 in
-        let inner : Site = record {
-          path = site.path ++ i.name ∷ [];
-          around = i.master ∷ site.around;
-          master = module_step.0;
-          set = setting.0;
-        } in
-        let linked = parts_done
-        (links_walk names (ports_of tables.least inner (length built.signals)) built.processes
-        i.links) _ next setting.2 in
-        works inner (record {
-          signals = built.signals;
-          processes = linked.0;
-          instances = built.instances + 1;
-        }) next linked.2 few
+        let e = entered tables inside site names taken built next i h in
+        works (inner_site site i e.master e.set) (with_instance built e.processes) next
+        e.inside_done few
 
     item_few : (taken : List (List ℕ)) (built next : Built) (item : ItemTree)
         → (item_walk inside tables site names taken built item).end ≡ Ok next → HasFew built

@@ -1,10 +1,9 @@
 -- In each instance of a text whose walk ends well, what a name stands for has 1 to 64 bits.
 use Rattle.std.proofs.Common.{◌≡◌, ℕ, zero, suc, ◌+◌, true, List, [], ◌∷◌, ◌++◌, map, length, Some}
-use Rattle.std.proofs.Common.{sym, ap, subst, ◌∙◌, ⊎_elim}
-use Rattle.std.specs.Prelude.{not, ◌&&◌, nat_lt, Contains, Ok, IsTrue, option_map}
-use Rattle.std.specs.List.{list_all, list_any}
+use Rattle.std.proofs.Common.{sym, subst, ◌∙◌, ⊎_elim}
+use Rattle.std.specs.Prelude.{◌&&◌, Contains, Ok, IsTrue}
+use Rattle.std.specs.List.{list_all}
 use Rattle.std.specs.Option.{option_map_or}
-use Rattle.std.specs.Str.{bytes_eq}
 use Rattle.std.proofs.lemmas.Bool.{and_parts}
 use Rattle.sv_system.proofs.Lists.{Contains-cases, Contains-nil, Contains-from_map}
 use Rattle.sv_ast.specs.Scopes.{Binding}
@@ -14,30 +13,25 @@ use Rattle.sv_ast.specs.Shape.{is_shaped_span, is_shaped_expression, is_shaped_i
 use Rattle.sv_ast.specs.Shape.{is_shaped_parameter, are_header_parameters, are_ports}
 use Rattle.sv_ast.specs.Shape.{is_shaped_declaration, are_shaped_links, are_shaped_overrides}
 use Rattle.sv_ast.specs.Shape.{is_shaped_module}
-use Rattle.sv_ast.specs.Instances.{module_named, settings, all_items}
-use Rattle.sv_ast.specs.Parts.{Part, part_with, within, child, parts_from, declarations}
+use Rattle.sv_ast.specs.Instances.{all_items}
+use Rattle.sv_ast.specs.Parts.{Part, child, parts_from, declarations}
 use Rattle.sv_flat.proofs.Depths.{from_all}
-use Rattle.sv_elab_rules.specs.Walks.{Walk, ask, found}
-use Rattle.sv_elab_rules.specs.Rules.{unknown_module, twice, recursive, too_many}
+use Rattle.sv_elab_rules.specs.Walks.{Walk}
 use Rattle.sv_elab_rules.specs.Names.{Names, names_of}
 use Rattle.sv_elab_rules.specs.Declarations.{Site, nothing_declared, declarations_walk}
 use Rattle.sv_elab_rules.specs.LabelSteps.{SharedTables, labels_walk}
-use Rattle.sv_elab_rules.specs.Overrides.{overrides_walk}
-use Rattle.sv_elab_rules.specs.Links.{Ports, links_walk}
-use Rattle.sv_elab_rules.specs.InstanceSteps.{Built, ports_of, instance_walk, instance_names, item_walk}
+use Rattle.sv_elab_rules.specs.InstanceSteps.{Built, instance_walk, instance_names, item_walk}
 use Rattle.sv_elab_rules.specs.InstanceSteps.{items_from, module_walk, site_walk}
-use Rattle.sv_elab_rules.proofs.WalkLemmas.{parts_done, found_some}
+use Rattle.sv_elab_rules.proofs.WalkLemmas.{parts_done}
 use Rattle.sv_width.specs.Agreement.{HaveLengths}
 use Rattle.sv_elab_laws.proofs.PartsShapes.{IsFlattenedModule}
 use Rattle.sv_width.specs.WrittenLengths.{ModuleHasLengths}
 use Rattle.sv_elab_laws.proofs.PartsLists.{contains_either}
 use Rattle.sv_elab_laws.proofs.PartsDeclared.{walked}
-use Rattle.sv_elab_laws.proofs.PartsOverrides.{overrides_done, overrides_open}
 use Rattle.sv_elab_laws.proofs.PartsNamed.{IsSound, part_of, same_scope}
-use Rattle.sv_elab_laws.proofs.PartsSettings.{settings_fit}
+use Rattle.sv_elab_laws.proofs.PartsEntered.{inner_site, with_instance, entered}
 use Rattle.sv_elab_laws.proofs.JoinedSources.{inner_parts, inner_instance}
 use Rattle.sv_elab_laws.proofs.SoundSources.{IsGood, item_good}
-use Rattle.sv_elab_laws.proofs.PartsMade.{named_listed}
 use Rattle.sv_elab_laws.proofs.SoundLengths.{SetHasLengths, AreMeasured, declared_long, settings_long}
 
 no_port : (d : DeclarationTree) (p : ParameterTree) → declared d ≡ parameter_item p → ⊥
@@ -97,59 +91,17 @@ module _ (tables : SharedTables)
         → IsGood tables.modules shaped long (instance_item i)
         → (c : Part) → child tables.modules (part_of site) i ≡ Some c
         → (q : Part) → Contains (parts_from levels tables.modules c) q → HaveLengths q.scope
-    unfolding instance_walk ports_of
     instance_long taken built next i h good c is q at =
-        let modules = tables.modules in
-        let here = part_of site in
-        let module_step = parts_done
-        (found (module_named modules i.master) (unknown_module i.place i.master)) _ next h in
-        let m = module_step.0 in
-        let fresh = parts_done
-        (ask (not (list_any (bytes_eq i.name) taken)) (twice i.name_place i.name)) _ next
-        module_step.2 in
-        let apart = parts_done
-        (ask (not (list_any (bytes_eq i.master) site.around)) (recursive i.place i.master)) _
-        next fresh.2 in
-        let room = parts_done (ask (nat_lt built.instances 1024) (too_many i.place)) _ next
-        apart.2 in
-        let setting = parts_done (overrides_walk names m i.overrides) _ next room.2 in
-        let set = setting.0 in
-        let inner : Site = record {
-          path = site.path ++ i.name ∷ [];
-          around = i.master ∷ site.around;
-          master = m;
-          set = set;
-        } in
-        let ports : Ports = ports_of tables.least inner (length built.signals) in
-        let linked = parts_done (links_walk names ports built.processes i.links) _ next setting.2 in
-        let start : Built = record {
-          signals = built.signals;
-          processes = linked.0;
-          instances = built.instances + 1;
-        } in
-        let found_module : module_named modules i.master ≡ Some m =
-        found_some (module_named modules i.master) (unknown_module i.place i.master) m
-        module_step.1 in
-        let listed = named_listed modules i.master m found_module in
-        let set_is : set ≡ settings here.scope m i.overrides =
-        overrides_done names m i.overrides set setting.1
-        ∙ ap (λ s. settings s m i.overrides) scope_is in
-        let child_is : child modules here i ≡ Some (part_of inner) =
-        ap (option_map (λ (x : ModuleTree).
-        part_with (within here i.name) (settings here.scope x i.overrides) x)) found_module
-        ∙ ap (λ s. Some (part_with (within here i.name) s m)) (sym set_is) in
-        let same : Some (part_of inner) ≡ Some c = sym child_is ∙ is in
+        let e = entered tables inside site names taken built next i h in
+        let inner = inner_site site i e.master e.set in
+        let same : Some (part_of inner) ≡ Some c = sym (e.is_child scope_is) ∙ is in
         let c_is : part_of inner ≡ c = cc same in
-        let sound : IsSound inner = record {
-          header = (fine m listed).header;
-          open_set = overrides_open names m i.overrides set setting.1;
-          fits = settings_fit names m i.overrides set setting.1;
-        } in
-        works inner start next linked.2 sound
-        (settings_long names lengths m i.overrides set setting.1
+        works inner (with_instance built e.processes) next e.inside_done
+        (e.sound (fine e.master e.listed))
+        (settings_long names lengths e.master i.overrides e.set e.set_done
         (and_parts (are_shaped_overrides i.overrides) (are_shaped_links i.links) good.0).0
         good.1.0)
-        listed q (subst (λ x. Contains (parts_from levels modules x) q) (sym c_is) at)
+        e.listed q (subst (λ x. Contains (parts_from levels tables.modules x) q) (sym c_is) at)
 
     -- each item is walked
     walked_item : (items : List ItemTree) (item : ItemTree) → Contains items item

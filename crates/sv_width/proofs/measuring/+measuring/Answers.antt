@@ -1,4 +1,4 @@
-use Rattle.std.proofs.Common.{rules, ◌≡◌, ◌+◌, Bool, true, false, drop, refl}
+use Rattle.std.proofs.Common.{rules, ◌≡◌, ℕ, ◌+◌, Bool, true, false, drop, refl}
 use Rattle.std.proofs.Common.{sym, ap, subst, ◌∙◌}
 use Rattle.std.specs.Prelude.{◌&&◌, IsTrue, Result}
 use Rattle.std.proofs.lemmas.Bool.{and_parts}
@@ -24,13 +24,14 @@ use Rattle.sv_width.specs.declared.lookups.Setting.{Setting}
 use Rattle.sv_width.specs.declared.lookups.Setting.TheVariants.{Open, Constant}
 use Rattle.sv_width.specs.declared.measured.Measured.{Measured}
 use Rattle.sv_width.specs.Answers.{IsBreach}
-use Rattle.sv_width.specs.Scopes.{names_of}
+use Rattle.sv_width.specs.Scopes.{Known, names_of}
 use Rattle.sv_width.specs.Settings.{names_in, reach_names, is_constant}
 use Rattle.sv_width.specs.Measured as measured
 use Rattle.sv_width.specs.Measured.{MeasuredTree, MeasuredTrees, more_parts, own_form, measured_of}
 use Rattle.sv_width.specs.Measured.{measured_parts}
 use Rattle.sv_width.specs.Outcomes.{binary_own, replication_steps, IsMeasure}
-use Rattle.sv_width.specs.Outcomes.{IsValue, constant_steps}
+use Rattle.sv_width.specs.Pushed.{divisors_of}
+use Rattle.sv_width.specs.Outcomes.{IsFolded, IsValue, constant_steps}
 use Rattle.sv_width.specs.Outcomes.{constant_index_steps}
 use Rattle.sv_width.specs.Views.{measured_tree, measured_trees, parts_of as measured_row}
 use Rattle.sv_width.proofs.Breaches.{ok_both, ok_weaker, err_weaker}
@@ -83,6 +84,48 @@ steps_in : (r : Reach) (e : ExpressionTree) (f : Fault) → r.setting ≡ Open
     → IsBreach (constant_steps (names_of r.scope.now) e).end f
 steps_in r e f is h =
     subst (λ (x : Setting). IsBreach (constant_steps (names_in x r.scope.now) e).end f) is h
+
+-- a constant at its own length and signedness: what it asks of divisors, and its value
+module _ (setting : Setting) (known : Known) (e : Expr)
+    (shaped : IsTrue (is_shaped_expression (expression_tree e))) (m : Measured)
+    (found : IsMeasure (names_in setting known) true (expression_tree e) m) (n : ℕ) (s : Bool)
+    (width : n ≡ (own_form (measured_tree m)).width)
+    (signed : s ≡ (own_form (measured_tree m)).signed) where
+  constant_divisors : (divisors_of (measured_tree m) n s).end
+      ≡ (own_divisors (names_in setting known).scope (expression_tree e)).end
+  constant_divisors =
+      own_divisors_at (names_in setting known) (setting_lengths setting known) true (λ no.
+      absurd (cc no)) (expression_tree e) shaped (expression_lengths e) found.0 (measured_tree m)
+      found.1 n s width signed
+
+  constant_value : (bits : Bits) → IsFolded (measured_tree m) n s bits
+      → IsValue (names_in setting known) (expression_tree e) bits
+  constant_value bits folded = (
+    found.0,
+    sym constant_divisors ∙ folded.0,
+    value_at_own (names_in setting known) (setting_lengths setting known) true (λ no.
+        absurd (cc no)) (expression_tree e) shaped (expression_lengths e) found.0 (measured_tree m)
+        found.1 n s bits width signed folded,
+  )
+
+  constant_broken : (f : Fault) → IsBreach (divisors_of (measured_tree m) n s).end f
+      → IsBreach (constant_steps (names_in setting known) (expression_tree e)).end f
+  constant_broken f h =
+      breach_after (asked (names_in setting known) true (expression_tree e)) _ tt f found.0
+      (subst (λ (r : Result (Unit {0}) WalkStep). IsBreach r f) constant_divisors h)
+
+-- an index is asked where its value lies
+index_asked : (known : Known) (e : Expr) (width : ℕ) (bits : Bits) (is : Bool)
+    → IsValue (names_of known) (expression_tree e) bits
+    → is ≡ is_below width (whole_of bits)
+    → (constant_index_steps (names_of known) width (expression_tree e)).end
+    ≡ (ask is (bad_select (place_of (expression_tree e)))).end
+index_asked known e width bits is value below =
+    passes_on (asked (names_of known) true (expression_tree e)) _ _ value.0
+    (passes_on (own_divisors (names_of known).scope (expression_tree e)) _ _ value.1
+    (ap (λ (b : Bool). (ask b (bad_select (place_of (expression_tree e)))).end)
+    (sym (below ∙ ap (λ (z : Number). is_below width (as_number z.width z.signed z.value))
+    value.2))))
 
 pub measured-returns-in-Number-clause-found : goal.measured-returns-in-Number-clause-found
 unfolding asked asked_parts measured_of measured_parts length_of joined_length signed_of
@@ -482,110 +525,62 @@ constant_index-returns-in_err-bits-clause-broken t c =
     (breach_first (own_divisors (names_of c.args.scope.now).scope
     (expression_tree c.args.index.now)) _ c.in_err-bits.field-0.0
     (subst (λ (r : Result (Unit {0}) WalkStep). IsBreach r c.in_err-bits.field-0.0)
-    (own_divisors_at (names_of c.args.scope.now) (setting_lengths Constant c.args.scope.now) true
-    (λ e. absurd (cc e)) (expression_tree c.args.index.now) c.requires
-    (expression_lengths c.args.index.now) c.in_ok-operand.ensures.found.0
-    (measured_tree c.in_ok-operand.operand) c.in_ok-operand.ensures.found.1
-    c.own_type.result.width c.own_type.result.signed c.own_type.ensures.width
-    c.own_type.ensures.signed) c.in_err-bits.ensures.broken)))
+    (constant_divisors Constant c.args.scope.now c.args.index.now c.requires
+    c.in_ok-operand.operand c.in_ok-operand.ensures.found c.own_type.result.width
+    c.own_type.result.signed c.own_type.ensures.width c.own_type.ensures.signed)
+    c.in_err-bits.ensures.broken)))
 
 pub constant_index-returns-then-is_below-clause-asked :
     goal.constant_index-returns-then-is_below-clause-asked
 constant_index-returns-then-is_below-clause-asked t c =
-    let value = value_at_own (names_of c.args.scope.now) (setting_lengths Constant c.args.scope.now)
-    true (λ e. absurd (cc e)) (expression_tree c.args.index.now) c.requires
-    (expression_lengths c.args.index.now) c.in_ok-operand.ensures.found.0
-    (measured_tree c.in_ok-operand.operand) c.in_ok-operand.ensures.found.1
-    c.own_type.result.width c.own_type.result.signed c.in_ok-bits.bits c.own_type.ensures.width
-    c.own_type.ensures.signed c.in_ok-bits.ensures.found in
-    let whole = ap (λ (z : Number). as_number z.width z.signed z.value) value in
-    passes_on (asked (names_of c.args.scope.now) true (expression_tree c.args.index.now)) _ _
-    c.in_ok-operand.ensures.found.0
-    (passes_on (own_divisors (names_of c.args.scope.now).scope (expression_tree c.args.index.now)) _
-    _
-    (sym (own_divisors_at (names_of c.args.scope.now) (setting_lengths Constant c.args.scope.now)
-    true (λ e. absurd (cc e)) (expression_tree c.args.index.now) c.requires
-    (expression_lengths c.args.index.now) c.in_ok-operand.ensures.found.0
-    (measured_tree c.in_ok-operand.operand) c.in_ok-operand.ensures.found.1
-    c.own_type.result.width c.own_type.result.signed c.own_type.ensures.width
-    c.own_type.ensures.signed) ∙ c.in_ok-bits.ensures.found.0)
-    (ap (λ (b : Bool). (ask b (bad_select (place_of (expression_tree c.args.index.now)))).end)
-    (sym (ap (λ z. is_below c.args.width z) whole) ∙ sym c.is_below.ensures ∙ c.if-is_below.true)))
+    index_asked c.args.scope.now c.args.index.now c.args.width c.in_ok-bits.bits true
+    (constant_value Constant c.args.scope.now c.args.index.now c.requires c.in_ok-operand.operand
+    c.in_ok-operand.ensures.found c.own_type.result.width c.own_type.result.signed
+    c.own_type.ensures.width c.own_type.ensures.signed c.in_ok-bits.bits c.in_ok-bits.ensures.found)
+    (sym c.if-is_below.true ∙ c.is_below.ensures)
 
 pub constant_index-returns-else-is_below-clause-broken :
     goal.constant_index-returns-else-is_below-clause-broken
 constant_index-returns-else-is_below-clause-broken t c =
-    let value = value_at_own (names_of c.args.scope.now) (setting_lengths Constant c.args.scope.now)
-    true (λ e. absurd (cc e)) (expression_tree c.args.index.now) c.requires
-    (expression_lengths c.args.index.now) c.in_ok-operand.ensures.found.0
-    (measured_tree c.in_ok-operand.operand) c.in_ok-operand.ensures.found.1
-    c.own_type.result.width c.own_type.result.signed c.in_ok-bits.bits c.own_type.ensures.width
-    c.own_type.ensures.signed c.in_ok-bits.ensures.found in
-    let whole = ap (λ (z : Number). as_number z.width z.signed z.value) value in
     c.refusal.ensures (constant_index_steps (names_of c.args.scope.now) c.args.width
     (expression_tree c.args.index.now)).end
-    (passes_on (asked (names_of c.args.scope.now) true (expression_tree c.args.index.now)) _ _
-    c.in_ok-operand.ensures.found.0
-    (passes_on (own_divisors (names_of c.args.scope.now).scope (expression_tree c.args.index.now)) _
-    _
-    (sym (own_divisors_at (names_of c.args.scope.now) (setting_lengths Constant c.args.scope.now)
-    true (λ e. absurd (cc e)) (expression_tree c.args.index.now) c.requires
-    (expression_lengths c.args.index.now) c.in_ok-operand.ensures.found.0
-    (measured_tree c.in_ok-operand.operand) c.in_ok-operand.ensures.found.1
-    c.own_type.result.width c.own_type.result.signed c.own_type.ensures.width
-    c.own_type.ensures.signed) ∙ c.in_ok-bits.ensures.found.0)
-    (ap (λ (b : Bool). (ask b (bad_select (place_of (expression_tree c.args.index.now)))).end)
-    (sym (ap (λ z. is_below c.args.width z) whole) ∙ sym c.is_below.ensures ∙ c.if-is_below.false)
-    ∙ ap (λ (p : Place). (ask false (bad_select p)).end) (sym c.place_of.ensures))))
+    (index_asked c.args.scope.now c.args.index.now c.args.width c.in_ok-bits.bits false
+    (constant_value Constant c.args.scope.now c.args.index.now c.requires c.in_ok-operand.operand
+    c.in_ok-operand.ensures.found c.own_type.result.width c.own_type.result.signed
+    c.own_type.ensures.width c.own_type.ensures.signed c.in_ok-bits.bits c.in_ok-bits.ensures.found)
+    (sym c.if-is_below.false ∙ c.is_below.ensures)
+    ∙ ap (λ (p : Place). (ask false (bad_select p)).end) (sym c.place_of.ensures))
+
+-- what is measured inside a constant
+measured_inside : (r : Reach) (inside : Setting) (e : ExpressionTree) (m : Measured)
+    → names_in inside r.scope.now ≡ reach_names r → is_constant inside ≡ true
+    → IsMeasure (names_in inside r.scope.now) (is_constant inside) e m
+    → IsMeasure (reach_names r) true e m
+measured_inside r inside e m names constant found =
+    subst (λ (n : Names). IsMeasure n true e m) names
+    (subst (λ (b : Bool). IsMeasure (names_in inside r.scope.now) b e m) constant found)
 
 pub measured_constant-returns-clause-found : goal.measured_constant-returns-clause-found
 measured_constant-returns-clause-found t c =
-    let found : IsMeasure (reach_names c.args.reach.now) true
-    (expression_tree c.args.expr.now) c.in_ok-operand.operand = (subst (λ (n : Names).
-    IsMeasure n true (expression_tree c.args.expr.now) c.in_ok-operand.operand)
-    (c.inside.ensures.names c.args.reach.now.scope.now)
-    (subst (λ (b : Bool).
-    IsMeasure (names_in c.inside.result c.args.reach.now.scope.now) b
-    (expression_tree c.args.expr.now) c.in_ok-operand.operand) c.inside.ensures.constant
-    c.in_ok-operand.ensures.found)) in
     ok_weaker c.folded.result _ _
-    (λ bits h. (
-      found.0,
-      sym (own_divisors_at (reach_names c.args.reach.now)
-          (setting_lengths c.args.reach.now.setting c.args.reach.now.scope.now) true (λ e.
-          absurd (cc e)) (expression_tree c.args.expr.now) c.requires
-          (expression_lengths c.args.expr.now) found.0 (measured_tree c.in_ok-operand.operand)
-          found.1 c.own_type.result.width c.own_type.result.signed c.own_type.ensures.width
-          c.own_type.ensures.signed) ∙ h.0,
-      value_at_own (reach_names c.args.reach.now)
-          (setting_lengths c.args.reach.now.setting c.args.reach.now.scope.now) true (λ e.
-          absurd (cc e)) (expression_tree c.args.expr.now) c.requires
-          (expression_lengths c.args.expr.now) found.0 (measured_tree c.in_ok-operand.operand)
-          found.1 c.own_type.result.width c.own_type.result.signed bits c.own_type.ensures.width
-          c.own_type.ensures.signed h,
-    )) c.folded.ensures.found
+    (constant_value c.args.reach.now.setting c.args.reach.now.scope.now c.args.expr.now c.requires
+    c.in_ok-operand.operand
+    (measured_inside c.args.reach.now c.inside.result (expression_tree c.args.expr.now)
+    c.in_ok-operand.operand (c.inside.ensures.names c.args.reach.now.scope.now)
+    c.inside.ensures.constant c.in_ok-operand.ensures.found)
+    c.own_type.result.width c.own_type.result.signed c.own_type.ensures.width
+    c.own_type.ensures.signed) c.folded.ensures.found
 
 pub measured_constant-returns-clause-broken : goal.measured_constant-returns-clause-broken
 measured_constant-returns-clause-broken t c =
-    let found : IsMeasure (reach_names c.args.reach.now) true
-    (expression_tree c.args.expr.now) c.in_ok-operand.operand = (subst (λ (n : Names).
-    IsMeasure n true (expression_tree c.args.expr.now) c.in_ok-operand.operand)
-    (c.inside.ensures.names c.args.reach.now.scope.now)
-    (subst (λ (b : Bool).
-    IsMeasure (names_in c.inside.result c.args.reach.now.scope.now) b
-    (expression_tree c.args.expr.now) c.in_ok-operand.operand) c.inside.ensures.constant
-    c.in_ok-operand.ensures.found)) in
     err_weaker c.folded.result _ _
-    (λ f h. breach_after
-    (asked (reach_names c.args.reach.now) true (expression_tree c.args.expr.now)) _
-    tt f found.0
-    (subst (λ (r : Result (Unit {0}) WalkStep).
-    IsBreach r f) (own_divisors_at (reach_names c.args.reach.now)
-    (setting_lengths c.args.reach.now.setting c.args.reach.now.scope.now) true (λ e.
-    absurd (cc e)) (expression_tree c.args.expr.now) c.requires
-    (expression_lengths c.args.expr.now) found.0 (measured_tree c.in_ok-operand.operand) found.1
+    (constant_broken c.args.reach.now.setting c.args.reach.now.scope.now c.args.expr.now c.requires
+    c.in_ok-operand.operand
+    (measured_inside c.args.reach.now c.inside.result (expression_tree c.args.expr.now)
+    c.in_ok-operand.operand (c.inside.ensures.names c.args.reach.now.scope.now)
+    c.inside.ensures.constant c.in_ok-operand.ensures.found)
     c.own_type.result.width c.own_type.result.signed c.own_type.ensures.width
-    c.own_type.ensures.signed) h)) c.folded.ensures.broken
+    c.own_type.ensures.signed) c.folded.ensures.broken
 
 pub measured_parts-returns-in_err-measured-clause-broken :
     goal.measured_parts-returns-in_err-measured-clause-broken

@@ -1,6 +1,6 @@
 -- The values of constants in a measured expression are those of its source.
 use Rattle.std.proofs.Common.{◌≡◌, ℕ, zero, suc, ◌+◌, ◌-◌, ◌*◌, ◌/◌, ◌%◌, ◌^◌, ◌<◌, ◌≤◌, Bool}
-use Rattle.std.proofs.Common.{true, false, List, refl, sym, ap, subst, ◌∙◌, arith}
+use Rattle.std.proofs.Common.{true, false, List, refl, sym, ap, ap₂, subst, ◌∙◌, arith}
 use Rattle.std.specs.Prelude.{◌&&◌, nat_lt, if◌then◌else◌, Option, Some}
 use Rattle.std.specs.Prelude.{None, IsTrue, ℤ, pos, negsuc, ◌-ℤ◌}
 use Rattle.std.proofs.lemmas.Bool.{and_parts, lt-leb}
@@ -287,20 +287,14 @@ module _ (names : Names) (lengths : HaveLengths names.scope) where
         let stand = operand_lengths (class_of op) n la lb
         (own_length names lengths c known a q.0 shapes.0 numbers.0)
         (own_length names lengths c known b q.1 shapes.1 numbers.1) is fits in
-        ap (λ (o : OwnForm).
-        binary_value op (left_length (class_of op) n o.width (own_form B).width)
-        (left_signed (class_of op) s o.signed (own_form B).signed)
-        (folded_of A (left_length (class_of op) n o.width (own_form B).width)
-        (left_signed (class_of op) s o.signed (own_form B).signed))
-        (folded_of B (right_length (class_of op) n o.width (own_form B).width)
-        (right_signed (class_of op) s o.signed (own_form B).signed))) (own_measured names a)
-        ∙ ap (λ (o : OwnForm).
-        binary_value op (left_length (class_of op) n la o.width)
-        (left_signed (class_of op) s sa o.signed)
-        (folded_of A (left_length (class_of op) n la o.width)
-        (left_signed (class_of op) s sa o.signed))
-        (folded_of B (right_length (class_of op) n la o.width)
-        (right_signed (class_of op) s sa o.signed))) (own_measured names b)
+        ap₂ (λ (x y : OwnForm).
+        binary_value op (left_length (class_of op) n x.width y.width)
+        (left_signed (class_of op) s x.signed y.signed)
+        (folded_of A (left_length (class_of op) n x.width y.width)
+        (left_signed (class_of op) s x.signed y.signed))
+        (folded_of B (right_length (class_of op) n x.width y.width)
+        (right_signed (class_of op) s x.signed y.signed)))
+        (own_measured names a) (own_measured names b)
         ∙ ap (λ x. binary_value op LL LS x (folded_of B RL RS))
         (folded_same c known a q.0 shapes.0 numbers.0 LL LS stand.1 stand.0)
         ∙ ap (λ x. binary_value op LL LS (value names.scope nowhere a LL LS) x)

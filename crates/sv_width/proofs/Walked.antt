@@ -1,6 +1,6 @@
 -- The second walk over a measured expression asks and gives what the walk over its source does.
 use Rattle.std.proofs.Common.{◌≡◌, ℕ, ◌≤◌, Bool, true, false, List, refl, sym, ap, subst}
-use Rattle.std.proofs.Common.{◌∙◌, arith}
+use Rattle.std.proofs.Common.{ap₂, ◌∙◌, arith}
 use Rattle.std.specs.Prelude.{not, ◌&&◌, ◌==◌, Option, Some, None, IsTrue, Result, Ok, Err}
 use Rattle.std.proofs.lemmas.Bool.{and_parts}
 use Rattle.sv_num.specs.declared.faults.Place.{Place}
@@ -247,22 +247,16 @@ module _ (names : Names) (lengths : HaveLengths names.scope) where
         ∙ sym (typed_division names p n s op a b h))
         (λ h. ap (λ x. typed n s x)
         (node_binary (own_of names (binary op p a b)) n s op (place_of b) A B h)
-        ∙ ap (λ (o : OwnForm). typed n s (flat.binary op
-        (typed (left_length (class_of op) n o.width (own_form B).width)
-        (left_signed (class_of op) s o.signed (own_form B).signed)
-        (node_of A (left_length (class_of op) n o.width (own_form B).width)
-        (left_signed (class_of op) s o.signed (own_form B).signed)))
-        (typed (right_length (class_of op) n o.width (own_form B).width)
-        (right_signed (class_of op) s o.signed (own_form B).signed)
-        (node_of B (right_length (class_of op) n o.width (own_form B).width)
-        (right_signed (class_of op) s o.signed (own_form B).signed))))) (own_measured names a)
-        ∙ ap (λ (o : OwnForm). typed n s (flat.binary op
-        (typed (left_length (class_of op) n la o.width) (left_signed (class_of op) s sa o.signed)
-        (node_of A (left_length (class_of op) n la o.width)
-        (left_signed (class_of op) s sa o.signed)))
-        (typed (right_length (class_of op) n la o.width) (right_signed (class_of op) s sa o.signed)
-        (node_of B (right_length (class_of op) n la o.width)
-        (right_signed (class_of op) s sa o.signed))))) (own_measured names b)
+        ∙ ap₂ (λ (x y : OwnForm). typed n s (flat.binary op
+        (typed (left_length (class_of op) n x.width y.width)
+        (left_signed (class_of op) s x.signed y.signed)
+        (node_of A (left_length (class_of op) n x.width y.width)
+        (left_signed (class_of op) s x.signed y.signed)))
+        (typed (right_length (class_of op) n x.width y.width)
+        (right_signed (class_of op) s x.signed y.signed)
+        (node_of B (right_length (class_of op) n x.width y.width)
+        (right_signed (class_of op) s x.signed y.signed)))))
+        (own_measured names a) (own_measured names b)
         ∙ ap (λ t. typed n s (flat.binary op t (typed RL RS (node_of B RL RS))))
         (typed_same c known a q.0 shapes.0 numbers.0 LL LS stand.1 stand.0)
         ∙ ap (λ t. typed n s (flat.binary op (typed_of names a LL LS) t))
@@ -369,21 +363,17 @@ module _ (names : Names) (lengths : HaveLengths names.scope) where
         let RL : ℕ = right_length (class_of op) n la lb in
         let RS : Bool = right_signed (class_of op) s sa sb in
         let lefts : left_at op n A B ≡ LL =
-        ap (λ (o : OwnForm). left_length (class_of op) n o.width (own_form B).width)
-        (own_measured names a)
-        ∙ ap (λ (o : OwnForm). left_length (class_of op) n la o.width) (own_measured names b) in
+        ap₂ (λ (x y : OwnForm). left_length (class_of op) n x.width y.width)
+        (own_measured names a) (own_measured names b) in
         let left_signs : left_as op s A B ≡ LS =
-        ap (λ (o : OwnForm). left_signed (class_of op) s o.signed (own_form B).signed)
-        (own_measured names a)
-        ∙ ap (λ (o : OwnForm). left_signed (class_of op) s sa o.signed) (own_measured names b) in
+        ap₂ (λ (x y : OwnForm). left_signed (class_of op) s x.signed y.signed)
+        (own_measured names a) (own_measured names b) in
         let rights : right_at op n A B ≡ RL =
-        ap (λ (o : OwnForm). right_length (class_of op) n o.width (own_form B).width)
-        (own_measured names a)
-        ∙ ap (λ (o : OwnForm). right_length (class_of op) n la o.width) (own_measured names b) in
+        ap₂ (λ (x y : OwnForm). right_length (class_of op) n x.width y.width)
+        (own_measured names a) (own_measured names b) in
         let right_signs : right_as op s A B ≡ RS =
-        ap (λ (o : OwnForm). right_signed (class_of op) s o.signed (own_form B).signed)
-        (own_measured names a)
-        ∙ ap (λ (o : OwnForm). right_signed (class_of op) s sa o.signed) (own_measured names b) in
+        ap₂ (λ (x y : OwnForm). right_signed (class_of op) s x.signed y.signed)
+        (own_measured names a) (own_measured names b) in
         let stand = operand_lengths (class_of op) n la lb
         (own_length names lengths c known a q.0 shapes.0 numbers.0)
         (own_length names lengths c known b q.1 shapes.1 numbers.1) is fits in

@@ -2,10 +2,9 @@
 -- with the declaration's full name, signedness and place. Scopes play no part in it.
 use Rattle.std.proofs.Common.{◌≡◌, ℕ, zero, suc, ◌+◌, Bool, true, List, [], ◌∷◌, ◌++◌}
 use Rattle.std.proofs.Common.{map, length, Option, Some, None, refl, sym, ap, subst, ◌∙◌}
-use Rattle.std.specs.Prelude.{not, nat_lt, flat_map, option_map, Ok}
-use Rattle.std.specs.List.{list_any, filter_map, cons_option}
+use Rattle.std.specs.Prelude.{flat_map, option_map, Ok}
+use Rattle.std.specs.List.{filter_map, cons_option}
 use Rattle.std.specs.Option.{option_map_or}
-use Rattle.std.specs.Str.{bytes_eq}
 use Rattle.std.proofs.lemmas.List.{append_assoc, append-nil, map-append}
 use Rattle.std.proofs.lemmas.List.Concat.{flat_map-append}
 use Rattle.sv_num.specs.declared.faults.Place.{Place}
@@ -18,22 +17,21 @@ use Rattle.sv_ast.specs.Instances.{module_named, instance_of, settings, all_item
 use Rattle.sv_ast.specs.Parts.{Path, Part, part_with, within, child, parts_from, PartSignal}
 use Rattle.sv_ast.specs.Parts.{declarations, signals_of}
 use Rattle.sv_flat.specs.Design.{SignalForm}
-use Rattle.sv_elab_rules.specs.Walks.{Walk, done, ask, found}
-use Rattle.sv_elab_rules.specs.Rules.{unknown_module, twice, recursive, too_many, unknown_name}
+use Rattle.sv_elab_rules.specs.Walks.{Walk, done, ask}
+use Rattle.sv_elab_rules.specs.Rules.{unknown_name}
 use Rattle.sv_elab_rules.specs.Names.{Names, names_of}
 use Rattle.sv_elab_rules.specs.ExpressionSteps.{expression_walk}
 use Rattle.sv_elab_rules.specs.Targets.{assignment_walk}
 use Rattle.sv_elab_rules.specs.Statements.{statement_walk}
 use Rattle.sv_elab_rules.specs.Declarations.{Site, nothing_declared, declarations_walk}
 use Rattle.sv_elab_rules.specs.LabelSteps.{SharedTables, label_walk, given_label, labels_walk}
-use Rattle.sv_elab_rules.specs.Overrides.{overrides_walk}
-use Rattle.sv_elab_rules.specs.Links.{links_walk}
-use Rattle.sv_elab_rules.specs.InstanceSteps.{Built, ports_of, value_walk, assign_walk, always_walk}
+use Rattle.sv_elab_rules.specs.InstanceSteps.{Built, value_walk, assign_walk, always_walk}
 use Rattle.sv_elab_rules.specs.InstanceSteps.{instance_walk, instance_names, item_walk, items_from}
 use Rattle.sv_elab_rules.specs.InstanceSteps.{module_walk, site_walk}
-use Rattle.sv_elab_rules.proofs.WalkLemmas.{parts_done, found_some}
+use Rattle.sv_elab_rules.proofs.WalkLemmas.{parts_done}
 use Rattle.sv_elab_laws.proofs.PartsDeclared.{same_ok, walked, forms, form_in}
 use Rattle.sv_elab_laws.proofs.PartsNamed.{item_declarations}
+use Rattle.sv_elab_laws.proofs.PartsEntered.{inner_site, with_instance, entered}
 use Rattle.sv_run_laws.specs.Signals.{dotted}
 
 -- full name, signedness and place
@@ -199,41 +197,13 @@ module _ (tables : SharedTables) where
     instance_adds : (taken : List (List ℕ)) (built after : Built) (i : InstanceTree)
         → (instance_walk inside tables site names taken built i).end ≡ Ok after
         → Adds built after (of_item (instance_item i))
-    unfolding instance_walk
     instance_adds taken built after i h =
-        let module_step = parts_done
-        (found (module_named tables.modules i.master) (unknown_module i.place i.master)) _ after
-        h in
-        let m = module_step.0 in
-        let fresh = parts_done
-        (ask (not (list_any (bytes_eq i.name) taken)) (twice i.name_place i.name)) _ after
-        module_step.2 in
-        let apart = parts_done
-        (ask (not (list_any (bytes_eq i.master) site.around)) (recursive i.place i.master)) _
-        after fresh.2 in
-        let room = parts_done (ask (nat_lt built.instances 1024) (too_many i.place)) _ after
-        apart.2 in
-        let setting = parts_done (overrides_walk names m i.overrides) _ after room.2 in
-        let inner : Site = record {
-          path = site.path ++ i.name ∷ [];
-          around = i.master ∷ site.around;
-          master = m;
-          set = setting.0;
-        } in
-        let linked = parts_done
-        (links_walk names (ports_of tables.least inner (length built.signals))
-        built.processes i.links) _ after setting.2 in
-        let start : Built = record {
-          signals = built.signals;
-          processes = linked.0;
-          instances = built.instances + 1;
-        } in
-        let found_module : module_named tables.modules i.master ≡ Some m =
-        found_some (module_named tables.modules i.master) (unknown_module i.place i.master) m
-        module_step.1 in
+        let e = entered tables inside site names taken built after i h in
         subst (λ o. Adds built after
         (option_map_or (plain_from levels tables.modules (site.path ++ i.name ∷ [])) o []))
-        (sym found_module) (adds inner start after linked.2)
+        (sym e.is_found)
+        (adds (inner_site site i e.master e.set) (with_instance built e.processes) after
+        e.inside_done)
 
     item_adds : (taken : List (List ℕ)) (built after : Built) (item : ItemTree)
         → (item_walk inside tables site names taken built item).end ≡ Ok after

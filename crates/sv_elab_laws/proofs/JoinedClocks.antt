@@ -338,25 +338,19 @@ module _ (text : TextTree) (top : Option (List ℕ)) (design : FlatDesign)
       ))
       (link_is side.tables sources (parts text top) l.0 f link)
 
-  in_listed : (a b : ℕ) → lists_pair (links_in design) a b ≡ true →
-      (f : ProcessForm) × Contains design.processes f × (link_in f ≡ Some (a, b))
-  in_listed a b h =
-      let p = lists_to (links_in design) a b h in
-      let f = from_filter_map link_in design.processes p.0 p.1 in
-      (f.0, f.1, f.2 ∙ ap (λ x. Some (x, p.0.1)) p.2 ∙ ap (λ y. Some (a, y)) p.3)
-
-  out_listed : (a b : ℕ) → lists_pair (links_out design) a b ≡ true →
-      (f : ProcessForm) × Contains design.processes f × (link_out f ≡ Some (a, b))
-  out_listed a b h =
-      let p = lists_to (links_out design) a b h in
-      let f = from_filter_map link_out design.processes p.0 p.1 in
+  link_listed : (link : ProcessForm → Option (ℕ × ℕ)) (a b : ℕ)
+      → lists_pair (filter_map link design.processes) a b ≡ true
+      → (f : ProcessForm) × Contains design.processes f × (link f ≡ Some (a, b))
+  link_listed link a b h =
+      let p = lists_to (filter_map link design.processes) a b h in
+      let f = from_filter_map link design.processes p.0 p.1 in
       (f.0, f.1, f.2 ∙ ap (λ x. Some (x, p.0.1)) p.2 ∙ ap (λ y. Some (a, y)) p.3)
 
   made_paired : (a b : ℕ) → makes_clock design a b ≡ true → ArePaired a b
   made_paired a b h = ⊎_elim
       (λ two. ⊎_elim
       (λ x.
-      let f = in_listed a b x in
+      let f = link_listed link_in a b x in
       let l = input_pair f.0 f.1 a b f.2 in
       record {
         first = port_path l.0;
@@ -368,7 +362,7 @@ module _ (text : TextTree) (top : Option (List ℕ)) (design : FlatDesign)
             (first_pair l.0 l.3 l.4);
       })
       (λ x.
-      let f = out_listed b a x in
+      let f = link_listed link_out b a x in
       let l = output_pair f.0 f.1 b a f.2 in
       record {
         first = port_path l.0;
@@ -381,7 +375,7 @@ module _ (text : TextTree) (top : Option (List ℕ)) (design : FlatDesign)
       })
       (or_cases (lists_pair (links_in design) a b) (lists_pair (links_out design) b a) two))
       (λ x.
-      let f = in_listed b a x in
+      let f = link_listed link_in b a x in
       let l = input_pair f.0 f.1 b a f.2 in
       record {
         first = l.3;

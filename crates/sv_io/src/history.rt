@@ -18,9 +18,9 @@ impl Model for Passed {
     ghost also_owns = { λ _. ftrue };
 }
 
-/// Bytes that pass next.
+/// A run of bytes that pass next.
 #[derive(Clone, Copy)]
-pub struct Piece<'a> {
+pub struct ByteRun<'a> {
     pub bytes: &'a [u8],
 }
 
@@ -32,9 +32,9 @@ impl Passed {
         Passed {}
     }
 
-    /// What passed so far, and then the piece.
-    pub fn and(&self, _piece: &Piece<'_>) -> Passed
-        ensures { result.bytes ≡ self.now.bytes ++ _piece.now.bytes.now }
+    /// What passed so far, and then the run of bytes.
+    pub fn and(&self, _run: &ByteRun<'_>) -> Passed
+        ensures { result.bytes ≡ self.now.bytes ++ _run.now.bytes.now }
     {
         Passed {}
     }

@@ -5,7 +5,7 @@ ghost use Rattle.std.specs.Prelude.{IfNone};
 ghost use Rattle.sv_io.specs.Repeated.{repeated};
 
 use super::faults::{Failed, PutFault};
-use super::history::{Passed, Piece};
+use super::history::{ByteRun, Passed};
 use super::pieces::shows_end;
 use super::traits::{Sink, Source};
 
@@ -147,7 +147,7 @@ impl Source for RepeatSource {
     {
         let wanted = self.most.min(buf.len());
         let count = self.fill(&mut buf[..wanted]);
-        self.given = self.given.and(&Piece {
+        self.given = self.given.and(&ByteRun {
             bytes: &buf[..count],
         });
         self.ended = self.ended || shows_end(count, buf);
@@ -198,7 +198,7 @@ impl Sink for TallySink {
         ensures accepted { tally_accepted self.new ≡ tally_accepted self.old ++ piece.now }
     {
         self.count = self.count.saturating_add(piece.len() as u64);
-        self.accepted = self.accepted.and(&Piece { bytes: piece });
+        self.accepted = self.accepted.and(&ByteRun { bytes: piece });
         Ok(piece.len())
     }
 }

@@ -8,7 +8,7 @@ ghost use Rattle.sv_io.specs.Cabinet.{IfAnswered, IfLong};
 ghost use Rattle.sv_io.specs.Count.{Rose};
 
 use super::faults::{Failed, FetchFault, PutFault, StoreFault};
-use super::history::{Call, Exchanges, Passed, Piece};
+use super::history::{ByteRun, Call, Exchanges, Passed};
 use super::pieces::shows_end;
 use super::traits::{Cabinet, Sink, Source};
 use std::alloc::Global;
@@ -291,7 +291,7 @@ impl<R: Read> Source for StdSource<R> {
     {
         match read_some(&mut self.reader, buf) {
             Ok(count) => {
-                self.given = self.given.and(&Piece {
+                self.given = self.given.and(&ByteRun {
                     bytes: &buf[..count],
                 });
                 self.ended = self.ended || shows_end(count, buf);
@@ -389,7 +389,7 @@ impl<W: Write> Sink for StdSink<W> {
     {
         match write_some(&mut self.writer, piece) {
             Ok(count) => {
-                self.accepted = self.accepted.and(&Piece {
+                self.accepted = self.accepted.and(&ByteRun {
                     bytes: &piece[..count],
                 });
                 Ok(count)

@@ -1,4 +1,4 @@
--- `and` is the value of no bytes at which the piece passed too. Assumes `Logic`.
+-- `and` is the value of no bytes at which the run passed too. Assumes `Logic`.
 use Rattle.std.proofs.Common.{List, [], ◌∷◌, ◌++◌, refl}
 use seplogic.Ra.Ura.{Ura}
 use mir.Syntax.{Fn}
@@ -28,7 +28,7 @@ use denote.Triple.Table.{entered}
 use denote.Triple.Walked.{says, Stays, stay_dropped, walk_of, ends_at, walk_Meets, Goes-dropped}
 use Rattle.sv_io.proofs.Walks.{none, none_made}
 use Rattle.sv_io.specs.contracts.history.Passed as Passed
-use Rattle.sv_io.specs.contracts.history.Piece as Piece
+use Rattle.sv_io.specs.contracts.history.ByteRun as ByteRun
 use Rattle.sv_io.specs.contracts.history.Passed.and as F
 use Rattle.sv_io.specs.contracts.history.Passed.and.Key.{name as #self}
 use Rattle.sv_io.proofs.history.Passed.and.Statement as stated
@@ -91,7 +91,7 @@ module _ {M : Type 1} {𝓤 : Ura M} (𝓛 : Logic 𝓤) (at_mem : Memory → SP
             (λ κs x f. refl),
         (
           Goes-dropped 𝓛 3
-              (RefOf (1 ∷ []) tt (plain (λ κs. Piece.the_row (named_lft 3 2 tt κs))) (λ _. tt)) yes
+              (RefOf (1 ∷ []) tt (plain (λ κs. ByteRun.the_row (named_lft 3 2 tt κs))) (λ _. tt)) yes
               (λ κs x f. refl),
           tt,
         ),

@@ -13,6 +13,7 @@ pub mod GrammarOneOperand
 pub mod GrammarOneExpression
 pub mod GrammarOneBefore
 pub mod GrammarLaws
+mod MadeAlike
 mod SyntaxLaws
 mod GrammarExamples
 mod GrammarTexts

@@ -9,11 +9,10 @@ ghost use Rattle.sv_ast.specs.Tree.{MemoryLabelTree, MemoryTree};
 ghost use Rattle.sv_ast.specs.Views.{span_tree, label_tree, declaration_tree, parameter_tree};
 ghost use Rattle.sv_ast.specs.Views.{memory_label_tree, memory_tree};
 
-use crate::copies::Copied;
 use crate::expressions::Expr;
 use crate::shapes::Shaped;
 use std::alloc::{AllocError, Global};
-use sv_num::{Name, Place};
+use sv_num::{Copied, Name, Place};
 use sv_token::Lit;
 
 /// A range, as `[high:low]`.

@@ -5,10 +5,9 @@ ghost use Rattle.sv_ast.specs.Shape.{is_shaped_expression, has_part, are_shaped_
 ghost use Rattle.sv_ast.specs.Tree.{ExpressionTree};
 ghost use Rattle.sv_ast.specs.Views.{expression_tree, expression_trees, parts_of};
 
-use crate::copies::Copied;
 use crate::shapes::Shaped;
 use std::alloc::{AllocError, Global};
-use sv_num::{BinOp, Name, Place, UnOp};
+use sv_num::{BinOp, Copied, Name, Place, UnOp};
 use sv_token::Lit;
 
 /// An expression (IEEE 1364-2005, clause 5). Its place is that of its operator, of its `?`, of its

@@ -15,7 +15,6 @@
 //! `Reach.antt` what its labels are. None is private.
 #![tactic(auto)]
 
-mod copies;
 mod declarations;
 mod expressions;
 mod laws;

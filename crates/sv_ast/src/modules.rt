@@ -4,22 +4,21 @@ ghost use Rattle.std.specs.Option.{option_map};
 ghost use Rattle.sv_ast.specs.Shape.{is_shaped_override, are_shaped_overrides, is_shaped_link};
 ghost use Rattle.sv_ast.specs.Shape.{are_shaped_links, is_shaped_instance};
 ghost use Rattle.sv_ast.specs.Shape.{is_shaped_item, is_shaped_module, is_shaped_map, is_shaped};
-ghost use Rattle.sv_ast.specs.Tree.{PlacedName, NamedOverride, OverrideTrees, NamedLink, LinkTrees};
+ghost use Rattle.sv_ast.specs.Tree.{NamedOverride, OverrideTrees, NamedLink, LinkTrees};
 ghost use Rattle.sv_ast.specs.Tree.{InstanceTree, ItemTree, continuous, released, always_item};
-ghost use Rattle.sv_ast.specs.Tree.{ModuleTree, PairTree, LatticeTree, RowTree, MapTree};
+ghost use Rattle.sv_ast.specs.Tree.{ModuleTree, LatticeTree, MapTree};
 ghost use Rattle.sv_ast.specs.Views.{expression_tree, target_tree, statement_tree};
 ghost use Rattle.sv_ast.specs.Views.{placed_name, named_override, override_trees, named_link};
 ghost use Rattle.sv_ast.specs.Views.{link_trees, instance_tree, item_tree};
-ghost use Rattle.sv_ast.specs.Views.{module_tree, pair_tree, lattice_tree, row_tree, map_tree};
+ghost use Rattle.sv_ast.specs.Views.{module_tree, lattice_tree, row_tree, map_tree};
 ghost use Rattle.sv_ast.specs.Views.{text_tree};
 
-use crate::copies::Copied;
 use crate::declarations::{Decl, Memory, Param, Span, are_header_params, are_ports};
 use crate::expressions::Expr;
 use crate::shapes::Shaped;
 use crate::statements::{Stmt, Target, are_whole_targets};
 use std::alloc::{AllocError, Global};
-use sv_num::{Name, Place};
+use sv_num::{Copied, Name, Place};
 use sv_token::Lit;
 
 /// The parameters that an instance sets: by name, with the place of the name, or by order.
@@ -178,26 +177,6 @@ impl Text {
     }
 }
 
-impl Copied for (Name, Place) {
-    ghost Form = { PlacedName };
-
-    ghost form = { placed_name };
-
-    fn copy(&self, alloc: Global) -> Result<(Name, Place), AllocError> {
-        Ok((self.0.copy(alloc)?, self.1))
-    }
-}
-
-impl Copied for (Name, Place, Expr) {
-    ghost Form = { NamedOverride };
-
-    ghost form = { named_override };
-
-    fn copy(&self, alloc: Global) -> Result<(Name, Place, Expr), AllocError> {
-        Ok((self.0.copy(alloc)?, self.1, self.2.copy(alloc)?))
-    }
-}
-
 impl Copied for Overrides {
     ghost Form = { OverrideTrees };
 
@@ -205,16 +184,6 @@ impl Copied for Overrides {
 
     fn copy(&self, alloc: Global) -> Result<Overrides, AllocError> {
         Overrides::copy(self, alloc)
-    }
-}
-
-impl Copied for (Name, Place, Option<Expr>) {
-    ghost Form = { NamedLink };
-
-    ghost form = { named_link };
-
-    fn copy(&self, alloc: Global) -> Result<(Name, Place, Option<Expr>), AllocError> {
-        Ok((self.0.copy(alloc)?, self.1, self.2.copy(alloc)?))
     }
 }
 
@@ -288,6 +257,19 @@ fn release_copy(
     })
 }
 
+// A second clock that is equal, where there is one.
+fn clock_copy(
+    clock: &Option<(Name, Place)>,
+    alloc: Global,
+) -> Result<Option<(Name, Place)>, AllocError>
+    ensures { IfOk result (λ copy. option_map placed_name copy ≡ option_map placed_name clock.now) }
+{
+    match clock {
+        Some(clock) => Ok(Some((clock.0.copy(alloc)?, clock.1))),
+        None => Ok(None),
+    }
+}
+
 // A second `always` that is equal.
 fn always_copy(
     place: Place,
@@ -301,7 +283,7 @@ fn always_copy(
 {
     Ok(Item::Always {
         place,
-        clock: clock.copy(alloc)?,
+        clock: clock_copy(clock, alloc)?,
         body: body.copy(alloc)?,
     })
 }
@@ -345,16 +327,6 @@ impl Copied for Module {
     }
 }
 
-impl Copied for (Name, Place, Name, Place) {
-    ghost Form = { PairTree };
-
-    ghost form = { pair_tree };
-
-    fn copy(&self, alloc: Global) -> Result<(Name, Place, Name, Place), AllocError> {
-        Ok((self.0.copy(alloc)?, self.1, self.2.copy(alloc)?, self.3))
-    }
-}
-
 impl Copied for LatticeText {
     ghost Form = { LatticeTree };
 
@@ -369,14 +341,15 @@ impl Copied for LatticeText {
     }
 }
 
-impl Copied for MapRow {
-    ghost Form = { RowTree };
-
-    ghost form = { row_tree };
-
-    fn copy(&self, alloc: Global) -> Result<MapRow, AllocError> {
-        Ok((self.0, self.1, self.2, self.3.copy(alloc)?))
+// A copy of each row, in order.
+fn rows_copy(rows: &[MapRow], alloc: Global) -> Result<Vec<MapRow>, AllocError>
+    ensures { IfOk result (λ copies. map row_tree copies.items ≡ map row_tree rows.now) }
+{
+    let mut copies = Vec::with_capacity(alloc, rows.len())?;
+    for row in rows {
+        copies.push((row.0, row.1, row.2, row.3.copy(alloc)?))?;
     }
+    Ok(copies)
 }
 
 impl Copied for MapText {
@@ -389,7 +362,7 @@ impl Copied for MapText {
             name: self.name.copy(alloc)?,
             place: self.place,
             other: self.other.copy(alloc)?,
-            rows: self.rows.copy(alloc)?,
+            rows: rows_copy(&self.rows, alloc)?,
             span: self.span.copy(alloc)?,
             second: self.second.copy(alloc)?,
         })

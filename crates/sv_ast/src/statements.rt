@@ -11,11 +11,10 @@ ghost use Rattle.sv_ast.specs.Views.{expression_tree, selection_of, target_tree,
 ghost use Rattle.sv_ast.specs.Views.{statement_trees};
 ghost use Rattle.sv_ast.specs.Views.{statements_of, arm_tree, arm_trees, arms_of};
 
-use crate::copies::Copied;
 use crate::expressions::Expr;
 use crate::shapes::Shaped;
 use std::alloc::{AllocError, Global};
-use sv_num::{Name, Place};
+use sv_num::{Copied, Name, Place};
 
 /// Which bits of a signal an assignment changes.
 #[derive(Debug, Drop)]

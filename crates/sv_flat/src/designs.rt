@@ -1,15 +1,14 @@
 // Whole designs.
-ghost use Rattle.std.specs.Prelude.{◌≡◌, IfOk};
-ghost use Rattle.sv_flat.specs.Design.{ProcessForm, InvariantForm};
+ghost use Rattle.std.specs.Prelude.{◌≡◌, map, IfOk};
+ghost use Rattle.sv_flat.specs.Design.{ProcessForm};
 ghost use Rattle.sv_flat.specs.Views.{process_form, invariant_form, design_of};
 
-use crate::copies::Copied;
 use crate::expressions::FExpr;
 use crate::signals::{SigId, Signal};
 use crate::statements::FStmt;
 use std::alloc::{AllocError, Global};
 use sv_lattice::{LabelMap, Lattice, Point};
-use sv_num::{Name, Place};
+use sv_num::{Copied, Name, Place};
 
 /// What a process is.
 #[derive(Clone, Copy, Debug, PartialEq, Eq)]
@@ -72,14 +71,30 @@ impl Copied for Process {
     }
 }
 
-impl Copied for (Place, FExpr) {
-    ghost Form = { InvariantForm };
-
-    ghost form = { invariant_form };
-
-    fn copy(&self, alloc: Global) -> Result<(Place, FExpr), AllocError> {
-        Ok((self.0, self.1.copy(alloc)?))
+// A copy of each map, in order.
+fn maps_copy(maps: &[LabelMap], alloc: Global) -> Result<Vec<LabelMap>, AllocError>
+    ensures { IfOk result (λ copies. copies.items ≡ maps.now) }
+{
+    let mut copies = Vec::with_capacity(alloc, maps.len())?;
+    for map in maps {
+        copies.push(map.copy(alloc)?)?;
     }
+    Ok(copies)
+}
+
+// A copy of each invariant, in order.
+fn invariants_copy(
+    invariants: &[(Place, FExpr)],
+    alloc: Global,
+) -> Result<Vec<(Place, FExpr)>, AllocError>
+    ensures { IfOk result (λ copies.
+        map invariant_form copies.items ≡ map invariant_form invariants.now) }
+{
+    let mut copies = Vec::with_capacity(alloc, invariants.len())?;
+    for invariant in invariants {
+        copies.push((invariant.0, invariant.1.copy(alloc)?))?;
+    }
+    Ok(copies)
 }
 
 impl Flat {
@@ -92,8 +107,8 @@ impl Flat {
             processes: self.processes.copy(alloc)?,
             lattice: self.lattice.copy(alloc)?,
             points: self.points.copy(alloc)?,
-            maps: self.maps.copy(alloc)?,
-            invariants: self.invariants.copy(alloc)?,
+            maps: maps_copy(&self.maps, alloc)?,
+            invariants: invariants_copy(&self.invariants, alloc)?,
         })
     }
 }

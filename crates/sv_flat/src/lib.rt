@@ -20,7 +20,6 @@
 
 mod bits;
 mod constants;
-mod copies;
 mod designs;
 mod expressions;
 mod laws;

@@ -3,10 +3,9 @@ ghost use Rattle.std.specs.Prelude.{◌≡◌, IfOk};
 ghost use Rattle.sv_flat.specs.Design.{SignalForm};
 ghost use Rattle.sv_flat.specs.Views.{signal_form};
 
-use crate::copies::Copied;
 use std::alloc::{AllocError, Global};
 use sv_lattice::Label;
-use sv_num::{Name, Place};
+use sv_num::{Copied, Name, Place};
 
 /// A signal by its number in signal order, from 0.
 #[derive(Clone, Copy, Debug, PartialEq, Eq)]

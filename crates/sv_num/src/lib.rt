@@ -1,11 +1,11 @@
-//! The base of every layer: places in a text, names, rules, refusals, and values of a length and
-//! signedness with their operators.
+//! The base of every layer: places in a text, names, rules, refusals, what is copied, and values of
+//! a length and signedness with their operators.
 //!
 //! Takes bytes for names, and a length, a signedness and a number for values. Gives names that own
 //! their bytes and compare by them, and what each operator makes of values; promises that this is
 //! the value of the standard at every length up to 64 bits, signed and unsigned, and that the two
 //! tables of operators are whole. A contract sees a [`Name`] as the list of its bytes, and
-//! everything else here as its fields.
+//! everything else here as its fields; a type that is [`Copied`] says in which form it is compared.
 //!
 //! `specs/Vectors.antt` says what values are, `Parts.antt` what their parts and extensions are,
 //! `BinaryValues.antt` and `UnaryValues.antt` what the operators give, over whole numbers,
@@ -14,6 +14,7 @@
 #![tactic(auto)]
 
 mod binary;
+mod copies;
 mod faults;
 mod low_bits;
 mod names;
@@ -25,6 +26,7 @@ mod unary;
 mod vectors;
 
 pub use binary::apply_binary;
+pub use copies::Copied;
 pub use faults::{Fault, Place, Refusal};
 pub use names::Name;
 pub use operator_tables::{BINARY, BinRow, UNARY, UnRow, find, find_unary, tables_are_whole};

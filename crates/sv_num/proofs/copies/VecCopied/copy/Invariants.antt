@@ -1,5 +1,5 @@
 use Rattle.std.proofs.Common.{◌≡◌, ◌++◌, map, drop}
-use Rattle.sv_flat.proofs.copies.VecCopied.copy.Given as goal
+use Rattle.sv_num.proofs.copies.VecCopied.copy.Given as goal
 
 -- the copies so far and the items that are left have the plain forms of all
 abbrev pub invariant-loop-item : goal.invariant-loop-item

@@ -19,7 +19,7 @@ use Rattle.sv_parse_machine.specs.Reads.{failure_at}
 use Rattle.sv_parse_machine.specs.Verdict.{rule_number, rule_names, rule_place}
 use Rattle.sv_parse_machine.proofs.Walks.{where_run_fails}
 use Rattle.sv_parse_machine.proofs.Breaks.{failure_breaks}
-use Rattle.sv_parse_expr.specs.declared.stop.Breach.{Breach}
+use Rattle.sv_parse_expr.specs.declared.stop.GrammarBreach.{GrammarBreach}
 use Rattle.sv_parse_expr.specs.declared.stop.Stop.{Stop}
 use Rattle.sv_parse_expr.specs.declared.stop.Stop.TheVariants as stops
 use Rattle.sv_parse_expr.specs.Expectations.{failure_of, HaltsAs, RefusesAt}
@@ -95,7 +95,7 @@ tokens_left ts before rest n parts count =
 
 -- where the run over the whole text fails, and the fault says what is broken there
 pub failing_is_refused :
-    (bytes : List ℕ) (tokens : List Token) (breach : Breach) (left : ℕ) (stop : Place)
+    (bytes : List ℕ) (tokens : List Token) (breach : GrammarBreach) (left : ℕ) (stop : Place)
     (fault : Fault)
     → Fails text_state (placed_tokens bytes tokens) (failure_of breach) left
     → RefusesAt fault (failure_of breach) stop

@@ -3,8 +3,8 @@ use Rattle.std.proofs.Common.{◌≡◌, ℕ, List, ◌++◌, length, sym, ap, �
 use Rattle.std.specs.Prelude.{Result, Ok, Err, IfErr, IsErrAnd}
 use Rattle.sv_token.specs.declared.tokens.Token.{Token}
 use Rattle.sv_token.specs.Lexemes.{Placed, placed_tokens}
-use Rattle.sv_parse_expr.specs.declared.stop.Breach.{Breach}
-use Rattle.sv_parse_expr.specs.declared.stop.Breach.TheVariants.{Stuck}
+use Rattle.sv_parse_expr.specs.declared.stop.GrammarBreach.{GrammarBreach}
+use Rattle.sv_parse_expr.specs.declared.stop.GrammarBreach.TheVariants.{Stuck}
 use Rattle.sv_parse_expr.specs.declared.stop.Expected.TheVariants as code_expected
 use Rattle.sv_parse_expr.specs.declared.stop.Stop.{Stop}
 use Rattle.sv_parse_expr.specs.declared.stop.Stop.TheVariants as stops
@@ -34,7 +34,8 @@ pub stops_without_memory : (xs : State) (ts : List Placed) (stop : Stop) →
 stops_without_memory xs ts stop is = subst (λ (s : Stop). HaltsAs xs ts s) (sym is) tt
 
 -- a breach at the first of the tokens
-pub stops_here : (bytes : List ℕ) (tokens : List Token) (xs : State) (breach : Breach) (stop : Stop)
+pub stops_here : (bytes : List ℕ) (tokens : List Token) (xs : State) (breach : GrammarBreach)
+    (stop : Stop)
     → Halts xs (placed_tokens bytes tokens) (failure_of breach)
     (length (placed_tokens bytes tokens))
     → stop ≡ stops.Broken breach (length tokens) → HaltsAs xs (placed_tokens bytes tokens) stop
@@ -50,7 +51,7 @@ pub stops_by : (bytes : List ℕ) (tokens : List Token) (xs : State) (P : Type 0
     → StopsAt tokens P stop → HaltsAs xs (placed_tokens bytes tokens) stop
 stops_by bytes tokens xs P (stops.Broken breach left) is at =
     stops_here bytes tokens xs (Stuck code_expected.Something) (stops.Broken breach left) (is at.0)
-    (ap (λ (b : Breach). stops.Broken b left) at.1
+    (ap (λ (b : GrammarBreach). stops.Broken b left) at.1
     ∙ ap (λ (n : ℕ). stops.Broken (Stuck code_expected.Something) n) at.2)
 stops_by bytes tokens xs P stops.OutOfMemory is at = tt
 

@@ -17,7 +17,7 @@ use Rattle.sv_ast.specs.GrammarForms.{binary_operator, unary_operator, sign_at, 
 use Rattle.sv_ast.specs.GrammarForms.{unary_at, name_at}
 use Rattle.sv_ast.specs.GrammarGroups.{precedence_of}
 use Rattle.sv_ast.specs.GrammarRules.{all_limits}
-use Rattle.sv_parse_expr.specs.declared.stop.Breach.TheVariants.{TooDeep, TooLong}
+use Rattle.sv_parse_expr.specs.declared.stop.GrammarBreach.TheVariants.{TooDeep, TooLong}
 use Rattle.sv_parse_expr.specs.declared.stop.Stop.{Stop}
 use Rattle.sv_parse_expr.specs.declared.stop.Stop.TheVariants as stops
 use Rattle.sv_parse_machine.specs.Symbols.{Inner, operand, tail, selection, selection_end}

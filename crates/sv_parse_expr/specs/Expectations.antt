@@ -11,8 +11,8 @@ use Rattle.sv_parse_expr.specs.declared.forms.Part.{Part as CodePart}
 use Rattle.sv_parse_expr.specs.declared.forms.Part.TheVariants as code_part
 use Rattle.sv_parse_expr.specs.declared.stop.Expected.{Expected as CodeExpected}
 use Rattle.sv_parse_expr.specs.declared.stop.Expected.TheVariants as code_expected
-use Rattle.sv_parse_expr.specs.declared.stop.Breach.{Breach}
-use Rattle.sv_parse_expr.specs.declared.stop.Breach.TheVariants.{Stuck, TooDeep, TooLong}
+use Rattle.sv_parse_expr.specs.declared.stop.GrammarBreach.{GrammarBreach}
+use Rattle.sv_parse_expr.specs.declared.stop.GrammarBreach.TheVariants.{Stuck, TooDeep, TooLong}
 use Rattle.sv_parse_expr.specs.declared.stop.Stop.{Stop}
 use Rattle.sv_parse_expr.specs.declared.stop.Stop.TheVariants as stops
 use Rattle.sv_parse_machine.specs.Symbols.{State, Expected, something, an_item, a_statement, an_edge}
@@ -29,7 +29,7 @@ expected_of code_expected.Edge = an_edge
 expected_of code_expected.Port = a_port
 expected_of code_expected.BehindName = behind_name
 
-abbrev pub failure_of : Breach → Failure
+abbrev pub failure_of : GrammarBreach → Failure
 failure_of (Stuck e) = stuck_at (expected_of e)
 failure_of TooDeep = too_deep
 failure_of TooLong = too_long

@@ -12,22 +12,22 @@ ghost use Rattle.sv_parse_expr.specs.Expectations.{StopsAt};
 ghost use Rattle.sv_parse_expr.specs.Parses.{Stands, Comes, GivesAs, HaltsOn};
 
 use crate::refused_words::is_refused;
-use crate::stop::{Breach, Expected, Read, Stop};
+use crate::stop::{Expected, GrammarBreach, Read, Stop};
 use std::alloc::Global;
 use sv_num::{Name, Place};
 use sv_token::{Lit, SignKind, Token, TokenKind, WordKind};
 
 /// The stop at the first token that is left, with which no text goes on.
 pub fn stuck(expected: Expected, tokens: &[Token]) -> Stop
-    ensures { result ≡ Stop.Broken (Breach.Stuck expected) (length tokens.now) }
+    ensures { result ≡ Stop.Broken (GrammarBreach.Stuck expected) (length tokens.now) }
 {
-    Stop::Broken(Breach::Stuck(expected), tokens.len())
+    Stop::Broken(GrammarBreach::Stuck(expected), tokens.len())
 }
 
 /// The stop at the first token that is left, where nothing may begin that a form which is left out
 /// could stand for.
 pub fn unexpected(tokens: &[Token]) -> Stop
-    ensures { result ≡ Stop.Broken (Breach.Stuck Expected.Something) (length tokens.now) }
+    ensures { result ≡ Stop.Broken (GrammarBreach.Stuck Expected.Something) (length tokens.now) }
 {
     stuck(Expected::Something, tokens)
 }

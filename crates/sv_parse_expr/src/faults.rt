@@ -10,7 +10,7 @@ ghost use Rattle.sv_parse_machine.specs.Machine.{stuck_at};
 ghost use Rattle.sv_parse_expr.specs.Expectations.{expected_of, failure_of, RefusesAt};
 
 use crate::forms::word_at;
-use crate::stop::{Breach, Expected};
+use crate::stop::{Expected, GrammarBreach};
 use std::alloc::{AllocError, Global};
 use sv_num::{Fault, Name, Place, Rule};
 use sv_token::{Token, next_place};
@@ -65,7 +65,7 @@ fn stuck_at(
 fn broken_at(
     alloc: Global,
     bytes: &[u8],
-    breach: Breach,
+    breach: GrammarBreach,
     before: &[Token],
     token: Token,
     after: &[Token],
@@ -75,9 +75,9 @@ fn broken_at(
         (placed_tokens bytes.now before.now) (placed_tokens bytes.now (token ∷ after.now))) }
 {
     match breach {
-        Breach::Stuck(expected) => stuck_at(alloc, bytes, expected, before, token, after),
-        Breach::TooDeep => Ok(nameless(alloc, Rule::TooDeep, token.place)),
-        Breach::TooLong => Ok(nameless(alloc, Rule::TooLong, token.place)),
+        GrammarBreach::Stuck(expected) => stuck_at(alloc, bytes, expected, before, token, after),
+        GrammarBreach::TooDeep => Ok(nameless(alloc, Rule::TooDeep, token.place)),
+        GrammarBreach::TooLong => Ok(nameless(alloc, Rule::TooLong, token.place)),
     }
 }
 
@@ -88,7 +88,7 @@ pub fn broken(
     alloc: Global,
     bytes: &[u8],
     tokens: &[Token],
-    breach: Breach,
+    breach: GrammarBreach,
     left: usize,
 ) -> Result<Fault, AllocError>
     requires { length bytes.now < 2 ^ 32 - 1 }

@@ -8,7 +8,7 @@ ghost use Rattle.sv_parse_machine.specs.Reads.{Reads, NextTakes, Closes};
 ghost use Rattle.sv_parse_expr.specs.Parses.{Stands, HaltsBy};
 
 use crate::cursor::expect_sign;
-use crate::stop::{Breach, Stop};
+use crate::stop::{GrammarBreach, Stop};
 use sv_token::{SignKind, Token};
 
 /// How many levels may be open at once.
@@ -24,13 +24,13 @@ pub const MOST_ARMS: usize = 256;
 pub fn deeper(levels: usize, tokens: &[Token]) -> Result<usize, Stop>
     ensures is { IfOk result (λ inside. inside ≡ levels + 1) }
     ensures within { IfOk result (λ inside. inside ≤ 64) }
-    ensures stops { IfErr result (λ e. e ≡ Stop.Broken Breach.TooDeep (length tokens.now)) }
+    ensures stops { IfErr result (λ e. e ≡ Stop.Broken GrammarBreach.TooDeep (length tokens.now)) }
     ensures deep { IfErr result (λ e. 64 < levels + 1) }
 {
     if levels < MOST_LEVELS {
         Ok(levels + 1)
     } else {
-        Err(Stop::Broken(Breach::TooDeep, tokens.len()))
+        Err(Stop::Broken(GrammarBreach::TooDeep, tokens.len()))
     }
 }
 
@@ -68,7 +68,8 @@ impl Room {
     /// Nothing, where the first token that is left may still belong to the expression.
     pub fn count(self, tokens: &[Token]) -> Result<(), Stop>
         ensures counted { OnOk result (self.beyond < length tokens.now) }
-        ensures stops { IfErr result (λ e. e ≡ Stop.Broken Breach.TooLong (length tokens.now)) }
+        ensures stops { IfErr result
+            (λ e. e ≡ Stop.Broken GrammarBreach.TooLong (length tokens.now)) }
         ensures long { IfErr result (λ e. length tokens.now ≤ self.beyond) }
         ensures halts { (bytes : List ℕ) (start : ℕ) (s : Inner) (xs : List Inner) →
             self.beyond ≡ start - 1024 → NextTakes s 0 xs (placed_tokens bytes tokens.now) →
@@ -77,7 +78,7 @@ impl Room {
         if self.beyond < tokens.len() {
             Ok(())
         } else {
-            Err(Stop::Broken(Breach::TooLong, tokens.len()))
+            Err(Stop::Broken(GrammarBreach::TooLong, tokens.len()))
         }
     }
 

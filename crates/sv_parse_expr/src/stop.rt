@@ -22,9 +22,9 @@ pub enum Expected {
     BehindName,
 }
 
-/// How a token breaks a rule.
+/// How a token breaks a rule on the grammar.
 #[derive(Clone, Copy, Debug, PartialEq, Eq)]
-pub enum Breach {
+pub enum GrammarBreach {
     /// No text goes on with it.
     Stuck(Expected),
     /// It begins a level too many.
@@ -38,7 +38,7 @@ pub enum Breach {
 pub enum Stop {
     /// A rule is broken at the first of the tokens that are left, of which there are so many; or at
     /// the end, where there are none.
-    Broken(Breach, usize),
+    Broken(GrammarBreach, usize),
     /// The allocator gave out no more memory.
     OutOfMemory,
 }

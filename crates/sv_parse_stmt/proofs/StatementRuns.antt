@@ -14,7 +14,7 @@ use Rattle.sv_ast.specs.declared.statements.Arm.{Arm}
 use Rattle.sv_ast.specs.declared.statements.Stmt.{Stmt}
 use Rattle.sv_ast.specs.Views.{statement_tree, statement_trees, arm_tree, arm_trees}
 use Rattle.sv_ast.specs.GrammarForms.{a_word}
-use Rattle.sv_parse_expr.specs.declared.stop.Breach.TheVariants.{TooDeep}
+use Rattle.sv_parse_expr.specs.declared.stop.GrammarBreach.TheVariants.{TooDeep}
 use Rattle.sv_parse_expr.specs.declared.stop.Stop.{Stop}
 use Rattle.sv_parse_expr.specs.declared.stop.Stop.TheVariants as stops
 use Rattle.sv_parse_expr.specs.Expectations.{HaltsAs}

@@ -23,7 +23,7 @@ use sv_parse_expr::cursor::{behind, expect_sign, unexpected, word_at};
 use sv_parse_expr::expressions::{read_expression, read_expression_too_many};
 use sv_parse_expr::lists::{Expressions, read_list_from};
 use sv_parse_expr::room::MOST_ARMS;
-use sv_parse_expr::stop::{Breach, Read, Stop};
+use sv_parse_expr::stop::{GrammarBreach, Read, Stop};
 use sv_token::{SignKind, Token, WordKind};
 
 // The first item of an arm behind so many others.
@@ -135,7 +135,7 @@ fn allow_default(before: usize, has_default: bool, tokens: &[Token]) -> Result<(
         return Err(unexpected(tokens));
     }
     if before >= MOST_ARMS {
-        return Err(Stop::Broken(Breach::TooLong, tokens.len()));
+        return Err(Stop::Broken(GrammarBreach::TooLong, tokens.len()));
     }
     Ok(())
 }

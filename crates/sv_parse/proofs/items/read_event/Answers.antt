@@ -8,7 +8,7 @@ use Rattle.sv_parse_machine.proofs.ReadSteps.{reads_then}
 use Rattle.sv_parse_machine.proofs.ReadRows.{sign_taken, halts_event}
 use Rattle.sv_parse_expr.proofs.Halting.{passed, stops_then, stops_here}
 use Rattle.sv_parse.proofs.ReadingSymbols.{star_read}
-use Rattle.sv_parse_expr.specs.declared.stop.Breach.TheVariants.{Stuck}
+use Rattle.sv_parse_expr.specs.declared.stop.GrammarBreach.TheVariants.{Stuck}
 use Rattle.sv_token.specs.declared.signs.SignKind.TheVariants as signs
 use Rattle.sv_parse_expr.specs.declared.stop.Expected.TheVariants as expected
 use Rattle.sv_parse.proofs.items.read_event.Goals as goal

@@ -5,7 +5,7 @@ use Rattle.sv_parse_machine.proofs.ReadSteps.{reads_then}
 use Rattle.sv_parse_machine.proofs.ReadRows.{word_taken, halts_event_inside}
 use Rattle.sv_parse_expr.proofs.Halting.{passed, stops_then, stops_here}
 use Rattle.sv_parse.proofs.ReadingSymbols.{star_inside_read}
-use Rattle.sv_parse_expr.specs.declared.stop.Breach.TheVariants.{Stuck}
+use Rattle.sv_parse_expr.specs.declared.stop.GrammarBreach.TheVariants.{Stuck}
 use Rattle.sv_token.specs.declared.signs.SignKind.TheVariants as signs
 use Rattle.sv_token.specs.declared.keywords.WordKind.TheVariants as words
 use Rattle.sv_parse_expr.specs.declared.stop.Expected.TheVariants as expected

@@ -4,7 +4,7 @@ use Rattle.sv_parse_machine.specs.Symbols.{outer, less_equal}
 use Rattle.sv_parse_machine.proofs.ReadRows.{halts_less_equal}
 use Rattle.sv_parse_expr.proofs.Halting.{passed, stops_here}
 use Rattle.sv_parse.proofs.ReadingSymbols.{less_equal_read}
-use Rattle.sv_parse_expr.specs.declared.stop.Breach.TheVariants.{Stuck}
+use Rattle.sv_parse_expr.specs.declared.stop.GrammarBreach.TheVariants.{Stuck}
 use Rattle.sv_parse_expr.specs.declared.stop.Expected.TheVariants as expected
 use Rattle.sv_parse.proofs.DeclarationRuns.{and_read, and_stop, front_stop}
 use Rattle.sv_parse.proofs.lattices.read_pair.Goals as goal

@@ -1,6 +1,6 @@
 use Rattle.sv_parse_machine.proofs.ReadRows.{punctuation_read, halts_punctuation}
 use Rattle.sv_parse_expr.proofs.Halting.{stops_here}
-use Rattle.sv_parse_expr.specs.declared.stop.Breach.TheVariants.{Stuck}
+use Rattle.sv_parse_expr.specs.declared.stop.GrammarBreach.TheVariants.{Stuck}
 use Rattle.sv_parse_expr.specs.declared.stop.Expected.TheVariants as expected
 use Rattle.sv_parse_expr.proofs.cursor.expect_sign.Goals as goal
 

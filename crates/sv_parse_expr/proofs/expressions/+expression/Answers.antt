@@ -9,7 +9,7 @@ use Rattle.sv_parse_machine.specs.Symbols.{members_or_count, inner_colon, inner_
 use Rattle.sv_parse_machine.specs.Symbols.{inner_bracket, inner_brace}
 use Rattle.sv_parse_machine.specs.ExpressionTable.{inside}
 use Rattle.sv_parse_machine.proofs.ReadSteps.{reads_then, reads_before}
-use Rattle.sv_parse_expr.specs.declared.stop.Breach.TheVariants.{Stuck}
+use Rattle.sv_parse_expr.specs.declared.stop.GrammarBreach.TheVariants.{Stuck}
 use Rattle.sv_parse_expr.specs.declared.stop.Expected.TheVariants as expected
 use Rattle.sv_parse_expr.proofs.Halting.{passed, stops_then, stops_before, stops_here, stops_by}
 use Rattle.sv_parse_expr.proofs.ReadingRuns.{then_stop, sign_takes, sign_is_there, infix_takes}

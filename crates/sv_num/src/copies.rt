@@ -28,6 +28,8 @@ impl Copied for Name {
 }
 
 impl Copied for Place {
+    ghost use Rattle.sv_num.specs.declared.faults.Place.{Place};
+
     ghost Form = { Place };
 
     ghost form = { λ place. place };

@@ -46,13 +46,13 @@ pub way_cases : (P : Way → Type 0) (p : Place) (c a b : TypedTree)
     → (way : Way) → Contains (map (way_under (step_of p c true)) (ways a)
     ++ map (way_under (step_of p c false)) (ways b)) way
     → P way
-way_cases P p c a b yes no way at = ⊎_elim
+way_cases P p c a b taken passed way at = ⊎_elim
     (λ l.
     let from = Contains-from_map (way_under (step_of p c true)) (ways a) way l in
-    subst P from.2 (yes from.0 from.1))
+    subst P from.2 (taken from.0 from.1))
     (λ r.
     let from = Contains-from_map (way_under (step_of p c false)) (ways b) way r in
-    subst P from.2 (no from.0 from.1))
+    subst P from.2 (passed from.0 from.1))
     (Contains-either (map (way_under (step_of p c true)) (ways a))
     (map (way_under (step_of p c false)) (ways b)) way at)
 

@@ -17,7 +17,9 @@ made place points pairs = record { place = place; points = points; pairs = pairs
 pub returns : goal.returns
 returns c =
     let place = c.args.self.now.place in
-    ap (λ (points : List PlacedName). made place points _)
+    let points = map placed_name c.args.self.now.points.items in
+    let copied_pairs = map pair_tree c.in_ok-copy-2.field-0.items in
+    ap (λ (xs : List PlacedName). made place xs copied_pairs)
     (made_alike placed_name name_parts _ _ c.in_ok-copy.ensures)
-    ∙ ap (λ (pairs : List PairTree). made place _ pairs)
+    ∙ ap (λ (xs : List PairTree). made place points xs)
     (made_alike pair_tree pair_parts _ _ c.in_ok-copy-2.ensures)

@@ -295,7 +295,7 @@ fn follow_earlier(
     if !earlier.has_edges() {
         return Ok(());
     }
-    earlier.shorten(alloc)?;
+    earlier.close(alloc)?;
     graph.follow(alloc, &earlier)?;
     Ok(())
 }

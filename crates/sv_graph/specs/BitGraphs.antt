@@ -1,6 +1,6 @@
 -- Private: how the code goes. Graphs over signals, by bits.
 use Rattle.std.specs.Prelude.{◌≡◌, ◌<◌, ◌+◌, ◌/◌, ◌%◌, ℕ, Bool, ◌||◌, List, [], ◌∷◌, length, map}
-use Rattle.std.specs.Prelude.{filter, slice_index_or, Contains, IsTrue}
+use Rattle.std.specs.Prelude.{filter, slice_index_or, IsTrue}
 use Rattle.std.specs.List.{list_any, range_with_len}
 use Rattle.std.specs.declared.alloc.Global.{Global}
 use Rattle.std.specs.declared.vec.Vec.{Vec}
@@ -71,9 +71,9 @@ before n edges b = least_set n (λ m k. edges k m) (b ∷ [])
 abbrev pub leads_through : (n : ℕ) → (edges others : ℕ → ℕ → Bool) → (from to : ℕ) → Bool
 leads_through n edges others a b = list_any (edges a) (before n others b)
 
--- Edges over n signals: the first ones, and others in place of ways of them. Two that meet at a
--- signal below `middles` have one in place of both.
-pub record Shortens (n : ℕ) (first now : ℕ → ℕ → Bool) (middles : ℕ) : Type 0 where
+-- Edges over n signals: the first ones, and others, each for a path of one or more of these. Of two
+-- that meet at a signal below `middles` the path has an edge too.
+pub record ClosesUpTo (n : ℕ) (first now : ℕ → ℕ → Bool) (middles : ℕ) : Type 0 where
   pub keeps : (a b : ℕ) → IsTrue (first a b) → IsTrue (now a b)
-  pub leads : (a b : ℕ) → b < n → IsTrue (now a b) → Contains (before n first b) a
+  pub leads : (a b : ℕ) → b < n → IsTrue (now a b) → IsTrue (leads_through n first first a b)
   pub joins : (a m b : ℕ) → m < middles → IsTrue (now a m) → IsTrue (now m b) → IsTrue (now a b)

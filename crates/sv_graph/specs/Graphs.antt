@@ -55,7 +55,7 @@ AddsOnce old new from to =
     (a : ℕ) → row new a ≡ row old a ++ (if (from == a) && not (ends_in (row old a) to) then to ∷ []
     else [])
 
--- an edge to one signal from each of some
+-- an edge to one signal from each of some, where all edges so far lead to lower signals
 abbrev pub AddsSources : (old new : Graph) → (sources : List ℕ) → (to : ℕ) → Type 0
 AddsSources old new sources to =
     ((a b : ℕ) → IsTrue (has_edge old a b) → b < to)

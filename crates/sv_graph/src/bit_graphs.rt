@@ -6,7 +6,7 @@ ghost use Rattle.std.specs.Prelude.{IsTrue, IsFalse, OnOk, IfOk};
 ghost use Rattle.std.specs.List.{list_any};
 ghost use Rattle.sv_flat.specs.Sets.{those};
 ghost use Rattle.sv_graph.specs.BitGraphs.{in_row, words, IsRow, HasRoom, GainsBits, size, row};
-ghost use Rattle.sv_graph.specs.BitGraphs.{has_edge, IsOver, GainsEdges, IsTurned, Shortens};
+ghost use Rattle.sv_graph.specs.BitGraphs.{has_edge, IsOver, GainsEdges, IsTurned, ClosesUpTo};
 ghost use Rattle.sv_graph.specs.BitSets.{has_some, HasTargetsBelow};
 ghost use Rattle.sv_graph.specs.BitGraphs.{leads_through};
 ghost use Rattle.sv_graph.specs.Graphs.{size as graph_size};
@@ -212,7 +212,7 @@ impl BitGraph {
         Ok(BitGraph { rows })
     }
 
-    /// Whether it has an edge.
+    /// False only where it has no edge.
     pub fn has_edges(&self) -> bool
         ensures { IsFalse result → (a b : ℕ) → IsFalse (has_edge self.now a b) }
     {
@@ -277,8 +277,8 @@ impl BitGraph {
         requires over { IsOver (size self.old) self.old }
         ensures over { IsOver (size self.old) self.new }
         ensures ways { OnOk result ((first : ℕ → ℕ → Bool)
-            → Shortens (size self.old) first (has_edge self.old) 0
-            → Shortens (size self.old) first (has_edge self.new) (size self.old)) }
+            → ClosesUpTo (size self.old) first (has_edge self.old) 0
+            → ClosesUpTo (size self.old) first (has_edge self.new) (size self.old)) }
     {
         for middle in 0..self.rows.len() {
             let targets = copied(alloc, &self.rows[middle])?;
@@ -334,8 +334,8 @@ impl BitGraph {
         requires first { IsOver (size self.old) first.now }
         ensures over { IsOver (size self.old) self.new }
         ensures ways { OnOk result
-            (Shortens (size self.old) (has_edge first.now) (has_edge self.old) 0
-            → Shortens (size self.old) (has_edge first.now) (has_edge self.new) 0) }
+            (ClosesUpTo (size self.old) (has_edge first.now) (has_edge self.old) 0
+            → ClosesUpTo (size self.old) (has_edge first.now) (has_edge self.new) 0) }
     {
         if from >= self.rows.len() {
             return Ok(());
@@ -357,8 +357,8 @@ impl BitGraph {
         requires first { IsOver (size self.old) first.now }
         ensures over { IsOver (size self.old) self.new }
         ensures ways { OnOk result
-            (Shortens (size self.old) (has_edge first.now) (has_edge self.old) 0
-            → Shortens (size self.old) (has_edge first.now) (has_edge self.new) 0) }
+            (ClosesUpTo (size self.old) (has_edge first.now) (has_edge self.old) 0
+            → ClosesUpTo (size self.old) (has_edge first.now) (has_edge self.new) 0) }
     {
         for from in order {
             self.lead_by(alloc, *from, first)?;
@@ -397,12 +397,13 @@ impl BitGraph {
         Ok(true)
     }
 
-    /// Adds an edge for each way over edges. It fails where memory runs out.
-    pub fn shorten(&mut self, alloc: Global) -> Result<(), AllocError>
+    /// Adds an edge for each path over edges: the transitive closure. It fails where memory runs
+    /// out.
+    pub fn close(&mut self, alloc: Global) -> Result<(), AllocError>
         requires few { size self.old < 2 ^ 32 }
         requires over { IsOver (size self.old) self.old }
         ensures over { IsOver (size self.old) self.new }
-        ensures ways { OnOk result (Shortens (size self.old) (has_edge self.old)
+        ensures ways { OnOk result (ClosesUpTo (size self.old) (has_edge self.old)
             (has_edge self.new) (size self.old)) }
     {
         // Where no way leads back, one pass in this order adds all, at the cost of the edges alone.
@@ -424,7 +425,7 @@ impl BitGraph {
         requires ways { IsOver (size self.old) ways.now }
         ensures over { IsOver (size self.old) self.new }
         ensures edges { OnOk result ((edges : ℕ → ℕ → Bool)
-            → Shortens (size self.old) edges (has_edge ways.now) (size self.old)
+            → ClosesUpTo (size self.old) edges (has_edge ways.now) (size self.old)
             → (a b : ℕ) → b < size self.old
             → has_edge self.new a b ≡ leads_through (size self.old) (has_edge self.old) edges a b) }
     {

@@ -49,8 +49,9 @@ impl Graph {
         Ok(())
     }
 
-    /// Adds an edge from each of some signals, where it is not the last one of that signal. It
-    /// fails where memory runs out.
+    /// Adds an edge from each of some signals, where it is not the last one of that signal. What it
+    /// adds is said only where all edges so far lead to lower signals. It fails where memory runs
+    /// out.
     pub fn add_sources(&mut self, sources: &[SigId], to: SigId) -> Result<(), AllocError>
         requires { (k : ℕ) → Contains (numbers sources.now) k → k < size self.old }
         ensures size { size self.new ≡ size self.old }

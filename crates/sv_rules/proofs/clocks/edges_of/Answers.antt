@@ -1,5 +1,5 @@
 use Rattle.std.proofs.Common.{ℕ, Bool, false, get_or, Vec, Global, length, refl}
-use Rattle.std.proofs.Common.{ap, subst, ◌∙◌, arith}
+use Rattle.std.proofs.Common.{◌≡◌, ap, subst, ◌∙◌, arith}
 use Rattle.std.specs.List.{range_with_len}
 use Rattle.std.specs.Prelude.{IfOk, filter}
 use Rattle.sv_flat.specs.declared.signals.SigId.{SigId}

@@ -5,7 +5,7 @@ use Rattle.sv_flat.specs.Clocks.{is_clock}
 use Rattle.sv_flat.specs.Design.{SignalForm}
 use Rattle.sv_flat.specs.Drivers.{is_undriven}
 use Rattle.sv_flat.specs.Processes.{is_top_kind, is_top_input}
-use Rattle.sv_flat.specs.Views.{design_of}
+use Rattle.sv_flat.specs.Views.{design_of, signal_form}
 use Rattle.sv_rules.proofs.ClockLinks.{at_table}
 use Rattle.sv_rules.proofs.DriverFacts.{none_is, signal_at, inside_design, clock_inside}
 use Rattle.sv_rules.proofs.Firsts.{finds_more}

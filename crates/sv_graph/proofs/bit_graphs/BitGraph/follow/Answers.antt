@@ -35,14 +35,14 @@ loop-from-preserved c =
     )
 
 pub returns-clause-edges : goal.returns-clause-edges
-returns-clause-edges c = λ edges shortens a b below.
+returns-clause-edges c = λ edges closed a b below.
     let self = c.args.self.now in
     let ways = c.args.ways.now in
     let now = c.loop-from.self in
     let count : c.len-from-end.result ≡ size self = c.len-from-end.ensures ∙ self.rows.ok.0 in
     let most = c.loop-from.auto.from-end in
     let end : c.loop-from.from ≡ size self = omega (arith, c.loop-from-test.false, most, count) in
-    follow_ends (size self) (has_edge self) edges (has_edge ways) shortens (has_edge now)
+    follow_ends (size self) (has_edge self) edges (has_edge ways) closed (has_edge now)
     (edge_inside self)
     (subst (LedBySoFar (has_edge self) (has_edge now)
     (λ x y. list_any (λ m. has_edge ways m y) (those (size self) (has_edge self x)))) end

@@ -1,5 +1,5 @@
 use Rattle.std.proofs.Common.{◌≡◌, ◌<◌, ◌&&◌, ◌||◌, sym, ap, subst, ◌∙◌, arith}
-use Rattle.sv_graph.specs.BitGraphs.{in_row, IsRow, size, row, has_edge, IsOver, Shortens}
+use Rattle.sv_graph.specs.BitGraphs.{in_row, IsRow, size, row, has_edge, IsOver, ClosesUpTo}
 use Rattle.sv_graph.proofs.BitRows.{row_at}
 use Rattle.sv_graph.proofs.Ways.{ways_more}
 use Rattle.sv_graph.proofs.bit_graphs.BitGraph.join_all.Goals as goal
@@ -49,5 +49,5 @@ returns-clause-ways c = λ first so_far.
     let most = c.loop-middle.auto.middle-end in
     let end : c.loop-middle.middle ≡ size self =
     omega (arith, c.loop-middle-test.false, most, count) in
-    subst (Shortens (size self) first (has_edge c.loop-middle.self)) end
+    subst (ClosesUpTo (size self) first (has_edge c.loop-middle.self)) end
     (c.loop-middle.invariant.1 first so_far)

@@ -1,4 +1,5 @@
 pub mod Given
+pub mod Histories
 pub mod Known
 pub mod Repeating
 pub mod Rising

@@ -17,7 +17,7 @@ ghost use Rattle.sv_parse_machine.specs.Symbols.{end_of_map};
 ghost use Rattle.sv_parse_machine.specs.ModuleTable.{number_range};
 ghost use Rattle.sv_parse_machine.specs.Reads.{NextIsNotWord};
 ghost use Rattle.sv_parse_expr.specs.Parses.{GivesAs, Gives, GivesAll, Shortens, NoLonger, Leads};
-ghost use Rattle.sv_parse_expr.specs.Parses.{HaltsOn};
+ghost use Rattle.sv_parse_expr.specs.Parses.{HaltsOn, TakesNoMemory};
 
 use std::alloc::Global;
 use sv_ast::{Expr, MapText, Span};
@@ -64,6 +64,7 @@ fn read_open_range(tokens: &[Token]) -> Read<'_, KeyRange>
     ensures shorter { Shortens result tokens.now }
     ensures reads { (bytes : List ℕ) → Leads result bytes tokens.now number_range [] }
     ensures halts { (bytes : List ℕ) → HaltsOn result bytes tokens.now number_range }
+    ensures memory { TakesNoMemory result }
 {
     let (high, high_place, rest) = read_number(tokens)?;
     let rest = expect_sign(SignKind::Colon, rest)?;
@@ -86,6 +87,7 @@ fn read_range(tokens: &[Token]) -> Read<'_, KeyRange>
         Leads result bytes tokens.now (punctuation signs.OpenBracket ∷ number_range) [] }
     ensures halts { (bytes : List ℕ) →
         HaltsOn result bytes tokens.now (punctuation signs.OpenBracket ∷ number_range) }
+    ensures memory { TakesNoMemory result }
 {
     let rest = expect_sign(SignKind::OpenBracket, tokens)?;
     let (range, rest) = read_open_range(rest)?;
@@ -99,6 +101,7 @@ fn read_second_range(tokens: &[Token]) -> Read<'_, Option<KeyRange>>
     ensures shorter { NoLonger result tokens.now }
     ensures reads { (bytes : List ℕ) → Leads result bytes tokens.now (perhaps_key_range ∷ []) [] }
     ensures halts { (bytes : List ℕ) → HaltsOn result bytes tokens.now (perhaps_key_range ∷ []) }
+    ensures memory { TakesNoMemory result }
 {
     match behind(SignKind::OpenBracket, tokens) {
         Some(rest) => {
@@ -117,6 +120,7 @@ fn read_second_key(tokens: &[Token]) -> Read<'_, Option<(Lit, Place)>>
     ensures shorter { NoLonger result tokens.now }
     ensures reads { (bytes : List ℕ) → Leads result bytes tokens.now (perhaps_second_key ∷ []) [] }
     ensures halts { (bytes : List ℕ) → HaltsOn result bytes tokens.now (perhaps_second_key ∷ []) }
+    ensures memory { TakesNoMemory result }
 {
     match behind(SignKind::Comma, tokens) {
         Some(rest) => {

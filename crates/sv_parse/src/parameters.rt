@@ -18,7 +18,7 @@ ghost use Rattle.sv_parse_machine.specs.Symbols.{more_parameters, header_paramet
 ghost use Rattle.sv_parse_machine.specs.Symbols.{later_header_parameter, more_header_parameters};
 ghost use Rattle.sv_parse_machine.specs.Machine.{outside_on};
 ghost use Rattle.sv_parse_expr.specs.Parses.{Stands, Comes, Gives, GivesAll, Shortens, Leads};
-ghost use Rattle.sv_parse_expr.specs.Parses.{HaltsOn};
+ghost use Rattle.sv_parse_expr.specs.Parses.{HaltsOn, TakesNoMemory};
 ghost use Rattle.sv_parse.specs.ReadingDeclarations.{named_value, typed_value};
 ghost use Rattle.sv_parse.specs.ReadingTexts.{BeginsParameters};
 
@@ -147,6 +147,7 @@ fn is_local(tokens: &[Token]) -> Read<'_, bool>
         Leads result bytes tokens.now (items ∷ []) (typed_value ++ more_parameters ∷ items ∷ []) }
     ensures halts { (bytes : List ℕ) → BeginsParameters (placed_tokens bytes tokens.now) →
         HaltsOn result bytes tokens.now (items ∷ []) }
+    ensures memory { TakesNoMemory result }
 {
     if let Some(rest) = behind_word(WordKind::Parameter, tokens) {
         return Ok((false, rest));

@@ -21,7 +21,7 @@ ghost use Rattle.sv_parse_machine.specs.Symbols.{more_names, items};
 ghost use Rattle.sv_parse_machine.specs.Machine.{outside_on};
 ghost use Rattle.sv_parse_machine.specs.Reads.{Reads};
 ghost use Rattle.sv_parse_expr.specs.Parses.{Comes, GivesAs, Gives, Shortens, NoLonger, Leads};
-ghost use Rattle.sv_parse_expr.specs.Parses.{HaltsOn};
+ghost use Rattle.sv_parse_expr.specs.Parses.{HaltsOn, TakesNoMemory};
 ghost use Rattle.sv_parse.specs.ReadingDeclarations.{memory_bounds, memory_end, behind_name};
 ghost use Rattle.sv_parse.specs.ReadingItems.{IsRegLabelEnd, IsOpenRegLabel, IsRegLabel};
 ghost use Rattle.sv_parse.specs.ReadingItems.{MayBeMemory, MayBeSignal, memory_label_of};
@@ -189,6 +189,7 @@ fn read_bounds(tokens: &[Token]) -> Read<'_, (Lit, Lit)>
     ensures shorter { Shortens result tokens.now }
     ensures reads { (bytes : List ℕ) → Leads result bytes tokens.now memory_bounds [] }
     ensures halts { (bytes : List ℕ) → HaltsOn result bytes tokens.now memory_bounds }
+    ensures memory { TakesNoMemory result }
 {
     let rest = expect_sign(SignKind::OpenBracket, tokens)?;
     let (first, _place, rest) = read_number(rest)?;
@@ -207,6 +208,7 @@ fn read_memory(of: RegType, name: Name, place: Place, tokens: &[Token]) -> Read<
     ensures shorter { Shortens result tokens.now }
     ensures reads { (bytes : List ℕ) → Leads result bytes tokens.now memory_bounds [] }
     ensures halts { (bytes : List ℕ) → HaltsOn result bytes tokens.now memory_bounds }
+    ensures memory { TakesNoMemory result }
 {
     let ((first, last), rest) = read_bounds(tokens)?;
     let RegType {

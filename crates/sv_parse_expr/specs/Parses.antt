@@ -11,6 +11,7 @@ use Rattle.sv_parse_machine.specs.Symbols.{Inner, Outer, State}
 use Rattle.sv_parse_machine.specs.Machine.{inside_on, outside_on}
 use Rattle.sv_parse_machine.specs.Reads.{Reads}
 use Rattle.sv_parse_expr.specs.declared.stop.Stop.{Stop}
+use Rattle.sv_parse_expr.specs.declared.stop.Stop.TheVariants.{OutOfMemory}
 use Rattle.sv_parse_expr.specs.Expectations.{HaltsAs}
 
 -- ---- up to some of the tokens
@@ -84,3 +85,7 @@ abbrev pub HaltsIn : {A : Type 0} → Result A Stop → List ℕ → List Token 
     List Inner → Type 0
 HaltsIn result bytes tokens beyond xs =
     (start : ℕ) → beyond ≡ start - 1024 → HaltsBy result bytes tokens (inside_on start xs)
+
+-- it takes no memory, so none runs out
+abbrev pub TakesNoMemory : {A : Type 0} → Result A Stop → Type 0
+TakesNoMemory result = IfErr result (λ e. e ≡ OutOfMemory → ⊥)

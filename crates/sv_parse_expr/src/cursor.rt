@@ -9,7 +9,7 @@ ghost use Rattle.sv_parse_machine.specs.Symbols.{punctuation, plain_name, plain_
 ghost use Rattle.sv_parse_machine.specs.Reads.{NextIsNotSign, NextIsNotWord, NextIsNoName};
 ghost use Rattle.sv_parse_machine.specs.Reads.{NextIsNoNumber};
 ghost use Rattle.sv_parse_expr.specs.Expectations.{StopsAt};
-ghost use Rattle.sv_parse_expr.specs.Parses.{Stands, Comes, GivesAs, HaltsOn};
+ghost use Rattle.sv_parse_expr.specs.Parses.{Stands, Comes, GivesAs, HaltsOn, TakesNoMemory};
 
 use crate::refused_words::is_refused;
 use crate::stop::{Expected, GrammarBreach, Read, Stop};
@@ -118,6 +118,7 @@ pub fn expect_sign(sign: SignKind, tokens: &[Token]) -> Result<&[Token], Stop>
     ensures reads { (bytes : List ℕ) → is_sign sign sign ≡ true →
         IfOk result (λ rest. Comes (punctuation sign ∷ []) [] bytes tokens.now rest.now) }
     ensures halts { (bytes : List ℕ) → HaltsOn result bytes tokens.now (punctuation sign ∷ []) }
+    ensures memory { TakesNoMemory result }
 {
     match behind(sign, tokens) {
         Some(rest) => Ok(rest),
@@ -132,6 +133,7 @@ pub fn expect_word(word: WordKind, tokens: &[Token]) -> Read<'_, Place>
     ensures stops { (bytes : List ℕ) →
         IfErr result (λ e. StopsAt tokens.now
         (NextIsNotWord word (placed_tokens bytes tokens.now)) e) }
+    ensures memory { TakesNoMemory result }
 {
     match word_at(word, tokens) {
         Some(found) => Ok(found),
@@ -149,6 +151,7 @@ pub fn read_number(tokens: &[Token]) -> Result<(Lit, Place, &[Token]), Stop>
     ensures reads { (bytes : List ℕ) →
         IfOk result (λ x. Comes (plain_number ∷ []) [] bytes tokens.now x.2.now) }
     ensures halts { (bytes : List ℕ) → HaltsOn result bytes tokens.now (plain_number ∷ []) }
+    ensures memory { TakesNoMemory result }
 {
     match tokens {
         [first, rest @ ..] => match first.kind {

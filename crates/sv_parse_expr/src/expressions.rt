@@ -12,7 +12,7 @@ ghost use Rattle.sv_parse_machine.specs.Reads.{Reads, NextIsLooser, NextIsNotSig
 ghost use Rattle.sv_parse_machine.specs.Reads.{NextIsAnyName, NextIsNumber, NextIsAnyOperator};
 ghost use Rattle.sv_parse_expr.specs.Reading.{IsChain, IsBounded, AreLaterParts, IsRepeated};
 ghost use Rattle.sv_parse_expr.specs.Parses.{Stands, GivesAs, Gives, Shortens, NoLonger, Leads};
-ghost use Rattle.sv_parse_expr.specs.Parses.{LeadsIn, HaltsBy, HaltsOn, HaltsIn};
+ghost use Rattle.sv_parse_expr.specs.Parses.{LeadsIn, HaltsBy, HaltsOn, HaltsIn, TakesNoMemory};
 
 use crate::cursor::{behind, expect_sign, read_name, read_number, sign_at, stuck, unexpected};
 use crate::nodes::{binary, choice, join, repeat, selected, unary};
@@ -112,6 +112,7 @@ fn read_literal(room: Room, tokens: &[Token]) -> Read<'_, Expr>
     ensures halts { (bytes : List ℕ) (start : ℕ) → room.beyond ≡ start - 1024 →
         NextIsNumber (placed_tokens bytes tokens.now) →
         HaltsBy result bytes tokens.now (inner start (operand room.levels) ∷ []) }
+    ensures memory { TakesNoMemory result }
 {
     let (value, place, rest) = read_number(tokens)?;
     room.count(tokens)?;

@@ -1,11 +1,11 @@
 // How much may still be read: levels, tokens of an expression.
 ghost use Rattle.std.specs.Prelude.{◌≡◌, ◌+◌, ◌-◌, ◌<◌, ◌≤◌, ℕ, List, length, [], ◌∷◌, IfOk, IfErr};
-ghost use Rattle.std.specs.Prelude.{IfSome, OnOk};
+ghost use Rattle.std.specs.Prelude.{OnOk, ◌⊎◌};
 ghost use Rattle.sv_token.specs.Lexemes.{placed_tokens};
 ghost use Rattle.sv_ast.specs.GrammarForms.{a_sign};
 ghost use Rattle.sv_parse_machine.specs.Symbols.{Inner, inner};
 ghost use Rattle.sv_parse_machine.specs.Reads.{Reads, NextTakes, Closes};
-ghost use Rattle.sv_parse_expr.specs.Parses.{Stands, HaltsBy};
+ghost use Rattle.sv_parse_expr.specs.Parses.{Stands, HaltsBy, TakesNoMemory};
 
 use crate::cursor::expect_sign;
 use crate::stop::{GrammarBreach, Stop};
@@ -89,10 +89,15 @@ impl Room {
         ensures beyond { IfOk result (λ room. room.beyond ≡ self.beyond) }
         ensures within { IfOk result (λ room. room.levels ≤ 64) }
         ensures counted { OnOk result (self.beyond < length tokens.now) }
+        ensures stops { IfErr result (λ e.
+            ((64 < self.levels + 1) × (e ≡ Stop.Broken GrammarBreach.TooDeep (length tokens.now)))
+            ⊎ ((self.levels + 1 ≤ 64) × (length tokens.now ≤ self.beyond)
+            × (e ≡ Stop.Broken GrammarBreach.TooLong (length tokens.now)))) }
         ensures halts { (bytes : List ℕ) (start : ℕ) (s : Inner) (xs : List Inner) →
             self.beyond ≡ start - 1024 →
             NextTakes s (self.levels + 1) xs (placed_tokens bytes tokens.now) →
             HaltsBy result bytes tokens.now (inner start s ∷ []) }
+        ensures memory { TakesNoMemory result }
     {
         let levels = deeper(self.levels, tokens)?;
         self.count(tokens)?;
@@ -115,6 +120,7 @@ impl Room {
         ensures halts { (bytes : List ℕ) (start : ℕ) (s : Inner) → self.beyond ≡ start - 1024 →
             Closes sign s →
             HaltsBy result bytes tokens.now (inner start s ∷ []) }
+        ensures memory { TakesNoMemory result }
     {
         let rest = expect_sign(sign, tokens)?;
         self.count(tokens)?;

@@ -13,7 +13,7 @@ ghost use Rattle.sv_parse_machine.specs.Symbols.{outer, statement, arms, more_ch
 ghost use Rattle.sv_parse_machine.specs.Symbols.{perhaps_colon};
 ghost use Rattle.sv_parse_machine.specs.Reads.{Reads, NextIsNotWord};
 ghost use Rattle.sv_parse_expr.specs.Parses.{Stands, Comes, GivesAs, Gives, Shortens, LeadsBy};
-ghost use Rattle.sv_parse_expr.specs.Parses.{HaltsOn};
+ghost use Rattle.sv_parse_expr.specs.Parses.{HaltsOn, TakesNoMemory};
 ghost use Rattle.sv_parse_stmt.specs.ReadingArms.{ArmComes, behind_arm, behind_items};
 
 use std::alloc::Global;
@@ -130,6 +130,7 @@ fn allow_default(before: usize, has_default: bool, tokens: &[Token]) -> Result<(
     ensures halts { (bytes : List ℕ) (n : ℕ) →
         IsNext words.Default (placed_tokens bytes tokens.now) →
         HaltsOn result bytes tokens.now (arms n before has_default ∷ []) }
+    ensures memory { TakesNoMemory result }
 {
     if has_default {
         return Err(unexpected(tokens));

@@ -15,7 +15,7 @@ ghost use Rattle.sv_parse_machine.specs.Symbols as symbol;
 ghost use Rattle.sv_parse_machine.specs.Symbols.{statement};
 ghost use Rattle.sv_parse_machine.specs.Reads.{NextIsSign, NextIsTarget};
 ghost use Rattle.sv_parse_expr.specs.Parses.{Stands, Comes, GivesAs, Gives, Shortens, Leads};
-ghost use Rattle.sv_parse_expr.specs.Parses.{HaltsOn};
+ghost use Rattle.sv_parse_expr.specs.Parses.{HaltsOn, TakesNoMemory};
 ghost use Rattle.sv_parse_stmt.specs.ReadingArms.{ArmComes};
 
 use crate::arms::read_arm_head;
@@ -39,6 +39,7 @@ fn assigns(tokens: &[Token]) -> Read<'_, bool>
     ensures shorter { Shortens result tokens.now }
     ensures reads { (bytes : List ℕ) → Leads result bytes tokens.now (symbol.assigns ∷ []) [] }
     ensures halts { (bytes : List ℕ) → HaltsOn result bytes tokens.now (symbol.assigns ∷ []) }
+    ensures memory { TakesNoMemory result }
 {
     if let Some(rest) = behind(SignKind::Equals, tokens) {
         return Ok((true, rest));
@@ -184,6 +185,7 @@ fn read_null(tokens: &[Token]) -> Read<'_, Stmt>
     ensures halts { (bytes : List ℕ) (n : ℕ) →
         NextIsSign signs.Semicolon (placed_tokens bytes tokens.now) →
         HaltsOn result bytes tokens.now (statement n ∷ []) }
+    ensures memory { TakesNoMemory result }
 {
     let rest = expect_sign(SignKind::Semicolon, tokens)?;
     Ok((Stmt::Null, rest))

@@ -16,7 +16,7 @@ use Rattle.sv_parse_expr.specs.Expectations.{failure_of}
 abbrev pub BeginsParameters : List Placed → Type 0
 BeginsParameters ts = IsNext words.Parameter ts ⊎ IsNext words.Localparam ts
 
--- no further row of a label map comes
+-- `default` or the last word of a label map comes
 abbrev pub EndsRows : List Placed → Type 0
 EndsRows ts = IsNext words.Default ts ⊎ IsNext words.Endlabelmap ts
 

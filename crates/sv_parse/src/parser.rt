@@ -17,9 +17,10 @@ use sv_parse_expr::stop::Stop;
 use sv_token::Token;
 
 /// The text that the tokens of the bytes mean: the only one, of the shape that the grammar gives.
-/// Refused is exactly what means no text, for the first rule of 201 to 204 that the tokens break
-/// (this project's profile, over the grammar of IEEE 1364-2005), at its place, with its word.
-/// Tokens and bytes are those of one call of `lex`.
+/// Refused is exactly what means no text (`tokens_that_mean_a_text_break_no_rule`), for the first
+/// rule of 201 to 204 that the tokens break (this project's profile, over the grammar of IEEE
+/// 1364-2005), at its place, with its word. Any tokens will do; those of `lex` are the text's own.
+/// Fewer than 2^32 - 1 bytes, since places count in 32 bits.
 #[tactic(auto, using(crate::proofs::WholeTexts::failing_is_refused))]
 pub fn parse(alloc: Global, tokens: &[Token], bytes: &[u8]) -> Result<Text, Fault>
     requires { length bytes.now < 2 ^ 32 - 1 }

@@ -13,7 +13,8 @@ use sv_token::lex;
 
 /// The text that the bytes mean, by their tokens: the only one. Refused is exactly what means no
 /// text, for the first rule of 101 to 104 that the bytes break, or else the first of 201 to 204
-/// that their tokens break, at its place, with its word.
+/// that their tokens break, at its place, with its word. Fewer than 2^32 - 1 bytes, since places
+/// count in 32 bits.
 pub fn read_text(alloc: Global, bytes: &[u8]) -> Result<Text, Fault>
     requires { length bytes.now < 2 ^ 32 - 1 }
     ensures text { IfOk result (λ text. Means bytes.now (text_tree text)) }

@@ -41,8 +41,8 @@ abbrev pub HaltsAs : State → List Placed → Stop → Type 0
 HaltsAs xs ts (stops.Broken breach left) = Halts xs ts (failure_of breach) left
 HaltsAs xs ts stops.OutOfMemory = Unit {0}
 
--- the stop is at the first of the tokens, of which the sentence holds, and nothing else is known of
--- what may begin there; or memory ran out
+-- the stop is at the first of the tokens, where the sentence holds and nothing may begin that
+-- `Expected` names; or memory ran out
 abbrev pub StopsAt : List Token → Type 0 → Stop → Type 0
 StopsAt tokens P (stops.Broken breach left) =
     P × (breach ≡ Stuck code_expected.Something) × (left ≡ length tokens)

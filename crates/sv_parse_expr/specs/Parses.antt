@@ -16,7 +16,7 @@ use Rattle.sv_parse_expr.specs.Expectations.{HaltsAs}
 
 -- ---- up to some of the tokens
 
--- the form stands between
+-- the form stands from the tokens up to the rest
 abbrev pub Stands : Form → List ℕ → (tokens rest : List Token) → Type 0
 Stands form bytes tokens rest = form (placed_tokens bytes tokens) (placed_tokens bytes rest)
 
@@ -63,7 +63,7 @@ abbrev pub Leads : {A : Type 0} → Result (A × Bor (List Token)) Stop → List
     (xs ys : List Outer) → Type 0
 Leads result bytes tokens xs ys = LeadsBy result bytes tokens (outside_on xs) (outside_on ys)
 
--- likewise symbols of an expression, which cannot reach so many tokens at the end of the text
+-- likewise symbols of an expression that has none of the last `beyond` tokens
 abbrev pub LeadsIn : {A : Type 0} → Result (A × Bor (List Token)) Stop → List ℕ → List Token →
     (beyond : ℕ) → (xs ys : List Inner) → Type 0
 LeadsIn result bytes tokens beyond xs ys =
@@ -80,7 +80,7 @@ HaltsBy result bytes tokens xs = IfErr result (λ e. HaltsAs xs (placed_tokens b
 abbrev pub HaltsOn : {A : Type 0} → Result A Stop → List ℕ → List Token → List Outer → Type 0
 HaltsOn result bytes tokens xs = HaltsBy result bytes tokens (outside_on xs)
 
--- likewise symbols of an expression, which cannot reach so many tokens at the end of the text
+-- likewise symbols of an expression that has none of the last `beyond` tokens
 abbrev pub HaltsIn : {A : Type 0} → Result A Stop → List ℕ → List Token → (beyond : ℕ) →
     List Inner → Type 0
 HaltsIn result bytes tokens beyond xs =

@@ -17,7 +17,7 @@ use std::alloc::Global;
 use sv_num::{Name, Place};
 use sv_token::{Lit, SignKind, Token, TokenKind, WordKind};
 
-/// The stop at the first token that is left, with which no text goes on.
+/// The stop that says that no text goes on with the first token that is left.
 pub fn stuck(expected: Expected, tokens: &[Token]) -> Stop
     ensures { result ≡ Stop.Broken (GrammarBreach.Stuck expected) (length tokens.now) }
 {
@@ -32,7 +32,7 @@ pub fn unexpected(tokens: &[Token]) -> Stop
     stuck(Expected::Something, tokens)
 }
 
-// Whether the token is this sign, which is no operator.
+// Whether the token is this sign.
 fn is_sign(kind: TokenKind, sign: SignKind) -> bool
     ensures is { result ≡ true → kind ≡ TokenKind.Sign sign }
     ensures other { result ≡ false → kind ≡ TokenKind.Sign sign → ⊥ }

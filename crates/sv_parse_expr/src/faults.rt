@@ -42,7 +42,7 @@ fn nameless(alloc: Global, rule: Rule, place: Place) -> Fault
     Fault::broken(rule, place, Vec::new(alloc))
 }
 
-// The fault of a text that no text goes on with at the token, between the others.
+// The fault of a text where no text goes on with the token that stands between the others.
 fn stuck_at(
     alloc: Global,
     bytes: &[u8],

@@ -1,5 +1,5 @@
 -- Private: how the code goes. What a function that reads says of the machine: reading these symbols
--- comes to reading those, with fewer tokens left; or it fails there.
+-- comes to reading those on the tokens that are left; or it fails there.
 use Rattle.std.specs.Prelude.{◌≡◌, ℕ, ◌<◌, false, not, IsTrue, List, [], ◌∷◌, ◌++◌, length, Some}
 use Rattle.sv_num.specs.declared.operators.BinOp.{BinOp}
 use Rattle.sv_token.specs.declared.keywords.WordKind.{WordKind}

@@ -343,7 +343,14 @@ def refusals(call):
         yield other, [name for name, _ in speaking]
 
 
+def takes_no_memory(text):
+    """Whether a clause says that no call is refused for want of memory."""
+    return "TakesNoMemory" in text
+
+
 def may_lack_memory(call):
+    if any(takes_no_memory(text) for _, text in call.ensures()):
+        return False
     other = call.answers()[1] or ""
     return bool(MEMORY & set(re.findall(r"\w+", other))) or any("OutOfMemory" in variants(call.crate, kind) for kind in re.findall(r"\b[A-Z]\w*", other))
 
@@ -366,6 +373,8 @@ def gives(call):
         return [name for name, _ in call.ensures()]
     spoken = []
     for name, text in call.ensures():
+        if takes_no_memory(text):
+            continue
         if guarded(text) or any(re.search(rf"\b{parameter}\.new\b", text) for parameter in lent):
             spoken.append(name)
     return spoken

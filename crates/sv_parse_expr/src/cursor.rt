@@ -9,10 +9,11 @@ ghost use Rattle.sv_parse_machine.specs.Symbols.{punctuation, plain_name, plain_
 ghost use Rattle.sv_parse_machine.specs.Reads.{NextIsNotSign, NextIsNotWord, NextIsNoName};
 ghost use Rattle.sv_parse_machine.specs.Reads.{NextIsNoNumber};
 ghost use Rattle.sv_parse_expr.specs.Expectations.{StopsAt};
-ghost use Rattle.sv_parse_expr.specs.Parses.{Stands, Comes, GivesAs, HaltsOn, TakesNoMemory};
+ghost use Rattle.sv_parse_expr.specs.Parses.{placed, in_text, Stands, Comes, GivesAs, HaltsOn};
+ghost use Rattle.sv_parse_expr.specs.Parses.{TakesNoMemory};
 
 use crate::refused_words::is_refused;
-use crate::stop::{Expected, GrammarBreach, Read, Stop};
+use crate::stop::{Expected, GrammarBreach, Input, Read, Stop};
 use std::alloc::Global;
 use sv_num::{Name, Place};
 use sv_token::{Lit, SignKind, Token, TokenKind, WordKind};
@@ -50,7 +51,7 @@ fn is_word(kind: TokenKind, word: WordKind) -> bool
 /// The place of this punctuation and the tokens behind it, if it comes.
 pub fn sign_at(sign: SignKind, tokens: &[Token]) -> Option<(Place, &[Token])>
     ensures is { (bytes : List ℕ) →
-        IfSome result (λ x. Stands (sign_at sign x.0) bytes tokens.now x.1.now) }
+        IfSome result (λ x. Stands (sign_at sign x.0) (in_text bytes tokens.now) x.1.now) }
     ensures one { IfSome result (λ x. length tokens.now ≡ length x.1.now + 1) }
     ensures none { (bytes : List ℕ) →
         IfNone result (NextIsNotSign sign (placed_tokens bytes tokens.now)) }
@@ -64,7 +65,7 @@ pub fn sign_at(sign: SignKind, tokens: &[Token]) -> Option<(Place, &[Token])>
 /// The place of this word and the tokens behind it, if it comes.
 pub fn word_at(word: WordKind, tokens: &[Token]) -> Option<(Place, &[Token])>
     ensures is { (bytes : List ℕ) →
-        IfSome result (λ x. Stands (word_at word x.0) bytes tokens.now x.1.now) }
+        IfSome result (λ x. Stands (word_at word x.0) (in_text bytes tokens.now) x.1.now) }
     ensures one { IfSome result (λ x. length tokens.now ≡ length x.1.now + 1) }
     ensures other { (bytes : List ℕ) →
         IfNone result (IsNext word (placed_tokens bytes tokens.now) → ⊥) }
@@ -80,7 +81,7 @@ pub fn word_at(word: WordKind, tokens: &[Token]) -> Option<(Place, &[Token])>
 /// The tokens behind this punctuation, if it comes.
 pub fn behind(sign: SignKind, tokens: &[Token]) -> Option<&[Token]>
     ensures is { (bytes : List ℕ) →
-        IfSome result (λ rest. Stands (a_sign sign) bytes tokens.now rest.now) }
+        IfSome result (λ rest. Stands (a_sign sign) (in_text bytes tokens.now) rest.now) }
     ensures one { IfSome result (λ rest. length tokens.now ≡ length rest.now + 1) }
     ensures none { (bytes : List ℕ) →
         IfNone result (NextIsNotSign sign (placed_tokens bytes tokens.now)) }
@@ -94,7 +95,7 @@ pub fn behind(sign: SignKind, tokens: &[Token]) -> Option<&[Token]>
 /// The tokens behind this word, if it comes.
 pub fn behind_word(word: WordKind, tokens: &[Token]) -> Option<&[Token]>
     ensures is { (bytes : List ℕ) →
-        IfSome result (λ rest. Stands (a_word word) bytes tokens.now rest.now) }
+        IfSome result (λ rest. Stands (a_word word) (in_text bytes tokens.now) rest.now) }
     ensures one { IfSome result (λ rest. length tokens.now ≡ length rest.now + 1) }
     ensures other { (bytes : List ℕ) →
         IfNone result (IsNext word (placed_tokens bytes tokens.now) → ⊥) }
@@ -110,14 +111,15 @@ pub fn behind_word(word: WordKind, tokens: &[Token]) -> Option<&[Token]>
 /// The tokens behind this punctuation, which has to come.
 pub fn expect_sign(sign: SignKind, tokens: &[Token]) -> Result<&[Token], Stop>
     ensures is { (bytes : List ℕ) →
-        IfOk result (λ rest. Stands (a_sign sign) bytes tokens.now rest.now) }
+        IfOk result (λ rest. Stands (a_sign sign) (in_text bytes tokens.now) rest.now) }
     ensures one { IfOk result (λ rest. length tokens.now ≡ length rest.now + 1) }
     ensures stops { (bytes : List ℕ) →
         IfErr result (λ e. StopsAt tokens.now
         (NextIsNotSign sign (placed_tokens bytes tokens.now)) e) }
     ensures reads { (bytes : List ℕ) → is_sign sign sign ≡ true →
-        IfOk result (λ rest. Comes (punctuation sign ∷ []) [] bytes tokens.now rest.now) }
-    ensures halts { (bytes : List ℕ) → HaltsOn result bytes tokens.now (punctuation sign ∷ []) }
+        IfOk result (λ rest. Comes (punctuation sign ∷ []) [] (in_text bytes tokens.now) rest.now) }
+    ensures halts { (bytes : List ℕ) →
+        HaltsOn result (in_text bytes tokens.now) (punctuation sign ∷ []) }
     ensures memory { TakesNoMemory result }
 {
     match behind(sign, tokens) {
@@ -128,7 +130,7 @@ pub fn expect_sign(sign: SignKind, tokens: &[Token]) -> Result<&[Token], Stop>
 
 /// The place of this word, which has to come, and the tokens behind it.
 pub fn expect_word(word: WordKind, tokens: &[Token]) -> Read<'_, Place>
-    ensures is { (bytes : List ℕ) → GivesAs result bytes tokens.now (word_at word) }
+    ensures is { (bytes : List ℕ) → GivesAs result (in_text bytes tokens.now) (word_at word) }
     ensures one { IfOk result (λ x. length tokens.now ≡ length x.1.now + 1) }
     ensures stops { (bytes : List ℕ) →
         IfErr result (λ e. StopsAt tokens.now
@@ -144,13 +146,15 @@ pub fn expect_word(word: WordKind, tokens: &[Token]) -> Read<'_, Place>
 /// A number with its place, which has to come, and the tokens behind it.
 pub fn read_number(tokens: &[Token]) -> Result<(Lit, Place, &[Token]), Stop>
     ensures is { (bytes : List ℕ) →
-        IfOk result (λ x. Stands (number_at (literal_of x.0) x.1) bytes tokens.now x.2.now) }
+        IfOk result (λ x.
+        Stands (number_at (literal_of x.0) x.1) (in_text bytes tokens.now) x.2.now) }
     ensures one { IfOk result (λ x. length tokens.now ≡ length x.2.now + 1) }
     ensures stops { (bytes : List ℕ) →
         IfErr result (λ e. StopsAt tokens.now (NextIsNoNumber (placed_tokens bytes tokens.now)) e) }
     ensures reads { (bytes : List ℕ) →
-        IfOk result (λ x. Comes (plain_number ∷ []) [] bytes tokens.now x.2.now) }
-    ensures halts { (bytes : List ℕ) → HaltsOn result bytes tokens.now (plain_number ∷ []) }
+        IfOk result (λ x. Comes (plain_number ∷ []) [] (in_text bytes tokens.now) x.2.now) }
+    ensures halts { (bytes : List ℕ) →
+        HaltsOn result (in_text bytes tokens.now) (plain_number ∷ []) }
     ensures memory { TakesNoMemory result }
 {
     match tokens {
@@ -172,21 +176,18 @@ pub fn text_of(bytes: &[u8], token: Token) -> &[u8]
 }
 
 /// A name with its place, which has to come, and the tokens behind it.
-pub fn read_name<'a>(
-    alloc: Global,
-    bytes: &[u8],
-    tokens: &'a [Token],
-) -> Result<(Name, Place, &'a [Token]), Stop>
-    ensures is { IfOk result (λ x. Stands (name_at x.0 x.1) bytes.now tokens.now x.2.now) }
-    ensures one { IfOk result (λ x. length tokens.now ≡ length x.2.now + 1) }
+pub fn read_name<'a>(alloc: Global, input: Input<'a>) -> Result<(Name, Place, &'a [Token]), Stop>
+    ensures is { IfOk result (λ x. Stands (name_at x.0 x.1) input.entry x.2.now) }
+    ensures one { IfOk result (λ x. length input.entry.rest.now ≡ length x.2.now + 1) }
     ensures stops { IfErr result (λ e.
-        StopsAt tokens.now (NextIsNoName (placed_tokens bytes.now tokens.now)) e) }
-    ensures reads { IfOk result (λ x. Comes (plain_name ∷ []) [] bytes.now tokens.now x.2.now) }
-    ensures halts { HaltsOn result bytes.now tokens.now (plain_name ∷ []) }
+        StopsAt input.entry.rest.now (NextIsNoName (placed input.entry)) e) }
+    ensures reads { IfOk result (λ x. Comes (plain_name ∷ []) [] input.entry x.2.now) }
+    ensures halts { HaltsOn result input.entry (plain_name ∷ []) }
 {
+    let tokens = input.rest;
     match tokens {
         [first, rest @ ..] if first.kind == TokenKind::Name => {
-            let text = text_of(bytes, *first);
+            let text = text_of(input.bytes, *first);
             if is_refused(text) {
                 Err(unexpected(tokens))
             } else {

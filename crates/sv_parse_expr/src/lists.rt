@@ -9,16 +9,18 @@ ghost use Rattle.sv_ast.specs.GrammarRules.{all_limits};
 ghost use Rattle.sv_parse_expr.specs.Reading.{AreLater};
 ghost use Rattle.sv_parse_machine.specs.Symbols.{State, outer, expression};
 ghost use Rattle.sv_parse_machine.specs.Reads.{GoesOn, NextIsNotSign};
-ghost use Rattle.sv_parse_expr.specs.Parses.{Gives, GivesAll, Shortens, NoLonger, LeadsBy, HaltsBy};
+ghost use Rattle.sv_parse_expr.specs.Parses.{placed, Gives, GivesAll, Shortens, NoLonger, LeadsBy};
+ghost use Rattle.sv_parse_expr.specs.Parses.{HaltsBy};
 
 use crate::cursor::behind;
 use crate::expressions::read_expression;
-use crate::stop::Read;
+use crate::stop::{Input, Read};
 use std::alloc::{AllocError, Global};
 use sv_ast::Expr;
-use sv_token::{SignKind, Token};
+use sv_token::SignKind;
 
-/// A kind of list, by what stands before its first comma and behind each comma.
+/// A kind of list, by the forms of its first member and of those behind a comma, and by how the
+/// latter are read.
 pub trait Listed {
     /// What an item of the list is read as.
     type Item: Drop;
@@ -31,40 +33,36 @@ pub trait Listed {
 
     ghost Later: { ℕ → Tree → Tree → List Placed → List Placed → Type 0 };
 
+    ghost next: { ℕ → State };
+
+    /// A member behind another one, and the tokens behind it.
+    fn later<'a>(
+        alloc: Global,
+        input: Input<'a>,
+        levels: usize,
+        before: &Self::Item,
+    ) -> Read<'a, Self::Item>
+        ensures reads { LeadsBy result input.entry (next levels) [] }
+        ensures halts { HaltsBy result input.entry (next levels) }
+        ensures is { Gives result input.entry tree (Later levels (tree before.now)) }
+        ensures shorter { Shortens result input.entry };
+}
+
+/// A kind of list that is read from its first member on, and not only behind one.
+pub trait Begun: Listed {
     ghost Begins: { List Placed → Type 0 };
 
     ghost start: { ℕ → State };
 
     ghost behind: { ℕ → State };
 
-    ghost next: { ℕ → State };
-
     /// The first member, and the tokens behind it.
-    fn first<'a>(
-        alloc: Global,
-        bytes: &[u8],
-        levels: usize,
-        tokens: &'a [Token],
-    ) -> Read<'a, Self::Item>
-        ensures is { Gives result bytes.now tokens.now tree (First levels) }
-        ensures reads { Begins (placed_tokens bytes.now tokens.now) →
-            LeadsBy result bytes.now tokens.now (start levels) (behind levels) }
-        ensures halts { Begins (placed_tokens bytes.now tokens.now) →
-            HaltsBy result bytes.now tokens.now (start levels) }
-        ensures shorter { Shortens result tokens.now };
-
-    /// A member behind another one, and the tokens behind it.
-    fn later<'a>(
-        alloc: Global,
-        bytes: &[u8],
-        levels: usize,
-        before: &Self::Item,
-        tokens: &'a [Token],
-    ) -> Read<'a, Self::Item>
-        ensures reads { LeadsBy result bytes.now tokens.now (next levels) [] }
-        ensures halts { HaltsBy result bytes.now tokens.now (next levels) }
-        ensures is { Gives result bytes.now tokens.now tree (Later levels (tree before.now)) }
-        ensures shorter { Shortens result tokens.now };
+    fn first<'a>(alloc: Global, input: Input<'a>, levels: usize) -> Read<'a, Self::Item>
+        ensures is { Gives result input.entry Self.tree (Self.First levels) }
+        ensures reads { Begins (placed input.entry) →
+            LeadsBy result input.entry (start levels) (behind levels) }
+        ensures halts { Begins (placed input.entry) → HaltsBy result input.entry (start levels) }
+        ensures shorter { Shortens result input.entry };
 }
 
 /// A list of one member.
@@ -79,26 +77,26 @@ pub fn one<T: Drop>(alloc: Global, item: T) -> Result<Vec<T>, AllocError>
 /// The members of a list of which the first is read already.
 pub fn read_list_from<'a, M: Listed>(
     alloc: Global,
-    bytes: &[u8],
+    input: Input<'a>,
     levels: usize,
     first: M::Item,
-    tokens: &'a [Token],
 ) -> Read<'a, Vec<M::Item>>
-    ensures is { GivesAll result bytes.now tokens.now M.tree
+    ensures is { GivesAll result input.entry M.tree
         (AreLater M.Tree (M.Later levels) (M.tree first)) }
-    ensures shorter { NoLonger result tokens.now }
+    ensures shorter { NoLonger result input.entry }
     ensures reads { (more : State) → GoesOn more (M.next levels) →
-        LeadsBy result bytes.now tokens.now more more }
+        LeadsBy result input.entry more more }
     ensures halts { (more : State) → GoesOn more (M.next levels) →
-        HaltsBy result bytes.now tokens.now more }
+        HaltsBy result input.entry more }
     ensures ends { IfOk result (λ x.
-        NextIsNotSign SignKind.Comma (placed_tokens bytes.now x.1.now)) }
+        NextIsNotSign SignKind.Comma (placed_tokens input.entry.bytes.now x.1.now)) }
 {
     let mut items = Vec::new(alloc);
     let mut before = first;
-    let mut rest = tokens;
+    let mut rest = input.rest;
     while let Some(after) = behind(SignKind::Comma, rest) {
-        let (next, more) = M::later(alloc, bytes, levels, &before, after)?;
+        rest = after;
+        let (next, more) = M::later(alloc, Input { rest, ..input }, levels, &before)?;
         items.push(before)?;
         before = next;
         rest = more;
@@ -108,26 +106,24 @@ pub fn read_list_from<'a, M: Listed>(
 }
 
 /// The members of a list, at least one, and the tokens behind them.
-pub fn read_list<'a, M: Listed>(
+pub fn read_list<'a, M: Begun>(
     alloc: Global,
-    bytes: &[u8],
+    input: Input<'a>,
     levels: usize,
-    tokens: &'a [Token],
 ) -> Read<'a, Vec<M::Item>>
-    ensures is { GivesAll result bytes.now tokens.now M.tree
-        (listed (M.First levels) (M.Later levels)) }
-    ensures shorter { Shortens result tokens.now }
+    ensures is { GivesAll result input.entry M.tree (listed (M.First levels) (M.Later levels)) }
+    ensures shorter { Shortens result input.entry }
     ensures reads { (more others : State) → GoesOn more (M.next levels) →
-        M.behind levels ++ others ≡ more → M.Begins (placed_tokens bytes.now tokens.now) →
-        LeadsBy result bytes.now tokens.now (M.start levels ++ others) more }
+        M.behind levels ++ others ≡ more → M.Begins (placed input.entry) →
+        LeadsBy result input.entry (M.start levels ++ others) more }
     ensures halts { (more others : State) → GoesOn more (M.next levels) →
-        M.behind levels ++ others ≡ more → M.Begins (placed_tokens bytes.now tokens.now) →
-        HaltsBy result bytes.now tokens.now (M.start levels ++ others) }
+        M.behind levels ++ others ≡ more → M.Begins (placed input.entry) →
+        HaltsBy result input.entry (M.start levels ++ others) }
     ensures ends { IfOk result (λ x.
-        NextIsNotSign SignKind.Comma (placed_tokens bytes.now x.1.now)) }
+        NextIsNotSign SignKind.Comma (placed_tokens input.entry.bytes.now x.1.now)) }
 {
-    let (first, rest) = M::first(alloc, bytes, levels, tokens)?;
-    let (items, rest) = read_list_from::<M>(alloc, bytes, levels, first, rest)?;
+    let (first, rest) = M::first(alloc, input, levels)?;
+    let (items, rest) = read_list_from::<M>(alloc, Input { rest, ..input }, levels, first)?;
     Ok((items, rest))
 }
 
@@ -145,30 +141,21 @@ impl Listed for Expressions {
 
     ghost Later = { λ n before. IsExpression all_limits n };
 
+    ghost next = { λ n. outer (expression n) ∷ [] };
+
+    fn later<'a>(alloc: Global, input: Input<'a>, levels: usize, _before: &Expr) -> Read<'a, Expr> {
+        read_expression(alloc, input, levels)
+    }
+}
+
+impl Begun for Expressions {
     ghost Begins = { λ ts. Unit {0} };
 
     ghost start = { λ n. outer (expression n) ∷ [] };
 
     ghost behind = { λ n. [] };
 
-    ghost next = { λ n. outer (expression n) ∷ [] };
-
-    fn first<'a>(
-        alloc: Global,
-        bytes: &[u8],
-        levels: usize,
-        tokens: &'a [Token],
-    ) -> Read<'a, Expr> {
-        read_expression(alloc, bytes, levels, tokens)
-    }
-
-    fn later<'a>(
-        alloc: Global,
-        bytes: &[u8],
-        levels: usize,
-        _before: &Expr,
-        tokens: &'a [Token],
-    ) -> Read<'a, Expr> {
-        read_expression(alloc, bytes, levels, tokens)
+    fn first<'a>(alloc: Global, input: Input<'a>, levels: usize) -> Read<'a, Expr> {
+        read_expression(alloc, input, levels)
     }
 }

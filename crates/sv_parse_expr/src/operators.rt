@@ -8,7 +8,7 @@ ghost use Rattle.sv_ast.specs.GrammarGroups.{precedence_of};
 ghost use Rattle.sv_parse_machine.specs.Reads.{NextIsNoBinary, NextIsNoUnary};
 ghost use Rattle.sv_parse_machine.specs.Reads.{NextIsNotOfPrecedence};
 ghost use Rattle.sv_parse_machine.specs.Reads.{NextIsNoOperator};
-ghost use Rattle.sv_parse_expr.specs.Parses.{Stands};
+ghost use Rattle.sv_parse_expr.specs.Parses.{in_text, Stands};
 
 use sv_num::{BINARY, BinOp, BinRow, Place, UNARY, UnOp};
 use sv_token::{Operator, SignKind, Token, TokenKind};
@@ -50,7 +50,7 @@ fn unary_operator(operator: Operator) -> Option<UnOp>
 /// The binary operator that comes, its precedence and its place, and the tokens behind it.
 pub(crate) fn binary_at(tokens: &[Token]) -> Option<(BinOp, u8, Place, &[Token])>
     ensures is { (bytes : List ℕ) →
-        IfSome result (λ x. Stands (binary_at x.0 x.2) bytes tokens.now x.3.now) }
+        IfSome result (λ x. Stands (binary_at x.0 x.2) (in_text bytes tokens.now) x.3.now) }
     ensures precedence { IfSome result (λ x. x.1 ≡ precedence_of x.0) }
     ensures one { IfSome result (λ x. length tokens.now ≡ length x.3.now + 1) }
     ensures none { (bytes : List ℕ) →
@@ -72,7 +72,7 @@ pub(crate) fn binary_at(tokens: &[Token]) -> Option<(BinOp, u8, Place, &[Token])
 /// The unary operator that comes, its place, and the tokens behind it.
 pub(crate) fn unary_at(tokens: &[Token]) -> Option<(UnOp, Place, &[Token])>
     ensures is { (bytes : List ℕ) →
-        IfSome result (λ x. Stands (unary_at x.0 x.1) bytes tokens.now x.2.now) }
+        IfSome result (λ x. Stands (unary_at x.0 x.1) (in_text bytes tokens.now) x.2.now) }
     ensures one { IfSome result (λ x. length tokens.now ≡ length x.2.now + 1) }
     ensures none { (bytes : List ℕ) →
         IfNone result (NextIsNoUnary (placed_tokens bytes tokens.now)) }
@@ -91,7 +91,7 @@ pub(crate) fn unary_at(tokens: &[Token]) -> Option<(UnOp, Place, &[Token])>
 /// The binary operator of this precedence that comes, its place, and the tokens behind it.
 pub(crate) fn binary_of(precedence: u8, tokens: &[Token]) -> Option<(BinOp, Place, &[Token])>
     ensures is { (bytes : List ℕ) →
-        IfSome result (λ x. Stands (binary_at x.0 x.1) bytes tokens.now x.2.now) }
+        IfSome result (λ x. Stands (binary_at x.0 x.1) (in_text bytes tokens.now) x.2.now) }
     ensures precedence { IfSome result (λ x. precedence_of x.0 ≡ precedence) }
     ensures one { IfSome result (λ x. length tokens.now ≡ length x.2.now + 1) }
     ensures none { (bytes : List ℕ) →
@@ -116,7 +116,8 @@ fn is_same(a: BinOp, b: BinOp) -> bool
 /// The tokens behind this binary operator, if it comes.
 pub fn operator_at(op: BinOp, tokens: &[Token]) -> Option<&[Token]>
     ensures is { (bytes : List ℕ) →
-        IfSome result (λ rest. Stands (somewhere (binary_at op)) bytes tokens.now rest.now) }
+        IfSome result (λ rest.
+        Stands (somewhere (binary_at op)) (in_text bytes tokens.now) rest.now) }
     ensures one { IfSome result (λ rest. length tokens.now ≡ length rest.now + 1) }
     ensures none { (bytes : List ℕ) →
         IfNone result (NextIsNoOperator op (placed_tokens bytes tokens.now)) }

@@ -5,7 +5,7 @@ ghost use Rattle.sv_token.specs.Lexemes.{placed_tokens};
 ghost use Rattle.sv_ast.specs.GrammarForms.{a_sign};
 ghost use Rattle.sv_parse_machine.specs.Symbols.{Inner, inner};
 ghost use Rattle.sv_parse_machine.specs.Reads.{Reads, NextTakes, Closes};
-ghost use Rattle.sv_parse_expr.specs.Parses.{Stands, HaltsBy, TakesNoMemory};
+ghost use Rattle.sv_parse_expr.specs.Parses.{in_text, Stands, HaltsBy, TakesNoMemory};
 
 use crate::cursor::expect_sign;
 use crate::stop::{GrammarBreach, Stop};
@@ -73,7 +73,7 @@ impl Room {
         ensures long { IfErr result (λ e. length tokens.now ≤ self.beyond) }
         ensures halts { (bytes : List ℕ) (start : ℕ) (s : Inner) (xs : List Inner) →
             self.beyond ≡ start - 1024 → NextTakes s 0 xs (placed_tokens bytes tokens.now) →
-            HaltsBy result bytes tokens.now (inner start s ∷ []) }
+            HaltsBy result (in_text bytes tokens.now) (inner start s ∷ []) }
     {
         if self.beyond < tokens.len() {
             Ok(())
@@ -96,7 +96,7 @@ impl Room {
         ensures halts { (bytes : List ℕ) (start : ℕ) (s : Inner) (xs : List Inner) →
             self.beyond ≡ start - 1024 →
             NextTakes s (self.levels + 1) xs (placed_tokens bytes tokens.now) →
-            HaltsBy result bytes tokens.now (inner start s ∷ []) }
+            HaltsBy result (in_text bytes tokens.now) (inner start s ∷ []) }
         ensures memory { TakesNoMemory result }
     {
         let levels = deeper(self.levels, tokens)?;
@@ -110,7 +110,7 @@ impl Room {
     /// The tokens behind this punctuation of the expression, which has to come.
     pub fn expect(self, sign: SignKind, tokens: &[Token]) -> Result<&[Token], Stop>
         ensures is { (bytes : List ℕ) →
-            IfOk result (λ rest. Stands (a_sign sign) bytes tokens.now rest.now) }
+            IfOk result (λ rest. Stands (a_sign sign) (in_text bytes tokens.now) rest.now) }
         ensures one { IfOk result (λ rest. length tokens.now ≡ length rest.now + 1) }
         ensures counted { IfOk result (λ rest. self.beyond ≤ length rest.now) }
         ensures reads { (bytes : List ℕ) (start : ℕ) (s : Inner) → self.beyond ≡ start - 1024 →
@@ -119,7 +119,7 @@ impl Room {
             (placed_tokens bytes rest.now)) }
         ensures halts { (bytes : List ℕ) (start : ℕ) (s : Inner) → self.beyond ≡ start - 1024 →
             Closes sign s →
-            HaltsBy result bytes tokens.now (inner start s ∷ []) }
+            HaltsBy result (in_text bytes tokens.now) (inner start s ∷ []) }
         ensures memory { TakesNoMemory result }
     {
         let rest = expect_sign(sign, tokens)?;

@@ -1,4 +1,4 @@
-// Why reading stops, and where.
+// What is read from, why reading stops, and where.
 ghost use Rattle.std.specs.Prelude.{◌≡◌};
 ghost use Rattle.sv_parse_expr.specs.declared.stop.Stop.TheVariants.{OutOfMemory};
 
@@ -41,6 +41,14 @@ pub enum Stop {
     Broken(GrammarBreach, usize),
     /// The allocator gave out no more memory.
     OutOfMemory,
+}
+
+/// A text, with those of its tokens that are left to read. A reader gives back the tokens behind
+/// what it read, and not an input: so none has to promise that the text stays the same.
+#[derive(Clone, Copy)]
+pub struct Input<'a> {
+    pub bytes: &'a [u8],
+    pub rest: &'a [Token],
 }
 
 /// What is read, and the tokens behind it; or why reading stops.

@@ -9,13 +9,13 @@ use Rattle.sv_parse_expr.proofs.expressions.read_in_parentheses.Goals as goal
 
 pub returns-clause-is : goal.returns-clause-is
 returns-clause-is c = (
-  (placed_tokens c.args.bytes.now c.in_ok-rest.rest.now),
+  (placed_tokens c.args.input.bytes.now c.in_ok-rest.rest.now),
   c.in_ok-rest.ensures.is
-      c.args.bytes.now,
+      c.args.input.bytes.now,
   (
-    (placed_tokens c.args.bytes.now c.in_ok-expr.rest.now),
+    (placed_tokens c.args.input.bytes.now c.in_ok-expr.rest.now),
     c.in_ok-expr.ensures.is,
-    c.in_ok-rest-2.ensures.is c.args.bytes.now,
+    c.in_ok-rest-2.ensures.is c.args.input.bytes.now,
   ),
 )
 
@@ -24,7 +24,7 @@ returns-in_err-rest-clause-halts c =
     passed _ _ _ c.from_residual.ensures.1
     (stops_before (outer (punctuation signs.OpenParenthesis) ∷ [])
     (outer (expression c.args.levels) ∷ outer (punctuation signs.CloseParenthesis) ∷ []) _ _
-    (c.in_err-rest.ensures.halts c.args.bytes.now))
+    (c.in_err-rest.ensures.halts c.args.input.bytes.now))
 
 pub returns-in_err-rest-2-clause-halts : goal.returns-in_err-rest-2-clause-halts
 returns-in_err-rest-2-clause-halts c =
@@ -35,6 +35,6 @@ returns-in_err-rest-2-clause-halts c =
     (stops_then _ close_last _ _ _
     (then_read _ expr close_last _ _ _
     (reads_before open_first [] (outer (expression c.args.levels) ∷ close_last) _ _
-    (c.in_ok-rest.ensures.reads c.args.bytes.now refl))
+    (c.in_ok-rest.ensures.reads c.args.input.bytes.now refl))
     c.in_ok-expr.ensures.reads)
-    (c.in_err-rest-2.ensures.halts c.args.bytes.now))
+    (c.in_err-rest-2.ensures.halts c.args.input.bytes.now))

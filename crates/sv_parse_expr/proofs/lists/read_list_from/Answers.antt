@@ -9,7 +9,7 @@ pub loop-after-preserved : goal.loop-after-preserved
 loop-after-preserved g c = record {
   are = pushed_open _ _ g.M.Listed.tree _ _ _ _ _ _ _ _ c.in_ok-push.ensures.items
       (open_more _ _ _ _ _ _ _ _ _ _ c.loop-after.invariant.are
-      (c.in-Some.ensures.is c.args.bytes.now) c.in_ok-next.ensures.is);
+      (c.in-Some.ensures.is c.args.input.bytes.now) c.in_ok-next.ensures.is);
   shorter =
       omega (
         arith,
@@ -20,7 +20,7 @@ loop-after-preserved g c = record {
   reads = λ more on.
       reads_then more more more _ _ _ (c.loop-after.invariant.reads more on)
       (then_read more (g.M.Listed.next c.args.levels) more _ _ _
-      (on.comma _ _ (c.in-Some.ensures.is c.args.bytes.now)) c.in_ok-next.ensures.reads);
+      (on.comma _ _ (c.in-Some.ensures.is c.args.input.bytes.now)) c.in_ok-next.ensures.reads);
 }
 
 pub returns-clause-is : goal.returns-clause-is
@@ -33,4 +33,4 @@ returns-in_err-next-clause-halts g c = λ more on.
     passed _ _ _ c.from_residual.ensures.1
     (stops_then more more _ _ _ (c.loop-after.invariant.reads more on)
     (then_stop more (g.M.Listed.next c.args.levels) more _ _ _
-    (on.comma _ _ (c.in-Some.ensures.is c.args.bytes.now)) c.in_err-next.ensures.halts))
+    (on.comma _ _ (c.in-Some.ensures.is c.args.input.bytes.now)) c.in_err-next.ensures.halts))

@@ -1,5 +1,6 @@
 use Rattle.std.proofs.Common.{◌≤◌, length, map}
 use Rattle.sv_token.specs.Lexemes.{placed_tokens}
+use Rattle.sv_parse_expr.specs.Parses.{placed}
 use Rattle.sv_parse_machine.specs.Symbols.{State}
 use Rattle.sv_parse_machine.specs.Reads.{Reads, GoesOn}
 use Rattle.sv_parse_expr.proofs.ReadingLists.{AreOpen}
@@ -12,8 +13,8 @@ abbrev pub invariant-loop-after : goal.invariant-loop-after
 invariant-loop-after g l = record {
   are : AreOpen g.M.Listed.Tree (g.M.Listed.Later l.levels) (g.M.Listed.tree l.fn.first)
       (map g.M.Listed.tree l.items.items) (g.M.Listed.tree l.before)
-      (placed_tokens l.bytes l.tokens) (placed_tokens l.bytes l.rest);
-  shorter : length l.rest ≤ length l.tokens;
+      (placed l.input) (placed_tokens l.input.bytes.now l.rest);
+  shorter : length l.rest ≤ length l.input.rest.now;
   reads : (more : State) → GoesOn more (g.M.Listed.next l.levels) →
-      Reads more more (placed_tokens l.bytes l.tokens) (placed_tokens l.bytes l.rest);
+      Reads more more (placed l.input) (placed_tokens l.input.bytes.now l.rest);
 }

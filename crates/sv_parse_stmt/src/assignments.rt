@@ -1,6 +1,5 @@
 // Items that begin with `assign` (IEEE 1364-2005, clause 6.1; releases are this project's profile).
-ghost use Rattle.std.specs.Prelude.{◌<◌, ◌≤◌, ℕ, List, length, map, IfOk, [], ◌∷◌};
-ghost use Rattle.sv_token.specs.Lexemes.{placed_tokens};
+ghost use Rattle.std.specs.Prelude.{◌<◌, length, map, IfOk, [], ◌∷◌};
 ghost use Rattle.sv_ast.specs.Tree.{TargetTree, ItemTree};
 ghost use Rattle.sv_ast.specs.Views.{target_tree, item_tree};
 ghost use Rattle.sv_ast.specs.GrammarForms.{◌or◌};
@@ -13,8 +12,8 @@ ghost use Rattle.sv_ast.specs.GrammarRules.{all_limits};
 ghost use Rattle.sv_parse_machine.specs.Symbols.{outer, punctuation, plain_name, expression, items};
 ghost use Rattle.sv_parse_machine.specs.Symbols.{assigned, later_assigned};
 ghost use Rattle.sv_parse_machine.specs.Reads.{NextIsNotSign};
-ghost use Rattle.sv_parse_expr.specs.Parses.{GivesAs, Gives, GivesAll, Shortens, LeadsBy, Leads};
-ghost use Rattle.sv_parse_expr.specs.Parses.{HaltsBy, HaltsOn};
+ghost use Rattle.sv_parse_expr.specs.Parses.{placed, GivesAs, Gives, GivesAll, Shortens, LeadsBy};
+ghost use Rattle.sv_parse_expr.specs.Parses.{Leads, HaltsBy, HaltsOn};
 ghost use Rattle.sv_parse_stmt.specs.ReadingAssignments.{AssignsTo, ReleasesAs, IsAssignEnd};
 ghost use Rattle.sv_parse_stmt.specs.ReadingAssignments.{behind_targets, behind_release};
 
@@ -25,18 +24,18 @@ use sv_ast::{Item, Select, Target};
 use sv_num::{Name, Place};
 use sv_parse_expr::cursor::{behind, behind_word, expect_sign, expect_word, read_name};
 use sv_parse_expr::expressions::read_expression;
-use sv_parse_expr::lists::{Listed, one, read_list, read_list_from};
-use sv_parse_expr::stop::Read;
-use sv_token::{SignKind, Token, WordKind};
+use sv_parse_expr::lists::{Begun, Listed, one, read_list, read_list_from};
+use sv_parse_expr::stop::{Input, Read};
+use sv_token::{SignKind, WordKind};
 
 // A whole signal as target.
-fn read_whole_target<'a>(alloc: Global, bytes: &[u8], tokens: &'a [Token]) -> Read<'a, Target>
-    ensures is { Gives result bytes.now tokens.now target_tree IsWholeTarget }
-    ensures shorter { Shortens result tokens.now }
-    ensures reads { Leads result bytes.now tokens.now (plain_name ∷ []) [] }
-    ensures halts { HaltsOn result bytes.now tokens.now (plain_name ∷ []) }
+fn read_whole_target<'a>(alloc: Global, input: Input<'a>) -> Read<'a, Target>
+    ensures is { Gives result input.entry target_tree IsWholeTarget }
+    ensures shorter { Shortens result input.entry }
+    ensures reads { Leads result input.entry (plain_name ∷ []) [] }
+    ensures halts { HaltsOn result input.entry (plain_name ∷ []) }
 {
-    let (name, place, rest) = read_name(alloc, bytes, tokens)?;
+    let (name, place, rest) = read_name(alloc, input)?;
     let target = Target {
         name,
         place,
@@ -59,67 +58,57 @@ impl Listed for WholeTargets {
 
     ghost Later = { λ n before. IsWholeTarget };
 
+    ghost next = { λ n. outer plain_name ∷ [] };
+
+    fn later<'a>(
+        alloc: Global,
+        input: Input<'a>,
+        _open: usize,
+        _before: &Target,
+    ) -> Read<'a, Target> {
+        read_whole_target(alloc, input)
+    }
+}
+
+impl Begun for WholeTargets {
     ghost Begins = { λ ts. Unit {0} };
 
     ghost start = { λ n. outer plain_name ∷ [] };
 
     ghost behind = { λ n. [] };
 
-    ghost next = { λ n. outer plain_name ∷ [] };
-
-    fn first<'a>(
-        alloc: Global,
-        bytes: &[u8],
-        _open: usize,
-        tokens: &'a [Token],
-    ) -> Read<'a, Target> {
-        read_whole_target(alloc, bytes, tokens)
-    }
-
-    fn later<'a>(
-        alloc: Global,
-        bytes: &[u8],
-        _open: usize,
-        _before: &Target,
-        tokens: &'a [Token],
-    ) -> Read<'a, Target> {
-        read_whole_target(alloc, bytes, tokens)
+    fn first<'a>(alloc: Global, input: Input<'a>, _open: usize) -> Read<'a, Target> {
+        read_whole_target(alloc, input)
     }
 }
 
 // The targets of an assignment of the item: one, or several in braces.
-fn read_whole_targets<'a>(alloc: Global, bytes: &[u8], tokens: &'a [Token]) -> Read<'a, Vec<Target>>
-    ensures is { GivesAll result bytes.now tokens.now target_tree (AreTargets IsWholeTarget) }
-    ensures shorter { Shortens result tokens.now }
+fn read_whole_targets<'a>(alloc: Global, input: Input<'a>) -> Read<'a, Vec<Target>>
+    ensures is { GivesAll result input.entry target_tree (AreTargets IsWholeTarget) }
+    ensures shorter { Shortens result input.entry }
     ensures some { IfOk result (λ x. 0 < length x.0.items) }
-    ensures reads { LeadsBy result bytes.now tokens.now (outer later_assigned ∷ []) behind_targets }
-    ensures halts { HaltsOn result bytes.now tokens.now (later_assigned ∷ []) }
+    ensures reads { LeadsBy result input.entry (outer later_assigned ∷ []) behind_targets }
+    ensures halts { HaltsOn result input.entry (later_assigned ∷ []) }
 {
-    if let Some(rest) = behind(SignKind::OpenBrace, tokens) {
-        let (targets, rest) = read_list::<WholeTargets>(alloc, bytes, 0, rest)?;
+    if let Some(rest) = behind(SignKind::OpenBrace, input.rest) {
+        let (targets, rest) = read_list::<WholeTargets>(alloc, Input { rest, ..input }, 0)?;
         let rest = expect_sign(SignKind::CloseBrace, rest)?;
         return Ok((targets, rest));
     }
-    let (only, rest) = read_whole_target(alloc, bytes, tokens)?;
+    let (only, rest) = read_whole_target(alloc, input)?;
     Ok((one(alloc, only)?, rest))
 }
 
 // The value of an assignment to the targets, behind its `=`.
-fn read_valued<'a>(
-    alloc: Global,
-    bytes: &[u8],
-    targets: Vec<Target>,
-    tokens: &'a [Token],
-) -> Read<'a, Item>
+fn read_valued<'a>(alloc: Global, input: Input<'a>, targets: Vec<Target>) -> Read<'a, Item>
     requires { 0 < length targets.items }
-    ensures is { Gives result bytes.now tokens.now item_tree
-        (AssignsTo (map target_tree targets.items)) }
-    ensures shorter { Shortens result tokens.now }
-    ensures reads { Leads result bytes.now tokens.now (expression 0 ∷ []) [] }
-    ensures halts { HaltsOn result bytes.now tokens.now (expression 0 ∷ []) }
+    ensures is { Gives result input.entry item_tree (AssignsTo (map target_tree targets.items)) }
+    ensures shorter { Shortens result input.entry }
+    ensures reads { Leads result input.entry (expression 0 ∷ []) [] }
+    ensures halts { HaltsOn result input.entry (expression 0 ∷ []) }
 {
     let place = first_place(&targets);
-    let (value, rest) = read_expression(alloc, bytes, 0, tokens)?;
+    let (value, rest) = read_expression(alloc, input, 0)?;
     let item = Item::Assign {
         targets,
         place,
@@ -129,15 +118,15 @@ fn read_valued<'a>(
 }
 
 // An assignment of the item.
-fn read_assignment<'a>(alloc: Global, bytes: &[u8], tokens: &'a [Token]) -> Read<'a, Item>
-    ensures is { Gives result bytes.now tokens.now item_tree (IsContinuous all_limits) }
-    ensures shorter { Shortens result tokens.now }
-    ensures reads { Leads result bytes.now tokens.now (later_assigned ∷ []) [] }
-    ensures halts { HaltsOn result bytes.now tokens.now (later_assigned ∷ []) }
+fn read_assignment<'a>(alloc: Global, input: Input<'a>) -> Read<'a, Item>
+    ensures is { Gives result input.entry item_tree (IsContinuous all_limits) }
+    ensures shorter { Shortens result input.entry }
+    ensures reads { Leads result input.entry (later_assigned ∷ []) [] }
+    ensures halts { HaltsOn result input.entry (later_assigned ∷ []) }
 {
-    let (targets, rest) = read_whole_targets(alloc, bytes, tokens)?;
+    let (targets, rest) = read_whole_targets(alloc, input)?;
     let rest = expect_sign(SignKind::Equals, rest)?;
-    let (item, rest) = read_valued(alloc, bytes, targets, rest)?;
+    let (item, rest) = read_valued(alloc, Input { rest, ..input }, targets)?;
     Ok((item, rest))
 }
 
@@ -155,46 +144,36 @@ impl Listed for Assignments {
 
     ghost Later = { λ n before. IsContinuous all_limits };
 
+    ghost next = { λ n. outer later_assigned ∷ [] };
+
+    fn later<'a>(alloc: Global, input: Input<'a>, _open: usize, _before: &Item) -> Read<'a, Item> {
+        read_assignment(alloc, input)
+    }
+}
+
+impl Begun for Assignments {
     ghost Begins = { λ ts. Unit {0} };
 
     ghost start = { λ n. outer later_assigned ∷ [] };
 
     ghost behind = { λ n. [] };
 
-    ghost next = { λ n. outer later_assigned ∷ [] };
-
-    fn first<'a>(alloc: Global, bytes: &[u8], _open: usize, tokens: &'a [Token]) -> Read<'a, Item> {
-        read_assignment(alloc, bytes, tokens)
-    }
-
-    fn later<'a>(
-        alloc: Global,
-        bytes: &[u8],
-        _open: usize,
-        _before: &Item,
-        tokens: &'a [Token],
-    ) -> Read<'a, Item> {
-        read_assignment(alloc, bytes, tokens)
+    fn first<'a>(alloc: Global, input: Input<'a>, _open: usize) -> Read<'a, Item> {
+        read_assignment(alloc, input)
     }
 }
 
 // What is released to a point, behind the word.
-fn read_released<'a>(
-    alloc: Global,
-    bytes: &[u8],
-    target: Name,
-    place: Place,
-    tokens: &'a [Token],
-) -> Read<'a, Item>
-    ensures is { Gives result bytes.now tokens.now item_tree
+fn read_released<'a>(alloc: Global, input: Input<'a>, target: Name, place: Place) -> Read<'a, Item>
+    ensures is { Gives result input.entry item_tree
         (ReleasesAs (record { name = target; place = place })) }
-    ensures shorter { Shortens result tokens.now }
-    ensures reads { LeadsBy result bytes.now tokens.now behind_release [] }
-    ensures halts { HaltsBy result bytes.now tokens.now behind_release }
+    ensures shorter { Shortens result input.entry }
+    ensures reads { LeadsBy result input.entry behind_release [] }
+    ensures halts { HaltsBy result input.entry behind_release }
 {
-    let rest = expect_sign(SignKind::OpenParenthesis, tokens)?;
-    let (value, rest) = read_closed(alloc, bytes, 0, SignKind::Comma, rest)?;
-    let (point, point_place, rest) = read_closed_name(alloc, bytes, rest)?;
+    let rest = expect_sign(SignKind::OpenParenthesis, input.rest)?;
+    let (value, rest) = read_closed(alloc, Input { rest, ..input }, 0, SignKind::Comma)?;
+    let (point, point_place, rest) = read_closed_name(alloc, Input { rest, ..input })?;
     let item = Item::Release {
         target,
         place,
@@ -206,18 +185,18 @@ fn read_released<'a>(
 }
 
 // The items behind `assign` where the first target is in no braces.
-fn read_named_first<'a>(alloc: Global, bytes: &[u8], tokens: &'a [Token]) -> Read<'a, Vec<Item>>
-    ensures is { GivesAll result bytes.now tokens.now item_tree IsAssignEnd }
-    ensures shorter { Shortens result tokens.now }
-    ensures reads { NextIsNotSign signs.OpenBrace (placed_tokens bytes.now tokens.now) →
-        Leads result bytes.now tokens.now (assigned ∷ []) (punctuation signs.Semicolon ∷ []) }
-    ensures halts { NextIsNotSign signs.OpenBrace (placed_tokens bytes.now tokens.now) →
-        HaltsOn result bytes.now tokens.now (assigned ∷ []) }
+fn read_named_first<'a>(alloc: Global, input: Input<'a>) -> Read<'a, Vec<Item>>
+    ensures is { GivesAll result input.entry item_tree IsAssignEnd }
+    ensures shorter { Shortens result input.entry }
+    ensures reads { NextIsNotSign signs.OpenBrace (placed input.entry) →
+        Leads result input.entry (assigned ∷ []) (punctuation signs.Semicolon ∷ []) }
+    ensures halts { NextIsNotSign signs.OpenBrace (placed input.entry) →
+        HaltsOn result input.entry (assigned ∷ []) }
 {
-    let (name, place, rest) = read_name(alloc, bytes, tokens)?;
+    let (name, place, rest) = read_name(alloc, input)?;
     let rest = expect_sign(SignKind::Equals, rest)?;
     if let Some(rest) = behind_word(WordKind::Release, rest) {
-        let (item, rest) = read_released(alloc, bytes, name, place, rest)?;
+        let (item, rest) = read_released(alloc, Input { rest, ..input }, name, place)?;
         return Ok((one(alloc, item)?, rest));
     }
     let target = Target {
@@ -225,30 +204,30 @@ fn read_named_first<'a>(alloc: Global, bytes: &[u8], tokens: &'a [Token]) -> Rea
         place,
         select: Select::Whole,
     };
-    let (first, rest) = read_valued(alloc, bytes, one(alloc, target)?, rest)?;
-    let (items, rest) = read_list_from::<Assignments>(alloc, bytes, 0, first, rest)?;
+    let (first, rest) = read_valued(alloc, Input { rest, ..input }, one(alloc, target)?)?;
+    let (items, rest) = read_list_from::<Assignments>(alloc, Input { rest, ..input }, 0, first)?;
     Ok((items, rest))
 }
 
 /// The assignments of an item that begins with `assign`, or its release.
-pub fn read_assigned<'a>(alloc: Global, bytes: &[u8], tokens: &'a [Token]) -> Read<'a, Vec<Item>>
-    ensures is { GivesAs result bytes.now tokens.now (λ x.
+pub fn read_assigned<'a>(alloc: Global, input: Input<'a>) -> Read<'a, Vec<Item>>
+    ensures is { GivesAs result input.entry (λ x.
         AreContinuous all_limits (map item_tree x.items)
         or only (IsReleased all_limits) (map item_tree x.items)) }
-    ensures shorter { Shortens result tokens.now }
-    ensures reads { IsNext words.Assign (placed_tokens bytes.now tokens.now) →
-        Leads result bytes.now tokens.now (items ∷ []) (punctuation signs.Semicolon ∷ items ∷ []) }
-    ensures halts { IsNext words.Assign (placed_tokens bytes.now tokens.now) →
-        HaltsOn result bytes.now tokens.now (items ∷ []) }
+    ensures shorter { Shortens result input.entry }
+    ensures reads { IsNext words.Assign (placed input.entry) →
+        Leads result input.entry (items ∷ []) (punctuation signs.Semicolon ∷ items ∷ []) }
+    ensures halts { IsNext words.Assign (placed input.entry) →
+        HaltsOn result input.entry (items ∷ []) }
 {
-    let (_place, rest) = expect_word(WordKind::Assign, tokens)?;
+    let (_place, rest) = expect_word(WordKind::Assign, input.rest)?;
     match behind(SignKind::OpenBrace, rest) {
         Some(_) => {
-            let (items, rest) = read_list::<Assignments>(alloc, bytes, 0, rest)?;
+            let (items, rest) = read_list::<Assignments>(alloc, Input { rest, ..input }, 0)?;
             Ok((items, rest))
         }
         None => {
-            let (items, rest) = read_named_first(alloc, bytes, rest)?;
+            let (items, rest) = read_named_first(alloc, Input { rest, ..input })?;
             Ok((items, rest))
         }
     }

@@ -14,7 +14,7 @@ use sv_ast::Expr;
 use sv_num::{Name, Place};
 use sv_parse_expr::cursor::{expect_sign, read_name};
 use sv_parse_expr::expressions::read_expression;
-use sv_parse_expr::stop::{Read, Stop};
+use sv_parse_expr::stop::{Input, Read, Stop};
 use sv_token::{SignKind, Token};
 
 /// An expression, and the tokens behind this punctuation, which comes next.
@@ -22,20 +22,18 @@ use sv_token::{SignKind, Token};
 // costly part of a proof: so it is held here for all, and by callers as seldom as may be.
 pub fn read_closed<'a>(
     alloc: Global,
-    bytes: &[u8],
+    input: Input<'a>,
     levels: usize,
     sign: SignKind,
-    tokens: &'a [Token],
 ) -> Read<'a, Expr>
-    ensures is { GivesAs result bytes.now tokens.now (λ x.
+    ensures is { GivesAs result input.entry (λ x.
         IsExpression all_limits levels (expression_tree x) ⨾ a_sign sign) }
-    ensures shorter { Shortens result tokens.now }
+    ensures shorter { Shortens result input.entry }
     ensures reads { is_sign sign sign ≡ true →
-        Leads result bytes.now tokens.now (expression levels ∷ punctuation sign ∷ []) [] }
-    ensures halts { HaltsOn result bytes.now tokens.now
-        (expression levels ∷ punctuation sign ∷ []) }
+        Leads result input.entry (expression levels ∷ punctuation sign ∷ []) [] }
+    ensures halts { HaltsOn result input.entry (expression levels ∷ punctuation sign ∷ []) }
 {
-    let (expr, rest) = read_expression(alloc, bytes, levels, tokens)?;
+    let (expr, rest) = read_expression(alloc, input, levels)?;
     let rest = expect_sign(sign, rest)?;
     Ok((expr, rest))
 }
@@ -43,19 +41,18 @@ pub fn read_closed<'a>(
 /// A name with its place, and the tokens behind the `)`, which comes next.
 pub fn read_closed_name<'a>(
     alloc: Global,
-    bytes: &[u8],
-    tokens: &'a [Token],
+    input: Input<'a>,
 ) -> Result<(Name, Place, &'a [Token]), Stop>
     ensures is { IfOk result (λ x.
-        Stands (name_at x.0 x.1 ⨾ a_sign signs.CloseParenthesis) bytes.now tokens.now x.2.now) }
-    ensures shorter { IfOk result (λ x. length x.2.now < length tokens.now) }
+        Stands (name_at x.0 x.1 ⨾ a_sign signs.CloseParenthesis) input.entry x.2.now) }
+    ensures shorter { IfOk result (λ x. length x.2.now < length input.entry.rest.now) }
     ensures reads { IfOk result (λ x.
         Comes (plain_name ∷ punctuation signs.CloseParenthesis ∷ []) []
-        bytes.now tokens.now x.2.now) }
-    ensures halts { HaltsOn result bytes.now tokens.now
+        input.entry x.2.now) }
+    ensures halts { HaltsOn result input.entry
         (plain_name ∷ punctuation signs.CloseParenthesis ∷ []) }
 {
-    let (name, place, rest) = read_name(alloc, bytes, tokens)?;
+    let (name, place, rest) = read_name(alloc, input)?;
     let rest = expect_sign(SignKind::CloseParenthesis, rest)?;
     Ok((name, place, rest))
 }

@@ -1,6 +1,5 @@
 // Targets of assignments (IEEE 1364-2005, clause 9.2).
 ghost use Rattle.std.specs.Prelude.{◌<◌, length, map, IfOk, [], ◌∷◌};
-ghost use Rattle.sv_token.specs.Lexemes.{placed_tokens};
 ghost use Rattle.sv_ast.specs.Tree.{TargetTree};
 ghost use Rattle.sv_token.specs.declared.signs.SignKind.TheVariants as signs;
 ghost use Rattle.sv_ast.specs.Views.{expression_tree, selection_of, target_tree};
@@ -12,8 +11,8 @@ ghost use Rattle.sv_parse_machine.specs.Reads.{NextIsNotSign, NextIsTarget};
 ghost use Rattle.sv_parse_machine.specs.StatementTable.{assignment_behind};
 ghost use Rattle.sv_parse_machine.specs.Symbols.{outer, plain_name, perhaps_bits, bits_end};
 ghost use Rattle.sv_parse_machine.specs.Symbols.{statement};
-ghost use Rattle.sv_parse_expr.specs.Parses.{GivesAs, Gives, GivesAll, Shortens, NoLonger, Leads};
-ghost use Rattle.sv_parse_expr.specs.Parses.{HaltsOn};
+ghost use Rattle.sv_parse_expr.specs.Parses.{placed, GivesAs, Gives, GivesAll, Shortens, NoLonger};
+ghost use Rattle.sv_parse_expr.specs.Parses.{Leads, HaltsOn};
 
 use crate::closed::read_closed;
 use std::alloc::Global;
@@ -21,62 +20,53 @@ use sv_ast::{Expr, Select, Target};
 use sv_num::Place;
 use sv_parse_expr::cursor::{behind, expect_sign, read_name};
 use sv_parse_expr::expressions::read_expression;
-use sv_parse_expr::lists::{Listed, one, read_list};
-use sv_parse_expr::stop::Read;
-use sv_token::{SignKind, Token};
+use sv_parse_expr::lists::{Begun, Listed, one, read_list};
+use sv_parse_expr::stop::{Input, Read};
+use sv_token::SignKind;
 
 // The low bound of a part, from the `:` to the `]`.
-fn read_low<'a>(alloc: Global, bytes: &[u8], levels: usize, tokens: &'a [Token]) -> Read<'a, Expr>
-    ensures is { GivesAs result bytes.now tokens.now (λ x.
+fn read_low<'a>(alloc: Global, input: Input<'a>, levels: usize) -> Read<'a, Expr>
+    ensures is { GivesAs result input.entry (λ x.
         a_sign signs.Colon ⨾ IsExpression all_limits levels (expression_tree x)
         ⨾ a_sign signs.CloseBracket) }
-    ensures shorter { Shortens result tokens.now }
-    ensures reads { Leads result bytes.now tokens.now (bits_end levels ∷ []) [] }
-    ensures halts { NextIsNotSign signs.CloseBracket (placed_tokens bytes.now tokens.now) →
-        HaltsOn result bytes.now tokens.now (bits_end levels ∷ []) }
+    ensures shorter { Shortens result input.entry }
+    ensures reads { Leads result input.entry (bits_end levels ∷ []) [] }
+    ensures halts { NextIsNotSign signs.CloseBracket (placed input.entry) →
+        HaltsOn result input.entry (bits_end levels ∷ []) }
 {
-    let rest = expect_sign(SignKind::Colon, tokens)?;
-    let (low, rest) = read_closed(alloc, bytes, levels, SignKind::CloseBracket, rest)?;
+    let rest = expect_sign(SignKind::Colon, input.rest)?;
+    let input = Input { rest, ..input };
+    let (low, rest) = read_closed(alloc, input, levels, SignKind::CloseBracket)?;
     Ok((low, rest))
 }
 
 // The bits of a target.
-fn read_select<'a>(
-    alloc: Global,
-    bytes: &[u8],
-    levels: usize,
-    tokens: &'a [Token],
-) -> Read<'a, Select>
-    ensures is { Gives result bytes.now tokens.now selection_of (IsSelection all_limits levels) }
-    ensures shorter { NoLonger result tokens.now }
-    ensures reads { Leads result bytes.now tokens.now (perhaps_bits levels ∷ []) [] }
-    ensures halts { HaltsOn result bytes.now tokens.now (perhaps_bits levels ∷ []) }
+fn read_select<'a>(alloc: Global, input: Input<'a>, levels: usize) -> Read<'a, Select>
+    ensures is { Gives result input.entry selection_of (IsSelection all_limits levels) }
+    ensures shorter { NoLonger result input.entry }
+    ensures reads { Leads result input.entry (perhaps_bits levels ∷ []) [] }
+    ensures halts { HaltsOn result input.entry (perhaps_bits levels ∷ []) }
 {
-    let Some(rest) = behind(SignKind::OpenBracket, tokens) else {
-        return Ok((Select::Whole, tokens));
+    let Some(rest) = behind(SignKind::OpenBracket, input.rest) else {
+        return Ok((Select::Whole, input.rest));
     };
-    let (first, rest) = read_expression(alloc, bytes, levels, rest)?;
+    let (first, rest) = read_expression(alloc, Input { rest, ..input }, levels)?;
     if let Some(after) = behind(SignKind::CloseBracket, rest) {
         return Ok((Select::Bit(first), after));
     }
-    let (low, rest) = read_low(alloc, bytes, levels, rest)?;
+    let (low, rest) = read_low(alloc, Input { rest, ..input }, levels)?;
     Ok((Select::Part(first, low), rest))
 }
 
 // A target of an assignment in a statement.
-fn read_target<'a>(
-    alloc: Global,
-    bytes: &[u8],
-    levels: usize,
-    tokens: &'a [Token],
-) -> Read<'a, Target>
-    ensures is { Gives result bytes.now tokens.now target_tree (IsTarget all_limits levels) }
-    ensures shorter { Shortens result tokens.now }
-    ensures reads { Leads result bytes.now tokens.now (plain_name ∷ perhaps_bits levels ∷ []) [] }
-    ensures halts { HaltsOn result bytes.now tokens.now (plain_name ∷ perhaps_bits levels ∷ []) }
+fn read_target<'a>(alloc: Global, input: Input<'a>, levels: usize) -> Read<'a, Target>
+    ensures is { Gives result input.entry target_tree (IsTarget all_limits levels) }
+    ensures shorter { Shortens result input.entry }
+    ensures reads { Leads result input.entry (plain_name ∷ perhaps_bits levels ∷ []) [] }
+    ensures halts { HaltsOn result input.entry (plain_name ∷ perhaps_bits levels ∷ []) }
 {
-    let (name, place, rest) = read_name(alloc, bytes, tokens)?;
-    let (select, rest) = read_select(alloc, bytes, levels, rest)?;
+    let (name, place, rest) = read_name(alloc, input)?;
+    let (select, rest) = read_select(alloc, Input { rest, ..input }, levels)?;
     let target = Target {
         name,
         place,
@@ -99,56 +89,46 @@ impl Listed for Targets {
 
     ghost Later = { λ n before. IsTarget all_limits n };
 
+    ghost next = { λ n. outer plain_name ∷ outer (perhaps_bits n) ∷ [] };
+
+    fn later<'a>(
+        alloc: Global,
+        input: Input<'a>,
+        levels: usize,
+        _before: &Target,
+    ) -> Read<'a, Target> {
+        read_target(alloc, input, levels)
+    }
+}
+
+impl Begun for Targets {
     ghost Begins = { λ ts. Unit {0} };
 
     ghost start = { λ n. outer plain_name ∷ outer (perhaps_bits n) ∷ [] };
 
     ghost behind = { λ n. [] };
 
-    ghost next = { λ n. outer plain_name ∷ outer (perhaps_bits n) ∷ [] };
-
-    fn first<'a>(
-        alloc: Global,
-        bytes: &[u8],
-        levels: usize,
-        tokens: &'a [Token],
-    ) -> Read<'a, Target> {
-        read_target(alloc, bytes, levels, tokens)
-    }
-
-    fn later<'a>(
-        alloc: Global,
-        bytes: &[u8],
-        levels: usize,
-        _before: &Target,
-        tokens: &'a [Token],
-    ) -> Read<'a, Target> {
-        read_target(alloc, bytes, levels, tokens)
+    fn first<'a>(alloc: Global, input: Input<'a>, levels: usize) -> Read<'a, Target> {
+        read_target(alloc, input, levels)
     }
 }
 
 /// The targets of an assignment in a statement: one, or several in braces.
-pub fn read_targets<'a>(
-    alloc: Global,
-    bytes: &[u8],
-    levels: usize,
-    tokens: &'a [Token],
-) -> Read<'a, Vec<Target>>
-    ensures is { GivesAll result bytes.now tokens.now target_tree
-        (AreTargets (IsTarget all_limits levels)) }
-    ensures shorter { Shortens result tokens.now }
+pub fn read_targets<'a>(alloc: Global, input: Input<'a>, levels: usize) -> Read<'a, Vec<Target>>
+    ensures is { GivesAll result input.entry target_tree (AreTargets (IsTarget all_limits levels)) }
+    ensures shorter { Shortens result input.entry }
     ensures some { IfOk result (λ x. 0 < length x.0.items) }
-    ensures reads { NextIsTarget (placed_tokens bytes.now tokens.now) →
-        Leads result bytes.now tokens.now (statement levels ∷ []) (assignment_behind levels) }
-    ensures halts { NextIsTarget (placed_tokens bytes.now tokens.now) →
-        HaltsOn result bytes.now tokens.now (statement levels ∷ []) }
+    ensures reads { NextIsTarget (placed input.entry) →
+        Leads result input.entry (statement levels ∷ []) (assignment_behind levels) }
+    ensures halts { NextIsTarget (placed input.entry) →
+        HaltsOn result input.entry (statement levels ∷ []) }
 {
-    if let Some(rest) = behind(SignKind::OpenBrace, tokens) {
-        let (targets, rest) = read_list::<Targets>(alloc, bytes, levels, rest)?;
+    if let Some(rest) = behind(SignKind::OpenBrace, input.rest) {
+        let (targets, rest) = read_list::<Targets>(alloc, Input { rest, ..input }, levels)?;
         let rest = expect_sign(SignKind::CloseBrace, rest)?;
         return Ok((targets, rest));
     }
-    let (only, rest) = read_target(alloc, bytes, levels, tokens)?;
+    let (only, rest) = read_target(alloc, input, levels)?;
     Ok((one(alloc, only)?, rest))
 }
 

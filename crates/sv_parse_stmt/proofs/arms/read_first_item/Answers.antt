@@ -25,5 +25,5 @@ returns-then-before-lt-MOST_ARMS-clause-reads c = λ default comes none.
 pub returns-in_err-item-2-clause-halts : goal.returns-in_err-item-2-clause-halts
 returns-in_err-item-2-clause-halts c = λ default comes none.
     passed _ _ _ c.from_residual-in_err-item-2.ensures.1
-    (arm_stops c.args.bytes.now c.args.tokens.now c.args.levels c.args.before default _
+    (arm_stops c.args.input.bytes.now c.args.input.rest.now c.args.levels c.args.before default _
     c.if-before-lt-MOST_ARMS.false comes none c.in_err-item-2.ensures.halts)

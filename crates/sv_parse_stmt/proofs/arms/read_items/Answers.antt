@@ -14,12 +14,12 @@ use Rattle.sv_parse_stmt.proofs.arms.read_items.Goals as goal
 
 pub returns-clause-is : goal.returns-clause-is
 returns-clause-is c = (
-  placed_tokens c.args.bytes.now c.in_ok-items.rest.now,
+  placed_tokens c.args.input.bytes.now c.in_ok-items.rest.now,
   list_is _
       (IsExpression all_limits c.args.levels) (λ before.
       IsExpression all_limits c.args.levels) _ _ _ _ _ c.in_ok-first.ensures.is
       c.in_ok-items.ensures.is,
-  c.in_ok-rest.ensures.is c.args.bytes.now,
+  c.in_ok-rest.ensures.is c.args.input.bytes.now,
 )
 
 -- ---- the machine of the grammar
@@ -44,7 +44,7 @@ returns-in_err-rest-clause-halts c = λ default comes none.
     (items_closing n c.args.before default _ _ _ (c.in_ok-first.ensures.reads default comes none)
     (c.in_ok-items.ensures.reads (outer (more_choices n) ∷ []) (choices_go_on n))
     c.in_ok-items.ensures.ends)
-    (c.in_err-rest.ensures.halts c.args.bytes.now))
+    (c.in_err-rest.ensures.halts c.args.input.bytes.now))
 
 pub returns-clause-reads : goal.returns-clause-reads
 returns-clause-reads c = λ default comes none.
@@ -53,4 +53,4 @@ returns-clause-reads c = λ default comes none.
     (items_closing n c.args.before default _ _ _ (c.in_ok-first.ensures.reads default comes none)
     (c.in_ok-items.ensures.reads (outer (more_choices n) ∷ []) (choices_go_on n))
     c.in_ok-items.ensures.ends)
-    (c.in_ok-rest.ensures.reads c.args.bytes.now refl)
+    (c.in_ok-rest.ensures.reads c.args.input.bytes.now refl)

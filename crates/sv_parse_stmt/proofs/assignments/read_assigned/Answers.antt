@@ -14,14 +14,14 @@ use Rattle.sv_parse_stmt.proofs.assignments.read_assigned.Goals as goal
 pub returns-in_ok-items-in-Some-clause-is : goal.returns-in_ok-items-in-Some-clause-is
 returns-in_ok-items-in-Some-clause-is c =
     inl (
-      placed_tokens c.args.bytes.now c.in_ok-_place.rest.now,
-      (c.in_ok-_place._place, c.in_ok-_place.ensures.is c.args.bytes.now),
+      placed_tokens c.args.input.bytes.now c.in_ok-_place.rest.now,
+      (c.in_ok-_place._place, c.in_ok-_place.ensures.is c.args.input.bytes.now),
       c.in_ok-items-in-Some.ensures.is,
     )
 
 pub returns-in_ok-items-in-None-clause-is : goal.returns-in_ok-items-in-None-clause-is
 returns-in_ok-items-in-None-clause-is c =
-    assigned_is _ _ _ _ (c.in_ok-_place._place, c.in_ok-_place.ensures.is c.args.bytes.now)
+    assigned_is _ _ _ _ (c.in_ok-_place._place, c.in_ok-_place.ensures.is c.args.input.bytes.now)
     c.in_ok-items-in-None.ensures.is
 
 -- ---- the machine of the grammar
@@ -30,21 +30,22 @@ pub returns-in_err-_place-clause-halts : goal.returns-in_err-_place-clause-halts
 returns-in_err-_place-clause-halts c = λ comes.
     passed _ _ _ c.from_residual.ensures.1
     (word_is_there _ words.Assign _ _ _ _ comes
-    (c.in_err-_place.ensures.stops c.args.bytes.now))
+    (c.in_err-_place.ensures.stops c.args.input.bytes.now))
 
 pub returns-in_err-items-in-Some-clause-halts : goal.returns-in_err-items-in-Some-clause-halts
 returns-in_err-items-in-Some-clause-halts c = λ comes.
     passed _ _ _ c.from_residual-in_err-items-in-Some.ensures.1
     (then_stop _ (outer later_assigned ∷ outer more_assigned ∷ []) (outer items ∷ []) _ _ _
-    (assign_joined _ _ _ (c.in_ok-_place._place, c.in_ok-_place.ensures.is c.args.bytes.now)
-    (c.in-Some.ensures.is c.args.bytes.now))
+    (assign_joined _ _ _ (c.in_ok-_place._place, c.in_ok-_place.ensures.is c.args.input.bytes.now)
+    (c.in-Some.ensures.is c.args.input.bytes.now))
     (c.in_err-items-in-Some.ensures.halts (outer more_assigned ∷ []) (outer more_assigned ∷ [])
     assigned_go_on refl tt))
 
 pub returns-in_ok-items-in-Some-clause-reads : goal.returns-in_ok-items-in-Some-clause-reads
 returns-in_ok-items-in-Some-clause-reads c = λ comes.
-    joined_assignments _ _ _ _ (c.in_ok-_place._place, c.in_ok-_place.ensures.is c.args.bytes.now)
-    (c.in-Some.ensures.is c.args.bytes.now)
+    joined_assignments _ _ _ _
+    (c.in_ok-_place._place, c.in_ok-_place.ensures.is c.args.input.bytes.now)
+    (c.in-Some.ensures.is c.args.input.bytes.now)
     (c.in_ok-items-in-Some.ensures.reads (outer more_assigned ∷ []) (outer more_assigned ∷ [])
     assigned_go_on refl tt) c.in_ok-items-in-Some.ensures.ends
 
@@ -52,11 +53,11 @@ pub returns-in_err-items-in-None-clause-halts : goal.returns-in_err-items-in-Non
 returns-in_err-items-in-None-clause-halts c = λ comes.
     passed _ _ _ c.from_residual-in_err-items-in-None.ensures.1
     (then_stop _ (outer assigned ∷ []) (outer items ∷ []) _ _ _
-    (assign_taken _ _ (c.in_ok-_place._place, c.in_ok-_place.ensures.is c.args.bytes.now))
-    (c.in_err-items-in-None.ensures.halts (c.in-None.ensures.none c.args.bytes.now)))
+    (assign_taken _ _ (c.in_ok-_place._place, c.in_ok-_place.ensures.is c.args.input.bytes.now))
+    (c.in_err-items-in-None.ensures.halts (c.in-None.ensures.none c.args.input.bytes.now)))
 
 pub returns-in_ok-items-in-None-clause-reads : goal.returns-in_ok-items-in-None-clause-reads
 returns-in_ok-items-in-None-clause-reads c = λ comes.
     then_on _ (outer assigned ∷ []) (outer (punctuation signs.Semicolon) ∷ []) (outer items ∷ []) _
-    _ _ (assign_taken _ _ (c.in_ok-_place._place, c.in_ok-_place.ensures.is c.args.bytes.now))
-    (c.in_ok-items-in-None.ensures.reads (c.in-None.ensures.none c.args.bytes.now))
+    _ _ (assign_taken _ _ (c.in_ok-_place._place, c.in_ok-_place.ensures.is c.args.input.bytes.now))
+    (c.in_ok-items-in-None.ensures.reads (c.in-None.ensures.none c.args.input.bytes.now))

@@ -8,11 +8,11 @@ use Rattle.sv_parse_stmt.proofs.assignments.read_assignment.Goals as goal
 
 pub returns-clause-is : goal.returns-clause-is
 returns-clause-is c =
-    continuous_is _ _ _ _ _ _ c.in_ok-targets.ensures.is (c.in_ok-rest.ensures.is c.args.bytes.now)
-    c.in_ok-item.ensures.is
+    continuous_is _ _ _ _ _ _ c.in_ok-targets.ensures.is
+    (c.in_ok-rest.ensures.is c.args.input.bytes.now) c.in_ok-item.ensures.is
 
 pub returns-in_err-rest-clause-halts : goal.returns-in_err-rest-clause-halts
 returns-in_err-rest-clause-halts c =
     passed _ _ _ c.from_residual-in_err-rest.ensures.1
     (then_stop _ (outer (punctuation signs.Equals) ∷ []) (outer (expression 0) ∷ []) _ _ _
-    c.in_ok-targets.ensures.reads (c.in_err-rest.ensures.halts c.args.bytes.now))
+    c.in_ok-targets.ensures.reads (c.in_err-rest.ensures.halts c.args.input.bytes.now))

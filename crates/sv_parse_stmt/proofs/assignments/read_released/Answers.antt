@@ -14,14 +14,14 @@ returns-clause-is c =
     let point = c.in_ok-point.ensures.is in (
       refl,
       (
-        placed_tokens c.args.bytes.now c.in_ok-rest.rest.now,
-        c.in_ok-rest.ensures.is c.args.bytes.now,
+        placed_tokens c.args.input.bytes.now c.in_ok-rest.rest.now,
+        c.in_ok-rest.ensures.is c.args.input.bytes.now,
         (
           point.0,
           (
             value.0,
             value.1,
-            (placed_tokens c.args.bytes.now c.in_ok-value.rest.now, value.2, point.1),
+            (placed_tokens c.args.input.bytes.now c.in_ok-value.rest.now, value.2, point.1),
           ),
           point.2,
         ),
@@ -35,26 +35,26 @@ returns-in_err-rest-clause-halts c =
     passed _ _ _ c.from_residual.ensures.1
     (stops_before (outer (punctuation signs.OpenParenthesis) ∷ [])
     (outer (expression 0) ∷ outer (punctuation signs.Comma) ∷ behind_value) _ _
-    (c.in_err-rest.ensures.halts c.args.bytes.now))
+    (c.in_err-rest.ensures.halts c.args.input.bytes.now))
 
 pub returns-in_err-value-clause-halts : goal.returns-in_err-value-clause-halts
 returns-in_err-value-clause-halts c =
     passed _ _ _ c.from_residual-in_err-value.ensures.1
     (then_stop _ (outer (expression 0) ∷ outer (punctuation signs.Comma) ∷ []) behind_value _ _ _
-    (release_opened _ _ (c.in_ok-rest.ensures.reads c.args.bytes.now refl))
+    (release_opened _ _ (c.in_ok-rest.ensures.reads c.args.input.bytes.now refl))
     c.in_err-value.ensures.halts)
 
 pub returns-in_err-point-clause-halts : goal.returns-in_err-point-clause-halts
 returns-in_err-point-clause-halts c =
     passed _ _ _ c.from_residual-in_err-point.ensures.1
     (stops_then _ behind_value _ _ _
-    (release_value _ _ _ (c.in_ok-rest.ensures.reads c.args.bytes.now refl)
+    (release_value _ _ _ (c.in_ok-rest.ensures.reads c.args.input.bytes.now refl)
     (c.in_ok-value.ensures.reads refl))
     c.in_err-point.ensures.halts)
 
 pub returns-clause-reads : goal.returns-clause-reads
 returns-clause-reads c =
     reads_then _ behind_value [] _ _ _
-    (release_value _ _ _ (c.in_ok-rest.ensures.reads c.args.bytes.now refl)
+    (release_value _ _ _ (c.in_ok-rest.ensures.reads c.args.input.bytes.now refl)
     (c.in_ok-value.ensures.reads refl))
     c.in_ok-point.ensures.reads

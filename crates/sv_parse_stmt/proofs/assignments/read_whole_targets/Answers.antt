@@ -13,15 +13,15 @@ use Rattle.sv_parse_stmt.proofs.assignments.read_whole_targets.Goals as goal
 pub returns-in-Some-clause-is : goal.returns-in-Some-clause-is
 returns-in-Some-clause-is c =
     inr (
-      placed_tokens c.args.bytes.now c.in-Some.rest.now,
+      placed_tokens c.args.input.bytes.now c.in-Some.rest.now,
       c.in-Some.ensures.is
-          c.args.bytes.now,
+          c.args.input.bytes.now,
       (
-        placed_tokens c.args.bytes.now
+        placed_tokens c.args.input.bytes.now
             c.in_ok-targets.rest.now,
         c.in_ok-targets.ensures.is,
         c.in_ok-rest.ensures.is
-            c.args.bytes.now,
+            c.args.input.bytes.now,
       ),
     )
 
@@ -34,7 +34,7 @@ pub returns-in_err-targets-clause-halts : goal.returns-in_err-targets-clause-hal
 returns-in_err-targets-clause-halts c =
     passed _ _ _ c.from_residual.ensures.1
     (then_stop _ joined_names behind_targets _ _ _
-    (joined_begun _ _ (c.in-Some.ensures.is c.args.bytes.now))
+    (joined_begun _ _ (c.in-Some.ensures.is c.args.input.bytes.now))
     (c.in_err-targets.ensures.halts (outer (more_names signs.CloseBrace) ∷ [])
     (outer (more_names signs.CloseBrace) ∷ []) joined_go_on refl tt))
 
@@ -42,28 +42,29 @@ pub returns-in_err-rest-clause-halts : goal.returns-in_err-rest-clause-halts
 returns-in_err-rest-clause-halts c =
     passed _ _ _ c.from_residual-in_err-rest.ensures.1
     (then_stop _ (outer (punctuation signs.CloseBrace) ∷ []) behind_targets _ _ _
-    (joined_closing _ _ _ (c.in-Some.ensures.is c.args.bytes.now)
+    (joined_closing _ _ _ (c.in-Some.ensures.is c.args.input.bytes.now)
     (c.in_ok-targets.ensures.reads (outer (more_names signs.CloseBrace) ∷ [])
     (outer (more_names signs.CloseBrace) ∷ []) joined_go_on refl tt)
     c.in_ok-targets.ensures.ends)
-    (c.in_err-rest.ensures.halts c.args.bytes.now))
+    (c.in_err-rest.ensures.halts c.args.input.bytes.now))
 
 pub returns-in-Some-clause-reads : goal.returns-in-Some-clause-reads
 returns-in-Some-clause-reads c =
     then_read _ (outer (punctuation signs.CloseBrace) ∷ []) behind_targets _ _ _
-    (joined_closing _ _ _ (c.in-Some.ensures.is c.args.bytes.now)
+    (joined_closing _ _ _ (c.in-Some.ensures.is c.args.input.bytes.now)
     (c.in_ok-targets.ensures.reads (outer (more_names signs.CloseBrace) ∷ [])
     (outer (more_names signs.CloseBrace) ∷ []) joined_go_on refl tt)
     c.in_ok-targets.ensures.ends)
-    (c.in_ok-rest.ensures.reads c.args.bytes.now refl)
+    (c.in_ok-rest.ensures.reads c.args.input.bytes.now refl)
 
 pub returns-in_err-only-clause-halts : goal.returns-in_err-only-clause-halts
 returns-in_err-only-clause-halts c =
     passed _ _ _ c.from_residual-in_err-only.ensures.1
     (then_stop _ (outer plain_name ∷ []) behind_targets _ _ _
-    (later_is_named _ (c.in_default.ensures.none c.args.bytes.now)) c.in_err-only.ensures.halts)
+    (later_is_named _ (c.in_default.ensures.none c.args.input.bytes.now))
+    c.in_err-only.ensures.halts)
 
 pub returns-clause-reads : goal.returns-clause-reads
 returns-clause-reads c =
     then_read _ (outer plain_name ∷ []) behind_targets _ _ _
-    (later_is_named _ (c.in_default.ensures.none c.args.bytes.now)) c.in_ok-only.ensures.reads
+    (later_is_named _ (c.in_default.ensures.none c.args.input.bytes.now)) c.in_ok-only.ensures.reads

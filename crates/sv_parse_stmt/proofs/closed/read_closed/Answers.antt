@@ -8,9 +8,9 @@ use Rattle.sv_parse_stmt.proofs.closed.read_closed.Goals as goal
 
 pub returns-clause-is : goal.returns-clause-is
 returns-clause-is c = (
-  placed_tokens c.args.bytes.now c.in_ok-expr.rest.now,
+  placed_tokens c.args.input.bytes.now c.in_ok-expr.rest.now,
   c.in_ok-expr.ensures.is,
-  c.in_ok-rest.ensures.is c.args.bytes.now,
+  c.in_ok-rest.ensures.is c.args.input.bytes.now,
 )
 
 pub returns-in_err-expr-clause-halts : goal.returns-in_err-expr-clause-halts
@@ -25,11 +25,11 @@ returns-in_err-rest-clause-halts c =
     (then_stop _ (outer (punctuation c.args.sign) ∷ []) [] _ _ _
     (reads_before (outer (expression c.args.levels) ∷ []) []
     (outer (punctuation c.args.sign) ∷ []) _ _ c.in_ok-expr.ensures.reads)
-    (c.in_err-rest.ensures.halts c.args.bytes.now))
+    (c.in_err-rest.ensures.halts c.args.input.bytes.now))
 
 pub returns-clause-reads : goal.returns-clause-reads
 returns-clause-reads c = λ is.
     then_read _ (outer (punctuation c.args.sign) ∷ []) [] _ _ _
     (reads_before (outer (expression c.args.levels) ∷ []) []
     (outer (punctuation c.args.sign) ∷ []) _ _ c.in_ok-expr.ensures.reads)
-    (c.in_ok-rest.ensures.reads c.args.bytes.now is)
+    (c.in_ok-rest.ensures.reads c.args.input.bytes.now is)

@@ -9,9 +9,9 @@ use Rattle.sv_parse_stmt.proofs.closed.read_closed_name.Goals as goal
 
 pub returns-clause-is : goal.returns-clause-is
 returns-clause-is c = (
-  placed_tokens c.args.bytes.now c.in_ok-name.rest.now,
+  placed_tokens c.args.input.bytes.now c.in_ok-name.rest.now,
   c.in_ok-name.ensures.is,
-  c.in_ok-rest.ensures.is c.args.bytes.now,
+  c.in_ok-rest.ensures.is c.args.input.bytes.now,
 )
 
 pub returns-in_err-name-clause-halts : goal.returns-in_err-name-clause-halts
@@ -26,11 +26,11 @@ returns-in_err-rest-clause-halts c =
     (then_stop _ (outer (punctuation signs.CloseParenthesis) ∷ []) [] _ _ _
     (reads_before (outer plain_name ∷ []) [] (outer (punctuation signs.CloseParenthesis) ∷ []) _ _
     c.in_ok-name.ensures.reads)
-    (c.in_err-rest.ensures.halts c.args.bytes.now))
+    (c.in_err-rest.ensures.halts c.args.input.bytes.now))
 
 pub returns-clause-reads : goal.returns-clause-reads
 returns-clause-reads c =
     then_read _ (outer (punctuation signs.CloseParenthesis) ∷ []) [] _ _ _
     (reads_before (outer plain_name ∷ []) [] (outer (punctuation signs.CloseParenthesis) ∷ []) _ _
     c.in_ok-name.ensures.reads)
-    (c.in_ok-rest.ensures.reads c.args.bytes.now refl)
+    (c.in_ok-rest.ensures.reads c.args.input.bytes.now refl)

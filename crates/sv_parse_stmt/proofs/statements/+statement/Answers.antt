@@ -2,6 +2,7 @@ use Rattle.std.proofs.Common.{◌≡◌, Bool, false, length, sym, subst, ◌∙
 use Rattle.std.proofs.Common.{arith}
 use Rattle.std.proofs.lemmas.List.{length_push}
 use Rattle.sv_token.specs.Lexemes.{placed_tokens}
+use Rattle.sv_parse_expr.specs.Parses.{placed}
 use Rattle.sv_ast.specs.Tree as tree
 use Rattle.sv_ast.specs.Views.{expression_tree}
 use Rattle.sv_ast.proofs.Rows.{row_statements-hidden, row_arms-hidden}
@@ -32,7 +33,7 @@ pub read_block-returns-clause-is : goal.read_block-returns-clause-is
 read_block-returns-clause-is t c =
     statement_of c.args.levels _ _ _ _ (ap tree.block (row_statements-hidden c.in_ok-stmts.stmts))
     (block_is c.args.levels _ _ _ _ _ _ c.in_ok-inside.ensures.is c.in_ok-inside.ensures.within
-    (word_is _ _ _ _ (c.in_ok-_place.ensures.is c.args.bytes.now)) c.in_ok-rest.ensures.is
+    (word_is _ _ _ _ (c.in_ok-_place.ensures.is c.args.input.bytes.now)) c.in_ok-rest.ensures.is
     c.in_ok-stmts.ensures.is)
 
 pub read_conditional-returns-in_default-clause-is :
@@ -40,21 +41,21 @@ pub read_conditional-returns-in_default-clause-is :
 read_conditional-returns-in_default-clause-is t c =
     statement_of c.args.levels _ _ _ _ c.in_ok-if_only.ensures
     (if_only_is c.args.levels _ _ _ _ _ _ _ _ c.in_ok-inside.ensures.is
-    c.in_ok-inside.ensures.within (c.in_ok-place.ensures.is c.args.bytes.now)
+    c.in_ok-inside.ensures.within (c.in_ok-place.ensures.is c.args.input.bytes.now)
     c.in_ok-cond.ensures.is c.in_ok-yes.ensures.is
-    (c.in_default.ensures.other c.args.bytes.now))
+    (c.in_default.ensures.other c.args.input.bytes.now))
 
 pub read_conditional-returns-clause-is : goal.read_conditional-returns-clause-is
 read_conditional-returns-clause-is t c =
     statement_of c.args.levels _ _ _ _ c.in_ok-if_else.ensures
     (if_else_is c.args.levels _ _ _ _ _ _ _ _ _ _ _ c.in_ok-inside.ensures.is
-    c.in_ok-inside.ensures.within (c.in_ok-place.ensures.is c.args.bytes.now)
-    c.in_ok-cond.ensures.is c.in_ok-yes.ensures.is (c.in-Some.ensures.is c.args.bytes.now)
+    c.in_ok-inside.ensures.within (c.in_ok-place.ensures.is c.args.input.bytes.now)
+    c.in_ok-cond.ensures.is c.in_ok-yes.ensures.is (c.in-Some.ensures.is c.args.input.bytes.now)
     c.in_ok-no.ensures.is)
 
 pub read_arm-returns-clause-is : goal.read_arm-returns-clause-is
 read_arm-returns-clause-is t c = (
-  (placed_tokens c.args.bytes.now c.in_ok-place.rest.now),
+  (placed_tokens c.args.input.bytes.now c.in_ok-place.rest.now),
   c.in_ok-place.ensures.is,
   c.in_ok-body.ensures.is,
 )
@@ -65,14 +66,16 @@ pub read_block-returns-in_err-_place-clause-halts :
     goal.read_block-returns-in_err-_place-clause-halts
 read_block-returns-in_err-_place-clause-halts t c = λ comes.
     passed _ _ _ c.from_residual.ensures.1
-    (word_is_there _ words.Begin _ _ _ _ comes (c.in_err-_place.ensures.stops c.args.bytes.now))
+    (word_is_there _ words.Begin _ _ _ _ comes
+    (c.in_err-_place.ensures.stops c.args.input.bytes.now))
 
 pub read_block-returns-in_err-inside-clause-halts :
     goal.read_block-returns-in_err-inside-clause-halts
 read_block-returns-in_err-inside-clause-halts t c = λ comes.
     passed _ _ _ c.from_residual-in_err-inside.ensures.1
-    (block_stops c.args.bytes.now c.args.tokens.now c.args.levels _ _ c.in_err-inside.ensures.deep
-    (word_is _ _ _ _ (c.in_ok-_place.ensures.is c.args.bytes.now))
+    (block_stops c.args.input.bytes.now c.args.input.rest.now c.args.levels _ _
+    c.in_err-inside.ensures.deep
+    (word_is _ _ _ _ (c.in_ok-_place.ensures.is c.args.input.bytes.now))
     c.in_err-inside.ensures.stops)
 
 pub read_block-returns-in_err-rest-clause-halts : goal.read_block-returns-in_err-rest-clause-halts
@@ -81,7 +84,7 @@ read_block-returns-in_err-rest-clause-halts t c = λ comes.
     (then_stop _ (outer perhaps_block_name ∷ [])
     (outer (statements c.in_ok-inside.inside) ∷ []) _ _ _
     (block_opens c.args.levels _ _ _ c.in_ok-inside.ensures.is c.in_ok-inside.ensures.within
-    (word_is _ _ _ _ (c.in_ok-_place.ensures.is c.args.bytes.now)))
+    (word_is _ _ _ _ (c.in_ok-_place.ensures.is c.args.input.bytes.now)))
     c.in_err-rest.ensures.halts)
 
 pub read_block-returns-in_err-stmts-clause-halts : goal.read_block-returns-in_err-stmts-clause-halts
@@ -91,7 +94,7 @@ read_block-returns-in_err-stmts-clause-halts t c = λ comes.
     (then_read _ (outer perhaps_block_name ∷ [])
     (outer (statements c.in_ok-inside.inside) ∷ []) _ _ _
     (block_opens c.args.levels _ _ _ c.in_ok-inside.ensures.is c.in_ok-inside.ensures.within
-    (word_is _ _ _ _ (c.in_ok-_place.ensures.is c.args.bytes.now)))
+    (word_is _ _ _ _ (c.in_ok-_place.ensures.is c.args.input.bytes.now)))
     c.in_ok-rest.ensures.reads)
     c.in_err-stmts.ensures.halts)
 
@@ -101,7 +104,7 @@ read_block-returns-clause-reads t c =
     (then_read _ (outer perhaps_block_name ∷ [])
     (outer (statements c.in_ok-inside.inside) ∷ []) _ _ _
     (block_opens c.args.levels _ _ _ c.in_ok-inside.ensures.is c.in_ok-inside.ensures.within
-    (word_is _ _ _ _ (c.in_ok-_place.ensures.is c.args.bytes.now)))
+    (word_is _ _ _ _ (c.in_ok-_place.ensures.is c.args.input.bytes.now)))
     c.in_ok-rest.ensures.reads)
     c.in_ok-stmts.ensures.reads
 
@@ -111,14 +114,16 @@ pub read_conditional-returns-in_err-place-clause-halts :
     goal.read_conditional-returns-in_err-place-clause-halts
 read_conditional-returns-in_err-place-clause-halts t c = λ comes.
     passed _ _ _ c.from_residual.ensures.1
-    (word_is_there _ words.If _ _ _ _ comes (c.in_err-place.ensures.stops c.args.bytes.now))
+    (word_is_there _ words.If _ _ _ _ comes (c.in_err-place.ensures.stops c.args.input.bytes.now))
 
 pub read_conditional-returns-in_err-inside-clause-halts :
     goal.read_conditional-returns-in_err-inside-clause-halts
 read_conditional-returns-in_err-inside-clause-halts t c = λ comes.
     passed _ _ _ c.from_residual-in_err-inside.ensures.1
-    (if_stops c.args.bytes.now c.args.tokens.now c.args.levels _ _ c.in_err-inside.ensures.deep
-    (word_is _ _ _ _ (c.in_ok-place.ensures.is c.args.bytes.now)) c.in_err-inside.ensures.stops)
+    (if_stops c.args.input.bytes.now c.args.input.rest.now c.args.levels _ _
+    c.in_err-inside.ensures.deep
+    (word_is _ _ _ _ (c.in_ok-place.ensures.is c.args.input.bytes.now))
+    c.in_err-inside.ensures.stops)
 
 pub read_conditional-returns-in_err-cond-clause-halts :
     goal.read_conditional-returns-in_err-cond-clause-halts
@@ -128,7 +133,7 @@ read_conditional-returns-in_err-cond-clause-halts t c = λ comes.
     (outer (statement c.in_ok-inside.inside) ∷
     outer (perhaps_else c.in_ok-inside.inside) ∷ []) _ _ _
     (if_opens c.args.levels _ _ _ c.in_ok-inside.ensures.is c.in_ok-inside.ensures.within
-    (word_is _ _ _ _ (c.in_ok-place.ensures.is c.args.bytes.now)))
+    (word_is _ _ _ _ (c.in_ok-place.ensures.is c.args.input.bytes.now)))
     c.in_err-cond.ensures.halts)
 
 pub read_conditional-returns-in_err-yes-clause-halts :
@@ -138,7 +143,7 @@ read_conditional-returns-in_err-yes-clause-halts t c = λ comes.
     (then_stop _ (outer (statement c.in_ok-inside.inside) ∷ [])
     (outer (perhaps_else c.in_ok-inside.inside) ∷ []) _ _ _
     (if_condition c.args.levels _ _ _ _ c.in_ok-inside.ensures.is c.in_ok-inside.ensures.within
-    (word_is _ _ _ _ (c.in_ok-place.ensures.is c.args.bytes.now)) c.in_ok-cond.ensures.reads)
+    (word_is _ _ _ _ (c.in_ok-place.ensures.is c.args.input.bytes.now)) c.in_ok-cond.ensures.reads)
     c.in_err-yes.ensures.halts)
 
 pub read_conditional-returns-in_default-clause-reads :
@@ -146,9 +151,9 @@ pub read_conditional-returns-in_default-clause-reads :
 read_conditional-returns-in_default-clause-reads t c =
     reads_then _ (outer (perhaps_else c.in_ok-inside.inside) ∷ []) [] _ _ _
     (if_first c.args.levels _ _ _ _ _ c.in_ok-inside.ensures.is c.in_ok-inside.ensures.within
-    (word_is _ _ _ _ (c.in_ok-place.ensures.is c.args.bytes.now)) c.in_ok-cond.ensures.reads
+    (word_is _ _ _ _ (c.in_ok-place.ensures.is c.args.input.bytes.now)) c.in_ok-cond.ensures.reads
     c.in_ok-yes.ensures.reads)
-    (skips_perhaps_else c.in_ok-inside.inside _ (c.in_default.ensures.none c.args.bytes.now))
+    (skips_perhaps_else c.in_ok-inside.inside _ (c.in_default.ensures.none c.args.input.bytes.now))
 
 pub read_conditional-returns-in_err-no-clause-halts :
     goal.read_conditional-returns-in_err-no-clause-halts
@@ -158,10 +163,10 @@ read_conditional-returns-in_err-no-clause-halts t c = λ comes.
     (reads_then _ (outer (perhaps_else c.in_ok-inside.inside) ∷ [])
     (outer (statement c.in_ok-inside.inside) ∷ []) _ _ _
     (if_first c.args.levels _ _ _ _ _ c.in_ok-inside.ensures.is c.in_ok-inside.ensures.within
-    (word_is _ _ _ _ (c.in_ok-place.ensures.is c.args.bytes.now)) c.in_ok-cond.ensures.reads
+    (word_is _ _ _ _ (c.in_ok-place.ensures.is c.args.input.bytes.now)) c.in_ok-cond.ensures.reads
     c.in_ok-yes.ensures.reads)
     (word_taken (perhaps_else c.in_ok-inside.inside) words.Else
-    (statement c.in_ok-inside.inside ∷ []) _ _ refl (c.in-Some.ensures.is c.args.bytes.now)))
+    (statement c.in_ok-inside.inside ∷ []) _ _ refl (c.in-Some.ensures.is c.args.input.bytes.now)))
     c.in_err-no.ensures.halts)
 
 pub read_conditional-returns-clause-reads : goal.read_conditional-returns-clause-reads
@@ -170,10 +175,10 @@ read_conditional-returns-clause-reads t c =
     (reads_then _ (outer (perhaps_else c.in_ok-inside.inside) ∷ [])
     (outer (statement c.in_ok-inside.inside) ∷ []) _ _ _
     (if_first c.args.levels _ _ _ _ _ c.in_ok-inside.ensures.is c.in_ok-inside.ensures.within
-    (word_is _ _ _ _ (c.in_ok-place.ensures.is c.args.bytes.now)) c.in_ok-cond.ensures.reads
+    (word_is _ _ _ _ (c.in_ok-place.ensures.is c.args.input.bytes.now)) c.in_ok-cond.ensures.reads
     c.in_ok-yes.ensures.reads)
     (word_taken (perhaps_else c.in_ok-inside.inside) words.Else
-    (statement c.in_ok-inside.inside ∷ []) _ _ refl (c.in-Some.ensures.is c.args.bytes.now)))
+    (statement c.in_ok-inside.inside ∷ []) _ _ refl (c.in-Some.ensures.is c.args.input.bytes.now)))
     c.in_ok-no.ensures.reads
 
 -- ---- a `case`
@@ -184,19 +189,21 @@ read_case-returns-clause-is t c =
     (ap (tree.case_of c.in_ok-place.place (expression_tree c.in_ok-selector.selector))
     (row_arms-hidden c.in_ok-arms.arms))
     (case_is c.args.levels _ _ _ _ _ _ _ _ c.in_ok-inside.ensures.is c.in_ok-inside.ensures.within
-    (c.in_ok-place.ensures.is c.args.bytes.now) c.in_ok-selector.ensures.is
+    (c.in_ok-place.ensures.is c.args.input.bytes.now) c.in_ok-selector.ensures.is
     c.in_ok-arms.ensures.is)
 
 pub read_case-returns-in_err-place-clause-halts : goal.read_case-returns-in_err-place-clause-halts
 read_case-returns-in_err-place-clause-halts t c = λ comes.
     passed _ _ _ c.from_residual.ensures.1
-    (word_is_there _ words.Case _ _ _ _ comes (c.in_err-place.ensures.stops c.args.bytes.now))
+    (word_is_there _ words.Case _ _ _ _ comes (c.in_err-place.ensures.stops c.args.input.bytes.now))
 
 pub read_case-returns-in_err-inside-clause-halts : goal.read_case-returns-in_err-inside-clause-halts
 read_case-returns-in_err-inside-clause-halts t c = λ comes.
     passed _ _ _ c.from_residual-in_err-inside.ensures.1
-    (case_stops c.args.bytes.now c.args.tokens.now c.args.levels _ _ c.in_err-inside.ensures.deep
-    (word_is _ _ _ _ (c.in_ok-place.ensures.is c.args.bytes.now)) c.in_err-inside.ensures.stops)
+    (case_stops c.args.input.bytes.now c.args.input.rest.now c.args.levels _ _
+    c.in_err-inside.ensures.deep
+    (word_is _ _ _ _ (c.in_ok-place.ensures.is c.args.input.bytes.now))
+    c.in_err-inside.ensures.stops)
 
 pub read_case-returns-in_err-selector-clause-halts :
     goal.read_case-returns-in_err-selector-clause-halts
@@ -205,7 +212,7 @@ read_case-returns-in_err-selector-clause-halts t c = λ comes.
     (then_stop _ (in_brackets c.in_ok-inside.inside)
     (outer (arms c.in_ok-inside.inside 0 false) ∷ []) _ _ _
     (case_opens c.args.levels _ _ _ c.in_ok-inside.ensures.is c.in_ok-inside.ensures.within
-    (word_is _ _ _ _ (c.in_ok-place.ensures.is c.args.bytes.now)))
+    (word_is _ _ _ _ (c.in_ok-place.ensures.is c.args.input.bytes.now)))
     c.in_err-selector.ensures.halts)
 
 pub read_case-returns-in_err-arms-clause-halts : goal.read_case-returns-in_err-arms-clause-halts
@@ -213,7 +220,7 @@ read_case-returns-in_err-arms-clause-halts t c = λ comes.
     passed _ _ _ c.from_residual-in_err-arms.ensures.1
     (stops_then _ (outer (arms c.in_ok-inside.inside 0 false) ∷ []) _ _ _
     (case_selector c.args.levels _ _ _ _ c.in_ok-inside.ensures.is c.in_ok-inside.ensures.within
-    (word_is _ _ _ _ (c.in_ok-place.ensures.is c.args.bytes.now))
+    (word_is _ _ _ _ (c.in_ok-place.ensures.is c.args.input.bytes.now))
     c.in_ok-selector.ensures.reads)
     c.in_err-arms.ensures.halts)
 
@@ -221,7 +228,7 @@ pub read_case-returns-clause-reads : goal.read_case-returns-clause-reads
 read_case-returns-clause-reads t c =
     reads_then _ (outer (arms c.in_ok-inside.inside 0 false) ∷ []) [] _ _ _
     (case_selector c.args.levels _ _ _ _ c.in_ok-inside.ensures.is c.in_ok-inside.ensures.within
-    (word_is _ _ _ _ (c.in_ok-place.ensures.is c.args.bytes.now))
+    (word_is _ _ _ _ (c.in_ok-place.ensures.is c.args.input.bytes.now))
     c.in_ok-selector.ensures.reads)
     c.in_ok-arms.ensures.reads
 
@@ -235,17 +242,17 @@ read_arm-returns-in_err-place-clause-halts t c =
 
 pub read_statements-returns-in-Some-clause-is : goal.read_statements-returns-in-Some-clause-is
 read_statements-returns-in-Some-clause-is t c = (
-  placed_tokens c.args.bytes.now c.loop-after.rest.now,
+  placed_tokens c.args.input.bytes.now c.loop-after.rest.now,
   statements_end c.args.levels _ _ _
       c.loop-after.invariant.are,
-  c.in-Some.ensures.is c.args.bytes.now,
+  c.in-Some.ensures.is c.args.input.bytes.now,
 )
 
 pub read_statements-returns-in-Some-clause-reads : goal.read_statements-returns-in-Some-clause-reads
 read_statements-returns-in-Some-clause-reads t c =
     reads_then _ (outer (statements c.args.levels) ∷ []) [] _ _ _ c.loop-after.invariant.reads
     (word_taken (statements c.args.levels) words.End [] _ _ refl
-    (c.in-Some.ensures.is c.args.bytes.now))
+    (c.in-Some.ensures.is c.args.input.bytes.now))
 
 pub read_statements-returns-in_err-stmt-clause-halts :
     goal.read_statements-returns-in_err-stmt-clause-halts
@@ -255,7 +262,7 @@ read_statements-returns-in_err-stmt-clause-halts t c =
     (then_stop _ (outer (statement n) ∷ []) (outer (statements n) ∷ []) _ _ _
     (reads_then _ (outer (statements n) ∷ []) (outer (statement n) ∷ outer (statements n) ∷ []) _ _
     _ c.loop-after.invariant.reads
-    (one_statement n _ (c.in_default.ensures.none c.args.bytes.now)))
+    (one_statement n _ (c.in_default.ensures.none c.args.input.bytes.now)))
     c.in_err-stmt.ensures.halts)
 
 pub read_statements-loop-after-preserved : goal.read_statements-loop-after-preserved
@@ -270,7 +277,7 @@ read_statements-loop-after-preserved t c =
           then_read _ (outer (statement n) ∷ []) (outer (statements n) ∷ []) _ _ _
           (reads_then _ (outer (statements n) ∷ [])
           (outer (statement n) ∷ outer (statements n) ∷ []) _ _ _ c.loop-after.invariant.reads
-          (one_statement n _ (c.in_default.ensures.none c.args.bytes.now)))
+          (one_statement n _ (c.in_default.ensures.none c.args.input.bytes.now)))
           c.in_ok-stmt.ensures.reads;
     }
 
@@ -280,11 +287,11 @@ pub read_arms-returns-in-Some-clause-is : goal.read_arms-returns-in-Some-clause-
 read_arms-returns-in-Some-clause-is t c =
     let size : c.len-before.result ≡ length c.loop-after.arms.items =
     omega (arith, c.len-before.ensures, c.loop-after.arms.ok.0) in (
-      placed_tokens c.args.bytes.now c.loop-after.rest.now,
+      placed_tokens c.args.input.bytes.now c.loop-after.rest.now,
       arms_end c.args.levels _ _ _ _
           (some_trees c.loop-after.arms.items _ size c.in-Some.ensures.some)
           c.loop-after.invariant.are,
-      c.in-Some.ensures.is c.args.bytes.now,
+      c.in-Some.ensures.is c.args.input.bytes.now,
     )
 
 pub read_arms-returns-in-Some-clause-reads : goal.read_arms-returns-in-Some-clause-reads
@@ -292,7 +299,7 @@ read_arms-returns-in-Some-clause-reads t c =
     reads_then _ (outer (arms c.args.levels (length c.loop-after.arms.items)
     c.loop-after.has_default) ∷ []) [] _ _ _ c.loop-after.invariant.reads
     (case_ends c.args.levels _ _ _ _ (omega (arith, c.len-before.ensures, c.in-Some.ensures.some))
-    (c.in-Some.ensures.is c.args.bytes.now))
+    (c.in-Some.ensures.is c.args.input.bytes.now))
 
 pub read_arms-loop-after-preserved : goal.read_arms-loop-after-preserved
 read_arms-loop-after-preserved t c =
@@ -304,8 +311,8 @@ read_arms-loop-after-preserved t c =
           subst
           (λ (default : Bool).
           AreOpenArms n (arm_trees c.push.new.self.items) default
-          (placed_tokens c.args.bytes.now c.args.tokens.now)
-          (placed_tokens c.args.bytes.now c.in_ok-arm.more.now))
+          (placed c.args.input)
+          (placed_tokens c.args.input.bytes.now c.in_ok-arm.more.now))
           (sym c.is_default_behind-has_default.ensures)
           (pushed_arms n _ _ c.in_ok-arm.arm _ _ _ c.in_ok-push.ensures.items
           (arms_more n _ c.loop-after.has_default (arm_tree c.in_ok-arm.arm) _ _ _ _
@@ -319,7 +326,7 @@ read_arms-loop-after-preserved t c =
           ∙ length_push c.loop-after.arms.items c.in_ok-arm.arm)
           c.is_default_behind-has_default.ensures
           c.loop-after.invariant.reads
-          (c.in_ok-arm.ensures.reads (c.in_default.ensures.none c.args.bytes.now));
+          (c.in_ok-arm.ensures.reads (c.in_default.ensures.none c.args.input.bytes.now));
     }
 
 -- ---- `;`
@@ -327,6 +334,6 @@ read_arms-loop-after-preserved t c =
 pub read_statement-returns-in-Sign-Semicolon-clause-halts :
     goal.read_statement-returns-in-Sign-Semicolon-clause-halts
 read_statement-returns-in-Sign-Semicolon-clause-halts t c =
-    c.read_null.ensures.halts c.args.bytes.now c.args.levels
-    (next_sign c.args.bytes.now c.args.tokens.now c.first-item.result signs.Semicolon
+    c.read_null.ensures.halts c.args.input.bytes.now c.args.levels
+    (next_sign c.args.input.bytes.now c.args.input.rest.now c.first-item.result signs.Semicolon
     c.in-len1-up.len_at_least c.first-item.is (search rules))

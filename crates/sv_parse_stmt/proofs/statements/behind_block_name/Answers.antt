@@ -10,9 +10,9 @@ use Rattle.sv_parse_stmt.proofs.statements.behind_block_name.Goals as goal
 pub returns-in_ok-_name-in-Some-clause-is : goal.returns-in_ok-_name-in-Some-clause-is
 returns-in_ok-_name-in-Some-clause-is c =
     inl (
-      placed_tokens c.args.bytes.now c.in-Some.rest.now,
+      placed_tokens c.args.input.bytes.now c.in-Some.rest.now,
       c.in-Some.ensures.is
-          c.args.bytes.now,
+          c.args.input.bytes.now,
       (
         c.in_ok-_name-in-Some._name,
         (c.in_ok-_name-in-Some._at, c.in_ok-_name-in-Some.ensures.is),
@@ -24,10 +24,10 @@ returns-in_err-_name-in-Some-clause-halts c =
     passed _ _ _ c.from_residual.ensures.1
     (then_stop _ (outer plain_name ∷ []) [] _ _ _
     (sign_taken perhaps_block_name signs.Colon (plain_name ∷ []) _ _ refl
-    (c.in-Some.ensures.is c.args.bytes.now)) c.in_err-_name-in-Some.ensures.halts)
+    (c.in-Some.ensures.is c.args.input.bytes.now)) c.in_err-_name-in-Some.ensures.halts)
 
 pub returns-in_ok-_name-in-Some-clause-reads : goal.returns-in_ok-_name-in-Some-clause-reads
 returns-in_ok-_name-in-Some-clause-reads c =
     then_read _ (outer plain_name ∷ []) [] _ _ _
     (sign_taken perhaps_block_name signs.Colon (plain_name ∷ []) _ _ refl
-    (c.in-Some.ensures.is c.args.bytes.now)) c.in_ok-_name-in-Some.ensures.reads
+    (c.in-Some.ensures.is c.args.input.bytes.now)) c.in_ok-_name-in-Some.ensures.reads

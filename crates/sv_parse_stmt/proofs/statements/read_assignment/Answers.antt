@@ -17,7 +17,7 @@ returns-in_err-blocking-clause-halts c = λ comes.
     passed _ _ _ c.from_residual-in_err-blocking.ensures.1
     (then_stop _ (outer assigns ∷ [])
     (outer (expression c.args.levels) ∷ outer (punctuation signs.Semicolon) ∷ []) _ _ _
-    (c.in_ok-targets.ensures.reads comes) (c.in_err-blocking.ensures.halts c.args.bytes.now))
+    (c.in_ok-targets.ensures.reads comes) (c.in_err-blocking.ensures.halts c.args.input.bytes.now))
 
 pub returns-in_err-value-clause-halts : goal.returns-in_err-value-clause-halts
 returns-in_err-value-clause-halts c = λ comes.
@@ -26,7 +26,7 @@ returns-in_err-value-clause-halts c = λ comes.
     _ _ _
     (then_read _ (outer assigns ∷ [])
     (outer (expression c.args.levels) ∷ outer (punctuation signs.Semicolon) ∷ []) _ _ _
-    (c.in_ok-targets.ensures.reads comes) (c.in_ok-blocking.ensures.reads c.args.bytes.now))
+    (c.in_ok-targets.ensures.reads comes) (c.in_ok-blocking.ensures.reads c.args.input.bytes.now))
     c.in_err-value.ensures.halts)
 
 pub returns-clause-reads : goal.returns-clause-reads
@@ -35,5 +35,5 @@ returns-clause-reads c = λ comes.
     _ _ _
     (then_read _ (outer assigns ∷ [])
     (outer (expression c.args.levels) ∷ outer (punctuation signs.Semicolon) ∷ []) _ _ _
-    (c.in_ok-targets.ensures.reads comes) (c.in_ok-blocking.ensures.reads c.args.bytes.now))
+    (c.in_ok-targets.ensures.reads comes) (c.in_ok-blocking.ensures.reads c.args.input.bytes.now))
     (c.in_ok-value.ensures.reads refl)

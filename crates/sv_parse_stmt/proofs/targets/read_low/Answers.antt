@@ -9,8 +9,8 @@ use Rattle.sv_parse_stmt.proofs.targets.read_low.Goals as goal
 
 pub returns-clause-is : goal.returns-clause-is
 returns-clause-is c = (
-  placed_tokens c.args.bytes.now c.in_ok-rest.rest.now,
-  c.in_ok-rest.ensures.is c.args.bytes.now,
+  placed_tokens c.args.input.bytes.now c.in_ok-rest.rest.now,
+  c.in_ok-rest.ensures.is c.args.input.bytes.now,
   c.in_ok-low.ensures.is,
 )
 
@@ -19,9 +19,9 @@ returns-clause-is c = (
 pub returns-in_err-rest-clause-halts : goal.returns-in_err-rest-clause-halts
 returns-in_err-rest-clause-halts c = λ no_bracket.
     passed _ _ _ c.from_residual.ensures.1
-    (stops_by c.args.bytes.now _ _ _ _ (λ no_colon.
+    (stops_by c.args.input.bytes.now _ _ _ _ (λ no_colon.
     halts_bits_end c.args.levels _ no_bracket no_colon)
-    (c.in_err-rest.ensures.stops c.args.bytes.now))
+    (c.in_err-rest.ensures.stops c.args.input.bytes.now))
 
 pub returns-in_err-low-clause-halts : goal.returns-in_err-low-clause-halts
 returns-in_err-low-clause-halts c = λ no_bracket.
@@ -29,7 +29,7 @@ returns-in_err-low-clause-halts c = λ no_bracket.
     passed _ _ _ c.from_residual-in_err-low.ensures.1
     (stops_then _ (outer (expression n) ∷ outer (punctuation signs.CloseBracket) ∷ []) _ _ _
     (sign_taken (bits_end n) signs.Colon (expression n ∷ punctuation signs.CloseBracket ∷ []) _ _
-    refl (c.in_ok-rest.ensures.is c.args.bytes.now))
+    refl (c.in_ok-rest.ensures.is c.args.input.bytes.now))
     c.in_err-low.ensures.halts)
 
 pub returns-clause-reads : goal.returns-clause-reads
@@ -37,5 +37,5 @@ returns-clause-reads c =
     let n = c.args.levels in
     reads_then _ (outer (expression n) ∷ outer (punctuation signs.CloseBracket) ∷ []) [] _ _ _
     (sign_taken (bits_end n) signs.Colon (expression n ∷ punctuation signs.CloseBracket ∷ []) _ _
-    refl (c.in_ok-rest.ensures.is c.args.bytes.now))
+    refl (c.in_ok-rest.ensures.is c.args.input.bytes.now))
     (c.in_ok-low.ensures.reads refl)

@@ -12,25 +12,25 @@ use Rattle.sv_parse_stmt.proofs.targets.read_select.Goals as goal
 
 pub returns-in-Some-behind-clause-is : goal.returns-in-Some-behind-clause-is
 returns-in-Some-behind-clause-is c = (
-  (placed_tokens c.args.bytes.now c.in-Some.rest.now),
+  (placed_tokens c.args.input.bytes.now c.in-Some.rest.now),
   c.in-Some.ensures.is
-      c.args.bytes.now,
+      c.args.input.bytes.now,
   (
-    (placed_tokens c.args.bytes.now c.in_ok-first.rest.now),
+    (placed_tokens c.args.input.bytes.now c.in_ok-first.rest.now),
     c.in_ok-first.ensures.is,
-    c.in-Some-behind.ensures.is c.args.bytes.now,
+    c.in-Some-behind.ensures.is c.args.input.bytes.now,
   ),
 )
 
 pub returns-clause-is : goal.returns-clause-is
 returns-clause-is c =
     let low = c.in_ok-low.ensures.is in (
-      placed_tokens c.args.bytes.now c.in-Some.rest.now,
-      c.in-Some.ensures.is c.args.bytes.now,
+      placed_tokens c.args.input.bytes.now c.in-Some.rest.now,
+      c.in-Some.ensures.is c.args.input.bytes.now,
       (
         low.2.0,
         (
-          placed_tokens c.args.bytes.now c.in_ok-first.rest.now,
+          placed_tokens c.args.input.bytes.now c.in_ok-first.rest.now,
           c.in_ok-first.ensures.is,
           (low.0, low.1, low.2.1),
         ),
@@ -42,7 +42,7 @@ returns-clause-is c =
 
 pub returns-in_default-clause-reads : goal.returns-in_default-clause-reads
 returns-in_default-clause-reads c =
-    skips_perhaps_bits c.args.levels _ (c.in_default.ensures.none c.args.bytes.now)
+    skips_perhaps_bits c.args.levels _ (c.in_default.ensures.none c.args.input.bytes.now)
 
 pub returns-in_err-first-clause-halts : goal.returns-in_err-first-clause-halts
 returns-in_err-first-clause-halts c =
@@ -50,28 +50,28 @@ returns-in_err-first-clause-halts c =
     passed _ _ _ c.from_residual.ensures.1
     (then_stop _ (outer (expression n) ∷ []) (outer (bits_end n) ∷ []) _ _ _
     (sign_taken (perhaps_bits n) signs.OpenBracket (expression n ∷ bits_end n ∷ []) _ _ refl
-    (c.in-Some.ensures.is c.args.bytes.now))
+    (c.in-Some.ensures.is c.args.input.bytes.now))
     c.in_err-first.ensures.halts)
 
 pub returns-in-Some-behind-clause-reads : goal.returns-in-Some-behind-clause-reads
 returns-in-Some-behind-clause-reads c =
     let n = c.args.levels in
     reads_then _ (outer (bits_end n) ∷ []) [] _ _ _
-    (bits_begun n _ _ _ (c.in-Some.ensures.is c.args.bytes.now) c.in_ok-first.ensures.reads)
+    (bits_begun n _ _ _ (c.in-Some.ensures.is c.args.input.bytes.now) c.in_ok-first.ensures.reads)
     (sign_taken (bits_end n) signs.CloseBracket [] _ _ refl
-    (c.in-Some-behind.ensures.is c.args.bytes.now))
+    (c.in-Some-behind.ensures.is c.args.input.bytes.now))
 
 pub returns-in_err-low-clause-halts : goal.returns-in_err-low-clause-halts
 returns-in_err-low-clause-halts c =
     let n = c.args.levels in
     passed _ _ _ c.from_residual-in_err-low.ensures.1
     (stops_then _ (outer (bits_end n) ∷ []) _ _ _
-    (bits_begun n _ _ _ (c.in-Some.ensures.is c.args.bytes.now) c.in_ok-first.ensures.reads)
-    (c.in_err-low.ensures.halts (c.in_default-behind.ensures.none c.args.bytes.now)))
+    (bits_begun n _ _ _ (c.in-Some.ensures.is c.args.input.bytes.now) c.in_ok-first.ensures.reads)
+    (c.in_err-low.ensures.halts (c.in_default-behind.ensures.none c.args.input.bytes.now)))
 
 pub returns-clause-reads : goal.returns-clause-reads
 returns-clause-reads c =
     let n = c.args.levels in
     reads_then _ (outer (bits_end n) ∷ []) [] _ _ _
-    (bits_begun n _ _ _ (c.in-Some.ensures.is c.args.bytes.now) c.in_ok-first.ensures.reads)
+    (bits_begun n _ _ _ (c.in-Some.ensures.is c.args.input.bytes.now) c.in_ok-first.ensures.reads)
     c.in_ok-low.ensures.reads

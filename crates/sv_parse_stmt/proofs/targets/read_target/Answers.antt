@@ -8,7 +8,7 @@ use Rattle.sv_parse_stmt.proofs.targets.read_target.Goals as goal
 
 pub returns-clause-is : goal.returns-clause-is
 returns-clause-is c = (
-  (placed_tokens c.args.bytes.now c.in_ok-name.rest.now),
+  (placed_tokens c.args.input.bytes.now c.in_ok-name.rest.now),
   c.in_ok-name.ensures.is,
   c.in_ok-select.ensures.is,
 )

@@ -14,15 +14,15 @@ use Rattle.sv_parse_stmt.proofs.targets.read_targets.Goals as goal
 pub returns-in-Some-clause-is : goal.returns-in-Some-clause-is
 returns-in-Some-clause-is c =
     inr (
-      placed_tokens c.args.bytes.now c.in-Some.rest.now,
+      placed_tokens c.args.input.bytes.now c.in-Some.rest.now,
       c.in-Some.ensures.is
-          c.args.bytes.now,
+          c.args.input.bytes.now,
       (
-        placed_tokens c.args.bytes.now
+        placed_tokens c.args.input.bytes.now
             c.in_ok-targets.rest.now,
         c.in_ok-targets.ensures.is,
         c.in_ok-rest.ensures.is
-            c.args.bytes.now,
+            c.args.input.bytes.now,
       ),
     )
 
@@ -37,7 +37,7 @@ returns-in_err-targets-clause-halts c = λ comes.
     passed _ _ _ c.from_residual.ensures.1
     (then_stop _ (outer plain_name ∷ outer (perhaps_bits n) ∷ outer (more_targets n) ∷ [])
     (outside_on (assignment_behind n)) _ _ _
-    (targets_begun n _ _ (c.in-Some.ensures.is c.args.bytes.now))
+    (targets_begun n _ _ (c.in-Some.ensures.is c.args.input.bytes.now))
     (c.in_err-targets.ensures.halts (outer (more_targets n) ∷ []) (outer (more_targets n) ∷ [])
     (targets_go_on n) refl tt))
 
@@ -47,19 +47,19 @@ returns-in_err-rest-clause-halts c = λ comes.
     passed _ _ _ c.from_residual-in_err-rest.ensures.1
     (then_stop _ (outer (punctuation signs.CloseBrace) ∷ [])
     (outside_on (assignment_behind n)) _ _ _
-    (targets_closing n _ _ _ (c.in-Some.ensures.is c.args.bytes.now)
+    (targets_closing n _ _ _ (c.in-Some.ensures.is c.args.input.bytes.now)
     (c.in_ok-targets.ensures.reads (outer (more_targets n) ∷ []) (outer (more_targets n) ∷ [])
     (targets_go_on n) refl tt) c.in_ok-targets.ensures.ends)
-    (c.in_err-rest.ensures.halts c.args.bytes.now))
+    (c.in_err-rest.ensures.halts c.args.input.bytes.now))
 
 pub returns-in-Some-clause-reads : goal.returns-in-Some-clause-reads
 returns-in-Some-clause-reads c = λ comes.
     let n = c.args.levels in
     then_read _ (outer (punctuation signs.CloseBrace) ∷ []) (outside_on (assignment_behind n)) _ _ _
-    (targets_closing n _ _ _ (c.in-Some.ensures.is c.args.bytes.now)
+    (targets_closing n _ _ _ (c.in-Some.ensures.is c.args.input.bytes.now)
     (c.in_ok-targets.ensures.reads (outer (more_targets n) ∷ []) (outer (more_targets n) ∷ [])
     (targets_go_on n) refl tt) c.in_ok-targets.ensures.ends)
-    (c.in_ok-rest.ensures.reads c.args.bytes.now refl)
+    (c.in_ok-rest.ensures.reads c.args.input.bytes.now refl)
 
 pub returns-in_err-only-clause-halts : goal.returns-in_err-only-clause-halts
 returns-in_err-only-clause-halts c = λ comes.
@@ -67,7 +67,7 @@ returns-in_err-only-clause-halts c = λ comes.
     passed _ _ _ c.from_residual-in_err-only.ensures.1
     (then_stop _ (outer plain_name ∷ outer (perhaps_bits n) ∷ [])
     (outside_on (assignment_behind n)) _ _ _
-    (target_is_named n _ comes (c.in_default.ensures.none c.args.bytes.now))
+    (target_is_named n _ comes (c.in_default.ensures.none c.args.input.bytes.now))
     c.in_err-only.ensures.halts)
 
 pub returns-clause-reads : goal.returns-clause-reads
@@ -75,5 +75,5 @@ returns-clause-reads c = λ comes.
     let n = c.args.levels in
     then_read _ (outer plain_name ∷ outer (perhaps_bits n) ∷ [])
     (outside_on (assignment_behind n)) _ _ _
-    (target_is_named n _ comes (c.in_default.ensures.none c.args.bytes.now))
+    (target_is_named n _ comes (c.in_default.ensures.none c.args.input.bytes.now))
     c.in_ok-only.ensures.reads

@@ -274,20 +274,6 @@ pub alike_register :
     (given (AreAlike before d) (IsNamedSignal all_limits d)) ts rest
 alike_register before d ts rest h = (h.0, named_signal d ts rest h.1)
 
-pub register_is :
-    (signed : Bool) (span : Option SpanTree) (label : Option LabelTree) (d : DeclarationTree)
-    (ts a b rest : List Placed) →
-    a_word words.Reg ts a → IsTypedAs signed span label a b →
-    IsNamedAs kinds.Reg signed span label d b rest → IsSignal all_limits d ts rest
-register_is signed span label d ts a b rest word typed h =
-    let same = h.0 in (
-      a,
-      subst (λ (x : DeclKind).
-          IsSignalKind x ts a) (sym same.0)
-          word,
-      (b, typed_again signed span label d a b same.1 typed, named_signal d b rest h.1),
-    )
-
 -- ---- registers
 
 pub open_reg_label_is :

@@ -24,8 +24,8 @@ ghost use Rattle.sv_parse_machine.specs.Symbols.{later_port};
 ghost use Rattle.sv_parse_machine.specs.Symbols.{items, more_wires, perhaps_value};
 ghost use Rattle.sv_parse_machine.specs.ModuleTable.{typed_name};
 ghost use Rattle.sv_parse_machine.specs.Reads.{NextIsNotSign, NextIsNotWord};
-ghost use Rattle.sv_parse_expr.specs.Parses.{Stands, Comes, GivesAs, Gives, GivesAll, Shortens};
-ghost use Rattle.sv_parse_expr.specs.Parses.{NoLonger, Leads, HaltsOn};
+ghost use Rattle.sv_parse_expr.specs.Parses.{placed, in_text, Stands, Comes, GivesAs, Gives};
+ghost use Rattle.sv_parse_expr.specs.Parses.{GivesAll, Shortens, NoLonger, Leads, HaltsOn};
 
 use crate::types::{SignalType, label_copy, read_signal_type, span_copy};
 use std::alloc::{AllocError, Global};
@@ -33,8 +33,8 @@ use sv_ast::{Decl, DeclKind, Expr, Item};
 use sv_num::{Name, Place};
 use sv_parse_expr::cursor::{behind, behind_word, expect_word, read_name, stuck};
 use sv_parse_expr::expressions::read_expression;
-use sv_parse_expr::lists::{Listed, read_list};
-use sv_parse_expr::stop::{Expected, Read, Stop};
+use sv_parse_expr::lists::{Begun, Listed, read_list};
+use sv_parse_expr::stop::{Expected, Input, Read, Stop};
 use sv_token::{SignKind, Token, WordKind};
 
 // A declaration of the kind and the type.
@@ -89,11 +89,12 @@ fn type_of(alloc: Global, decl: &Decl) -> Result<SignalType, AllocError>
 // The tokens behind `wire`, if it comes.
 fn behind_wire(tokens: &[Token]) -> &[Token]
     ensures is { (bytes : List ℕ) →
-        Stands (optional (a_word words.Wire)) bytes tokens.now result.now }
+        Stands (optional (a_word words.Wire)) (in_text bytes tokens.now) result.now }
     ensures shorter { length result.now ≤ length tokens.now }
-    ensures reads { (bytes : List ℕ) → Comes (perhaps_wire ∷ []) [] bytes tokens.now result.now }
+    ensures reads { (bytes : List ℕ) →
+        Comes (perhaps_wire ∷ []) [] (in_text bytes tokens.now) result.now }
     ensures output { (bytes : List ℕ) → NextIsNotWord words.Reg (placed_tokens bytes tokens.now) →
-        Comes (perhaps_wire_or_reg ∷ []) [] bytes tokens.now result.now }
+        Comes (perhaps_wire_or_reg ∷ []) [] (in_text bytes tokens.now) result.now }
 {
     match behind_word(WordKind::Wire, tokens) {
         Some(rest) => rest,
@@ -103,10 +104,11 @@ fn behind_wire(tokens: &[Token]) -> &[Token]
 
 // What a port is, behind its `output`.
 fn output_kind(tokens: &[Token]) -> (DeclKind, &[Token])
-    ensures is { (bytes : List ℕ) → Stands (IsOutputEnd result.0) bytes tokens.now result.1.now }
+    ensures is { (bytes : List ℕ) →
+        Stands (IsOutputEnd result.0) (in_text bytes tokens.now) result.1.now }
     ensures shorter { length result.1.now ≤ length tokens.now }
     ensures reads { (bytes : List ℕ) →
-        Comes (perhaps_wire_or_reg ∷ []) [] bytes tokens.now result.1.now }
+        Comes (perhaps_wire_or_reg ∷ []) [] (in_text bytes tokens.now) result.1.now }
 {
     match behind_word(WordKind::Reg, tokens) {
         Some(rest) => (DeclKind::OutputReg, rest),
@@ -117,13 +119,14 @@ fn output_kind(tokens: &[Token]) -> (DeclKind, &[Token])
 // What a port is, if the words of its kind come.
 fn port_kind(tokens: &[Token]) -> Option<(DeclKind, &[Token])>
     ensures is { (bytes : List ℕ) →
-        IfSome result (λ x. Stands (IsPortKind x.0) bytes tokens.now x.1.now) }
+        IfSome result (λ x. Stands (IsPortKind x.0) (in_text bytes tokens.now) x.1.now) }
     ensures shorter { IfSome result (λ x. length x.1.now < length tokens.now) }
     ensures first { (bytes : List ℕ) →
         IfSome result (λ x. Comes (ports ∷ []) (typed_name (more_ports ∷ []))
-        bytes tokens.now x.1.now) }
+        (in_text bytes tokens.now) x.1.now) }
     ensures later { (bytes : List ℕ) →
-        IfSome result (λ x. Comes (later_port ∷ []) (typed_name []) bytes tokens.now x.1.now) }
+        IfSome result (λ x. Comes (later_port ∷ []) (typed_name [])
+        (in_text bytes tokens.now) x.1.now) }
     ensures none { (bytes : List ℕ) →
         IfNone result (NextIsNotWord words.Input (placed_tokens bytes tokens.now)
         × NextIsNotWord words.Output (placed_tokens bytes tokens.now)) }
@@ -141,56 +144,40 @@ fn port_kind(tokens: &[Token]) -> Option<(DeclKind, &[Token])>
 }
 
 // The name of a port or register of the kind and the type.
-fn read_named<'a>(
-    alloc: Global,
-    bytes: &[u8],
-    kind: DeclKind,
-    of: SignalType,
-    tokens: &'a [Token],
-) -> Read<'a, Decl>
-    ensures is { Gives result bytes.now tokens.now declaration_tree
+fn read_named<'a>(alloc: Global, input: Input<'a>, kind: DeclKind, of: SignalType) -> Read<'a, Decl>
+    ensures is { Gives result input.entry declaration_tree
         (IsNamedAs kind of.signed (option_map span_tree of.span) (option_map label_tree of.label)) }
-    ensures shorter { Shortens result tokens.now }
-    ensures reads { Leads result bytes.now tokens.now (plain_name ∷ []) [] }
-    ensures halts { HaltsOn result bytes.now tokens.now (plain_name ∷ []) }
+    ensures shorter { Shortens result input.entry }
+    ensures reads { Leads result input.entry (plain_name ∷ []) [] }
+    ensures halts { HaltsOn result input.entry (plain_name ∷ []) }
 {
-    let (name, place, rest) = read_name(alloc, bytes, tokens)?;
+    let (name, place, rest) = read_name(alloc, input)?;
     Ok((declaration(kind, of, name, place, None), rest))
 }
 
 // A port or register like the one before it.
-fn read_named_alike<'a>(
-    alloc: Global,
-    bytes: &[u8],
-    before: &Decl,
-    tokens: &'a [Token],
-) -> Read<'a, Decl>
-    ensures is { GivesAs result bytes.now tokens.now (λ x.
+fn read_named_alike<'a>(alloc: Global, input: Input<'a>, before: &Decl) -> Read<'a, Decl>
+    ensures is { GivesAs result input.entry (λ x.
         given (AreAlike (declaration_tree before.now) (declaration_tree x))
         (IsNamedPort (declaration_tree x))) }
-    ensures shorter { Shortens result tokens.now }
-    ensures reads { Leads result bytes.now tokens.now (plain_name ∷ []) [] }
-    ensures halts { HaltsOn result bytes.now tokens.now (plain_name ∷ []) }
+    ensures shorter { Shortens result input.entry }
+    ensures reads { Leads result input.entry (plain_name ∷ []) [] }
+    ensures halts { HaltsOn result input.entry (plain_name ∷ []) }
 {
-    let (name, place, rest) = read_name(alloc, bytes, tokens)?;
+    let (name, place, rest) = read_name(alloc, input)?;
     let of = type_of(alloc, before)?;
     Ok((declaration(before.kind, of, name, place, None), rest))
 }
 
 // The type and the name of a port of the kind.
-fn read_typed_port<'a>(
-    alloc: Global,
-    bytes: &[u8],
-    kind: DeclKind,
-    tokens: &'a [Token],
-) -> Read<'a, Decl>
-    ensures is { Gives result bytes.now tokens.now declaration_tree (IsTypedPort kind) }
-    ensures shorter { Shortens result tokens.now }
-    ensures reads { Leads result bytes.now tokens.now (typed_name []) [] }
-    ensures halts { HaltsOn result bytes.now tokens.now (typed_name []) }
+fn read_typed_port<'a>(alloc: Global, input: Input<'a>, kind: DeclKind) -> Read<'a, Decl>
+    ensures is { Gives result input.entry declaration_tree (IsTypedPort kind) }
+    ensures shorter { Shortens result input.entry }
+    ensures reads { Leads result input.entry (typed_name []) [] }
+    ensures halts { HaltsOn result input.entry (typed_name []) }
 {
-    let (of, rest) = read_signal_type(alloc, bytes, tokens)?;
-    let (decl, rest) = read_named(alloc, bytes, kind, of, rest)?;
+    let (of, rest) = read_signal_type(alloc, input)?;
+    let (decl, rest) = read_named(alloc, Input { rest, ..input }, kind, of)?;
     Ok((decl, rest))
 }
 
@@ -209,101 +196,91 @@ impl Listed for Ports {
     ghost Later = { λ n before d.
         (IsPort all_limits d or given (AreAlike before d) (IsNamedPort d)) };
 
+    ghost next = { λ n. outer later_port ∷ [] };
+
+    fn later<'a>(alloc: Global, input: Input<'a>, _open: usize, before: &Decl) -> Read<'a, Decl> {
+        if let Some((kind, rest)) = port_kind(input.rest) {
+            let (port, rest) = read_typed_port(alloc, Input { rest, ..input }, kind)?;
+            return Ok((port, rest));
+        }
+        let (alike, rest) = read_named_alike(alloc, input, before)?;
+        Ok((alike, rest))
+    }
+}
+
+impl Begun for Ports {
     ghost Begins = { NextIsNotSign signs.CloseParenthesis };
 
     ghost start = { λ n. outer ports ∷ [] };
 
     ghost behind = { λ n. outer more_ports ∷ [] };
 
-    ghost next = { λ n. outer later_port ∷ [] };
-
-    fn first<'a>(alloc: Global, bytes: &[u8], _open: usize, tokens: &'a [Token]) -> Read<'a, Decl> {
-        let Some((kind, rest)) = port_kind(tokens) else {
-            return Err(stuck(Expected::Port, tokens));
+    fn first<'a>(alloc: Global, input: Input<'a>, _open: usize) -> Read<'a, Decl> {
+        let Some((kind, rest)) = port_kind(input.rest) else {
+            return Err(stuck(Expected::Port, input.rest));
         };
-        let (port, rest) = read_typed_port(alloc, bytes, kind, rest)?;
+        let (port, rest) = read_typed_port(alloc, Input { rest, ..input }, kind)?;
         Ok((port, rest))
-    }
-
-    fn later<'a>(
-        alloc: Global,
-        bytes: &[u8],
-        _open: usize,
-        before: &Decl,
-        tokens: &'a [Token],
-    ) -> Read<'a, Decl> {
-        if let Some((kind, rest)) = port_kind(tokens) {
-            let (port, rest) = read_typed_port(alloc, bytes, kind, rest)?;
-            return Ok((port, rest));
-        }
-        let (alike, rest) = read_named_alike(alloc, bytes, before, tokens)?;
-        Ok((alike, rest))
     }
 }
 
 /// The ports of a header, at least one.
-pub fn read_ports<'a>(alloc: Global, bytes: &[u8], tokens: &'a [Token]) -> Read<'a, Vec<Decl>>
-    ensures is { GivesAll result bytes.now tokens.now declaration_tree (ArePorts all_limits) }
-    ensures shorter { Shortens result tokens.now }
-    ensures reads { NextIsNotSign signs.CloseParenthesis (placed_tokens bytes.now tokens.now) →
-        Leads result bytes.now tokens.now (ports ∷ []) (punctuation signs.CloseParenthesis ∷ []) }
-    ensures halts { NextIsNotSign signs.CloseParenthesis (placed_tokens bytes.now tokens.now) →
-        HaltsOn result bytes.now tokens.now (ports ∷ []) }
+pub fn read_ports<'a>(alloc: Global, input: Input<'a>) -> Read<'a, Vec<Decl>>
+    ensures is { GivesAll result input.entry declaration_tree (ArePorts all_limits) }
+    ensures shorter { Shortens result input.entry }
+    ensures reads { NextIsNotSign signs.CloseParenthesis (placed input.entry) →
+        Leads result input.entry (ports ∷ []) (punctuation signs.CloseParenthesis ∷ []) }
+    ensures halts { NextIsNotSign signs.CloseParenthesis (placed input.entry) →
+        HaltsOn result input.entry (ports ∷ []) }
 {
-    let (ports, rest) = read_list::<Ports>(alloc, bytes, 0, tokens)?;
+    let (ports, rest) = read_list::<Ports>(alloc, input, 0)?;
     Ok((ports, rest))
 }
 
 // The value of a `wire`, if one comes.
-fn read_wire_value<'a>(alloc: Global, bytes: &[u8], tokens: &'a [Token]) -> Read<'a, Option<Expr>>
-    ensures is { Gives result bytes.now tokens.now (option_map expression_tree)
+fn read_wire_value<'a>(alloc: Global, input: Input<'a>) -> Read<'a, Option<Expr>>
+    ensures is { Gives result input.entry (option_map expression_tree)
         (perhaps (equals all_limits)) }
-    ensures shorter { NoLonger result tokens.now }
-    ensures reads { Leads result bytes.now tokens.now (perhaps_value ∷ []) [] }
-    ensures halts { HaltsOn result bytes.now tokens.now (perhaps_value ∷ []) }
+    ensures shorter { NoLonger result input.entry }
+    ensures reads { Leads result input.entry (perhaps_value ∷ []) [] }
+    ensures halts { HaltsOn result input.entry (perhaps_value ∷ []) }
 {
-    match behind(SignKind::Equals, tokens) {
+    match behind(SignKind::Equals, input.rest) {
         Some(rest) => {
-            let (value, rest) = read_expression(alloc, bytes, 0, rest)?;
+            let (value, rest) = read_expression(alloc, Input { rest, ..input }, 0)?;
             Ok((Some(value), rest))
         }
-        None => Ok((None, tokens)),
+        None => Ok((None, input.rest)),
     }
 }
 
 // The name of a `wire` with its place, and the value, if one comes.
 fn read_wire_name<'a>(
     alloc: Global,
-    bytes: &[u8],
-    tokens: &'a [Token],
+    input: Input<'a>,
 ) -> Result<(Name, Place, Option<Expr>, &'a [Token]), Stop>
     ensures is { IfOk result (λ x.
         Stands (name_at x.0 x.1 ⨾ perhaps (equals all_limits) (option_map expression_tree x.2))
-        bytes.now tokens.now x.3.now) }
-    ensures shorter { IfOk result (λ x. length x.3.now < length tokens.now) }
+        input.entry x.3.now) }
+    ensures shorter { IfOk result (λ x. length x.3.now < length input.entry.rest.now) }
     ensures reads { IfOk result (λ x.
-        Comes (plain_name ∷ perhaps_value ∷ []) [] bytes.now tokens.now x.3.now) }
-    ensures halts { HaltsOn result bytes.now tokens.now (plain_name ∷ perhaps_value ∷ []) }
+        Comes (plain_name ∷ perhaps_value ∷ []) [] input.entry x.3.now) }
+    ensures halts { HaltsOn result input.entry (plain_name ∷ perhaps_value ∷ []) }
 {
-    let (name, place, rest) = read_name(alloc, bytes, tokens)?;
-    let (value, rest) = read_wire_value(alloc, bytes, rest)?;
+    let (name, place, rest) = read_name(alloc, input)?;
+    let (value, rest) = read_wire_value(alloc, Input { rest, ..input })?;
     Ok((name, place, value, rest))
 }
 
 // A `wire` of the type.
-fn read_named_wire<'a>(
-    alloc: Global,
-    bytes: &[u8],
-    of: SignalType,
-    tokens: &'a [Token],
-) -> Read<'a, Decl>
-    ensures is { Gives result bytes.now tokens.now declaration_tree
+fn read_named_wire<'a>(alloc: Global, input: Input<'a>, of: SignalType) -> Read<'a, Decl>
+    ensures is { Gives result input.entry declaration_tree
         (IsWireAs of.signed (option_map span_tree of.span) (option_map label_tree of.label)) }
-    ensures shorter { Shortens result tokens.now }
-    ensures reads { Leads result bytes.now tokens.now (plain_name ∷ perhaps_value ∷ []) [] }
-    ensures halts { HaltsOn result bytes.now tokens.now (plain_name ∷ perhaps_value ∷ []) }
+    ensures shorter { Shortens result input.entry }
+    ensures reads { Leads result input.entry (plain_name ∷ perhaps_value ∷ []) [] }
+    ensures halts { HaltsOn result input.entry (plain_name ∷ perhaps_value ∷ []) }
 {
-    let (name, place, value, rest) = read_wire_name(alloc, bytes, tokens)?;
+    let (name, place, value, rest) = read_wire_name(alloc, input)?;
     Ok((declaration(DeclKind::Wire, of, name, place, value), rest))
 }
 
@@ -321,45 +298,41 @@ impl Listed for Wires {
 
     ghost Later = { λ n. IsWireLike };
 
+    ghost next = { λ n. outer plain_name ∷ outer perhaps_value ∷ [] };
+
+    fn later<'a>(alloc: Global, input: Input<'a>, _open: usize, before: &Decl) -> Read<'a, Decl> {
+        let of = type_of(alloc, before)?;
+        let (wire, rest) = read_named_wire(alloc, input, of)?;
+        Ok((wire, rest))
+    }
+}
+
+impl Begun for Wires {
     ghost Begins = { IsNext words.Wire };
 
     ghost start = { λ n. outer items ∷ [] };
 
     ghost behind = { λ n. outer more_wires ∷ outer items ∷ [] };
 
-    ghost next = { λ n. outer plain_name ∷ outer perhaps_value ∷ [] };
-
-    fn first<'a>(alloc: Global, bytes: &[u8], _open: usize, tokens: &'a [Token]) -> Read<'a, Decl> {
-        let (_place, rest) = expect_word(WordKind::Wire, tokens)?;
-        let (of, rest) = read_signal_type(alloc, bytes, rest)?;
-        let (wire, rest) = read_named_wire(alloc, bytes, of, rest)?;
-        Ok((wire, rest))
-    }
-
-    fn later<'a>(
-        alloc: Global,
-        bytes: &[u8],
-        _open: usize,
-        before: &Decl,
-        tokens: &'a [Token],
-    ) -> Read<'a, Decl> {
-        let of = type_of(alloc, before)?;
-        let (wire, rest) = read_named_wire(alloc, bytes, of, tokens)?;
+    fn first<'a>(alloc: Global, input: Input<'a>, _open: usize) -> Read<'a, Decl> {
+        let (_place, rest) = expect_word(WordKind::Wire, input.rest)?;
+        let (of, rest) = read_signal_type(alloc, Input { rest, ..input })?;
+        let (wire, rest) = read_named_wire(alloc, Input { rest, ..input }, of)?;
         Ok((wire, rest))
     }
 }
 
 /// The signals of an item that begins with `wire`.
-pub fn read_wires<'a>(alloc: Global, bytes: &[u8], tokens: &'a [Token]) -> Read<'a, Vec<Item>>
-    ensures is { GivesAll result bytes.now tokens.now item_tree
+pub fn read_wires<'a>(alloc: Global, input: Input<'a>) -> Read<'a, Vec<Item>>
+    ensures is { GivesAll result input.entry item_tree
         (all_as tree.declared (AreSignals all_limits)) }
-    ensures shorter { Shortens result tokens.now }
-    ensures reads { IsNext words.Wire (placed_tokens bytes.now tokens.now) →
-        Leads result bytes.now tokens.now (items ∷ []) (punctuation signs.Semicolon ∷ items ∷ []) }
-    ensures halts { IsNext words.Wire (placed_tokens bytes.now tokens.now) →
-        HaltsOn result bytes.now tokens.now (items ∷ []) }
+    ensures shorter { Shortens result input.entry }
+    ensures reads { IsNext words.Wire (placed input.entry) →
+        Leads result input.entry (items ∷ []) (punctuation signs.Semicolon ∷ items ∷ []) }
+    ensures halts { IsNext words.Wire (placed input.entry) →
+        HaltsOn result input.entry (items ∷ []) }
 {
-    let (wires, rest) = read_list::<Wires>(alloc, bytes, 0, tokens)?;
+    let (wires, rest) = read_list::<Wires>(alloc, input, 0)?;
     let items = declared(alloc, wires)?;
     Ok((items, rest))
 }
@@ -378,29 +351,10 @@ impl Listed for Registers {
 
     ghost Later = { λ n before d. given (AreAlike before d) (IsNamedSignal all_limits d) };
 
-    ghost Begins = { λ ts. ⊥ };
-
-    ghost start = { λ n. outer plain_name ∷ [] };
-
-    ghost behind = { λ n. [] };
-
     ghost next = { λ n. outer plain_name ∷ [] };
 
-    fn first<'a>(alloc: Global, bytes: &[u8], _open: usize, tokens: &'a [Token]) -> Read<'a, Decl> {
-        let (_place, rest) = expect_word(WordKind::Reg, tokens)?;
-        let (of, rest) = read_signal_type(alloc, bytes, rest)?;
-        let (register, rest) = read_named(alloc, bytes, DeclKind::Reg, of, rest)?;
-        Ok((register, rest))
-    }
-
-    fn later<'a>(
-        alloc: Global,
-        bytes: &[u8],
-        _open: usize,
-        before: &Decl,
-        tokens: &'a [Token],
-    ) -> Read<'a, Decl> {
-        let (register, rest) = read_named_alike(alloc, bytes, before, tokens)?;
+    fn later<'a>(alloc: Global, input: Input<'a>, _open: usize, before: &Decl) -> Read<'a, Decl> {
+        let (register, rest) = read_named_alike(alloc, input, before)?;
         Ok((register, rest))
     }
 }

@@ -1,5 +1,5 @@
 // Label maps (SecVerilog, ASPLOS 2015; ranges and rows are this project's profile).
-ghost use Rattle.std.specs.Prelude.{◌≡◌, true, false, ℕ, List, IfOk, [], ◌∷◌};
+ghost use Rattle.std.specs.Prelude.{◌≡◌, ◌<◌, ◌≤◌, true, false, ℕ, List, length, IfOk, [], ◌∷◌};
 ghost use Rattle.std.specs.Option.{option_map};
 ghost use Rattle.sv_token.specs.Lexemes.{placed_tokens};
 ghost use Rattle.sv_token.specs.declared.signs.SignKind.TheVariants as signs;
@@ -16,8 +16,8 @@ ghost use Rattle.sv_parse_machine.specs.Symbols.{perhaps_key_range, rows, perhap
 ghost use Rattle.sv_parse_machine.specs.Symbols.{end_of_map};
 ghost use Rattle.sv_parse_machine.specs.ModuleTable.{number_range};
 ghost use Rattle.sv_parse_machine.specs.Reads.{NextIsNotWord};
-ghost use Rattle.sv_parse_expr.specs.Parses.{GivesAs, Gives, GivesAll, Shortens, NoLonger, Leads};
-ghost use Rattle.sv_parse_expr.specs.Parses.{HaltsOn, TakesNoMemory};
+ghost use Rattle.sv_parse_expr.specs.Parses.{placed, in_text, GivesAs, Gives, GivesAll, Shortens};
+ghost use Rattle.sv_parse_expr.specs.Parses.{NoLonger, Leads, HaltsOn, TakesNoMemory};
 
 use std::alloc::Global;
 use sv_ast::{Expr, MapText, Span};
@@ -25,7 +25,7 @@ use sv_num::{Name, Place};
 use sv_parse_expr::cursor::{
     behind, behind_word, expect_sign, expect_word, read_name, read_number,
 };
-use sv_parse_expr::stop::Read;
+use sv_parse_expr::stop::{Input, Read};
 use sv_token::{Lit, SignKind, Token, TokenKind, WordKind};
 
 // A range of plain numbers, each with its place. It is made a tree last: a tree that is held where
@@ -60,10 +60,11 @@ fn perhaps_span(range: Option<KeyRange>) -> Option<Span>
 
 // A range of plain numbers, behind its `[`.
 fn read_open_range(tokens: &[Token]) -> Read<'_, KeyRange>
-    ensures is { (bytes : List ℕ) → Gives result bytes tokens.now range_tree IsOpenKeyRange }
-    ensures shorter { Shortens result tokens.now }
-    ensures reads { (bytes : List ℕ) → Leads result bytes tokens.now number_range [] }
-    ensures halts { (bytes : List ℕ) → HaltsOn result bytes tokens.now number_range }
+    ensures is { (bytes : List ℕ) →
+        Gives result (in_text bytes tokens.now) range_tree IsOpenKeyRange }
+    ensures shorter { IfOk result (λ x. length x.1.now < length tokens.now) }
+    ensures reads { (bytes : List ℕ) → Leads result (in_text bytes tokens.now) number_range [] }
+    ensures halts { (bytes : List ℕ) → HaltsOn result (in_text bytes tokens.now) number_range }
     ensures memory { TakesNoMemory result }
 {
     let (high, high_place, rest) = read_number(tokens)?;
@@ -81,12 +82,12 @@ fn read_open_range(tokens: &[Token]) -> Read<'_, KeyRange>
 
 // A range, which has to come.
 fn read_range(tokens: &[Token]) -> Read<'_, KeyRange>
-    ensures is { (bytes : List ℕ) → Gives result bytes tokens.now range_tree IsKeyRange }
-    ensures shorter { Shortens result tokens.now }
+    ensures is { (bytes : List ℕ) → Gives result (in_text bytes tokens.now) range_tree IsKeyRange }
+    ensures shorter { IfOk result (λ x. length x.1.now < length tokens.now) }
     ensures reads { (bytes : List ℕ) →
-        Leads result bytes tokens.now (punctuation signs.OpenBracket ∷ number_range) [] }
+        Leads result (in_text bytes tokens.now) (punctuation signs.OpenBracket ∷ number_range) [] }
     ensures halts { (bytes : List ℕ) →
-        HaltsOn result bytes tokens.now (punctuation signs.OpenBracket ∷ number_range) }
+        HaltsOn result (in_text bytes tokens.now) (punctuation signs.OpenBracket ∷ number_range) }
     ensures memory { TakesNoMemory result }
 {
     let rest = expect_sign(SignKind::OpenBracket, tokens)?;
@@ -97,10 +98,12 @@ fn read_range(tokens: &[Token]) -> Read<'_, KeyRange>
 // A second range, if one comes.
 fn read_second_range(tokens: &[Token]) -> Read<'_, Option<KeyRange>>
     ensures is { (bytes : List ℕ) →
-        Gives result bytes tokens.now (option_map range_tree) (perhaps IsKeyRange) }
-    ensures shorter { NoLonger result tokens.now }
-    ensures reads { (bytes : List ℕ) → Leads result bytes tokens.now (perhaps_key_range ∷ []) [] }
-    ensures halts { (bytes : List ℕ) → HaltsOn result bytes tokens.now (perhaps_key_range ∷ []) }
+        Gives result (in_text bytes tokens.now) (option_map range_tree) (perhaps IsKeyRange) }
+    ensures shorter { IfOk result (λ x. length x.1.now ≤ length tokens.now) }
+    ensures reads { (bytes : List ℕ) →
+        Leads result (in_text bytes tokens.now) (perhaps_key_range ∷ []) [] }
+    ensures halts { (bytes : List ℕ) →
+        HaltsOn result (in_text bytes tokens.now) (perhaps_key_range ∷ []) }
     ensures memory { TakesNoMemory result }
 {
     match behind(SignKind::OpenBracket, tokens) {
@@ -115,11 +118,13 @@ fn read_second_range(tokens: &[Token]) -> Read<'_, Option<KeyRange>>
 // A second key, if one comes.
 fn read_second_key(tokens: &[Token]) -> Read<'_, Option<(Lit, Place)>>
     ensures is { (bytes : List ℕ) →
-        Gives result bytes tokens.now (option_map key_tree)
+        Gives result (in_text bytes tokens.now) (option_map key_tree)
         (perhaps (λ k. a_sign signs.Comma ⨾ IsKey k)) }
-    ensures shorter { NoLonger result tokens.now }
-    ensures reads { (bytes : List ℕ) → Leads result bytes tokens.now (perhaps_second_key ∷ []) [] }
-    ensures halts { (bytes : List ℕ) → HaltsOn result bytes tokens.now (perhaps_second_key ∷ []) }
+    ensures shorter { IfOk result (λ x. length x.1.now ≤ length tokens.now) }
+    ensures reads { (bytes : List ℕ) →
+        Leads result (in_text bytes tokens.now) (perhaps_second_key ∷ []) [] }
+    ensures halts { (bytes : List ℕ) →
+        HaltsOn result (in_text bytes tokens.now) (perhaps_second_key ∷ []) }
     ensures memory { TakesNoMemory result }
 {
     match behind(SignKind::Comma, tokens) {
@@ -132,15 +137,15 @@ fn read_second_key(tokens: &[Token]) -> Read<'_, Option<(Lit, Place)>>
 }
 
 // A point behind a `:`, and the `;` behind it.
-fn read_to_point<'a>(alloc: Global, bytes: &[u8], tokens: &'a [Token]) -> Read<'a, Name>
-    ensures is { GivesAs result bytes.now tokens.now (λ x.
+fn read_to_point<'a>(alloc: Global, input: Input<'a>) -> Read<'a, Name>
+    ensures is { GivesAs result input.entry (λ x.
         a_sign signs.Colon ⨾ a_name x ⨾ a_sign signs.Semicolon) }
-    ensures shorter { Shortens result tokens.now }
-    ensures reads { Leads result bytes.now tokens.now to_point [] }
-    ensures halts { HaltsOn result bytes.now tokens.now to_point }
+    ensures shorter { Shortens result input.entry }
+    ensures reads { Leads result input.entry to_point [] }
+    ensures halts { HaltsOn result input.entry to_point }
 {
-    let rest = expect_sign(SignKind::Colon, tokens)?;
-    let (point, _place, rest) = read_name(alloc, bytes, rest)?;
+    let rest = expect_sign(SignKind::Colon, input.rest)?;
+    let (point, _place, rest) = read_name(alloc, Input { rest, ..input })?;
     let rest = expect_sign(SignKind::Semicolon, rest)?;
     Ok((point, rest))
 }
@@ -148,17 +153,15 @@ fn read_to_point<'a>(alloc: Global, bytes: &[u8], tokens: &'a [Token]) -> Read<'
 // A row: a key or two, with their places, and the point.
 type Row = (Lit, Place, Option<(Lit, Place)>, Name);
 
-fn read_row<'a>(alloc: Global, bytes: &[u8], tokens: &'a [Token]) -> Read<'a, Row>
-    ensures is { Gives result bytes.now tokens.now row_tree IsRow }
-    ensures shorter { Shortens result tokens.now }
-    ensures reads { Leads result bytes.now tokens.now
-        (plain_number ∷ perhaps_second_key ∷ to_point) [] }
-    ensures halts { HaltsOn result bytes.now tokens.now
-        (plain_number ∷ perhaps_second_key ∷ to_point) }
+fn read_row<'a>(alloc: Global, input: Input<'a>) -> Read<'a, Row>
+    ensures is { Gives result input.entry row_tree IsRow }
+    ensures shorter { Shortens result input.entry }
+    ensures reads { Leads result input.entry (plain_number ∷ perhaps_second_key ∷ to_point) [] }
+    ensures halts { HaltsOn result input.entry (plain_number ∷ perhaps_second_key ∷ to_point) }
 {
-    let (first, place, rest) = read_number(tokens)?;
+    let (first, place, rest) = read_number(input.rest)?;
     let (second, rest) = read_second_key(rest)?;
-    let (point, rest) = read_to_point(alloc, bytes, rest)?;
+    let (point, rest) = read_to_point(alloc, Input { rest, ..input })?;
     Ok(((first, place, second, point), rest))
 }
 
@@ -180,17 +183,17 @@ fn ends_rows(tokens: &[Token]) -> bool
 }
 
 // The rows, and then `default` or the last word.
-fn read_rows<'a>(alloc: Global, bytes: &[u8], tokens: &'a [Token]) -> Read<'a, Vec<Row>>
-    ensures is { GivesAll result bytes.now tokens.now row_tree (each IsRow) }
-    ensures shorter { NoLonger result tokens.now }
-    ensures reads { Leads result bytes.now tokens.now (rows ∷ []) (rows ∷ []) }
-    ensures halts { HaltsOn result bytes.now tokens.now (rows ∷ []) }
-    ensures ends { IfOk result (λ x. EndsRows (placed_tokens bytes.now x.1.now)) }
+fn read_rows<'a>(alloc: Global, input: Input<'a>) -> Read<'a, Vec<Row>>
+    ensures is { GivesAll result input.entry row_tree (each IsRow) }
+    ensures shorter { NoLonger result input.entry }
+    ensures reads { Leads result input.entry (rows ∷ []) (rows ∷ []) }
+    ensures halts { HaltsOn result input.entry (rows ∷ []) }
+    ensures ends { IfOk result (λ x. EndsRows (placed_tokens input.entry.bytes.now x.1.now)) }
 {
     let mut rows = Vec::new(alloc);
-    let mut rest = tokens;
+    let mut rest = input.rest;
     while !ends_rows(rest) {
-        let (row, more) = read_row(alloc, bytes, rest)?;
+        let (row, more) = read_row(alloc, Input { rest, ..input })?;
         rows.push(row)?;
         rest = more;
     }
@@ -198,40 +201,39 @@ fn read_rows<'a>(alloc: Global, bytes: &[u8], tokens: &'a [Token]) -> Read<'a, V
 }
 
 // The point of the other keys, if one comes.
-fn read_other<'a>(alloc: Global, bytes: &[u8], tokens: &'a [Token]) -> Read<'a, Option<Name>>
-    ensures is { GivesAs result bytes.now tokens.now
+fn read_other<'a>(alloc: Global, input: Input<'a>) -> Read<'a, Option<Name>>
+    ensures is { GivesAs result input.entry
         (perhaps (λ x. a_word words.Default ⨾ a_sign signs.Colon ⨾ a_name x
         ⨾ a_sign signs.Semicolon)) }
-    ensures shorter { NoLonger result tokens.now }
-    ensures reads { EndsRows (placed_tokens bytes.now tokens.now) →
-        Leads result bytes.now tokens.now (rows ∷ []) (end_of_map ∷ []) }
-    ensures halts { EndsRows (placed_tokens bytes.now tokens.now) →
-        HaltsOn result bytes.now tokens.now (rows ∷ []) }
+    ensures shorter { NoLonger result input.entry }
+    ensures reads { EndsRows (placed input.entry) →
+        Leads result input.entry (rows ∷ []) (end_of_map ∷ []) }
+    ensures halts { EndsRows (placed input.entry) → HaltsOn result input.entry (rows ∷ []) }
 {
-    match behind_word(WordKind::Default, tokens) {
+    match behind_word(WordKind::Default, input.rest) {
         Some(rest) => {
-            let (point, rest) = read_to_point(alloc, bytes, rest)?;
+            let (point, rest) = read_to_point(alloc, Input { rest, ..input })?;
             Ok((Some(point), rest))
         }
-        None => Ok((None, tokens)),
+        None => Ok((None, input.rest)),
     }
 }
 
 /// A label map.
-pub fn read_label_map<'a>(alloc: Global, bytes: &[u8], tokens: &'a [Token]) -> Read<'a, MapText>
-    ensures is { Gives result bytes.now tokens.now map_tree IsMap }
-    ensures shorter { Shortens result tokens.now }
-    ensures reads { IsNext WordKind.Labelmap (placed_tokens bytes.now tokens.now) →
-        Leads result bytes.now tokens.now (perhaps_maps ∷ []) (perhaps_maps ∷ []) }
-    ensures halts { IsNext WordKind.Labelmap (placed_tokens bytes.now tokens.now) →
-        HaltsOn result bytes.now tokens.now (perhaps_maps ∷ []) }
+pub fn read_label_map<'a>(alloc: Global, input: Input<'a>) -> Read<'a, MapText>
+    ensures is { Gives result input.entry map_tree IsMap }
+    ensures shorter { Shortens result input.entry }
+    ensures reads { IsNext WordKind.Labelmap (placed input.entry) →
+        Leads result input.entry (perhaps_maps ∷ []) (perhaps_maps ∷ []) }
+    ensures halts { IsNext WordKind.Labelmap (placed input.entry) →
+        HaltsOn result input.entry (perhaps_maps ∷ []) }
 {
-    let (_word, rest) = expect_word(WordKind::Labelmap, tokens)?;
-    let (name, place, rest) = read_name(alloc, bytes, rest)?;
+    let (_word, rest) = expect_word(WordKind::Labelmap, input.rest)?;
+    let (name, place, rest) = read_name(alloc, Input { rest, ..input })?;
     let (range, rest) = read_range(rest)?;
     let (second, rest) = read_second_range(rest)?;
-    let (rows, rest) = read_rows(alloc, bytes, rest)?;
-    let (other, rest) = read_other(alloc, bytes, rest)?;
+    let (rows, rest) = read_rows(alloc, Input { rest, ..input })?;
+    let (other, rest) = read_other(alloc, Input { rest, ..input })?;
     let (_last, rest) = expect_word(WordKind::Endlabelmap, rest)?;
     let map = MapText {
         name,

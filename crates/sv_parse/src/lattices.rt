@@ -1,6 +1,5 @@
 // Lattices (SecVerilog, ASPLOS 2015).
-ghost use Rattle.std.specs.Prelude.{◌≤◌, ℕ, List, map, [], ◌∷◌};
-ghost use Rattle.sv_token.specs.Lexemes.{placed_tokens};
+ghost use Rattle.std.specs.Prelude.{map, [], ◌∷◌};
 ghost use Rattle.sv_token.specs.declared.signs.SignKind.TheVariants as signs;
 ghost use Rattle.sv_ast.specs.Tree.{PlacedName};
 ghost use Rattle.sv_ast.specs.Views.{placed_name, pair_tree, lattice_tree};
@@ -11,25 +10,25 @@ ghost use Rattle.sv_ast.specs.GrammarStatements.{IsNext};
 ghost use Rattle.sv_parse_machine.specs.Symbols.{outer, punctuation, plain_name, more_names};
 ghost use Rattle.sv_parse_machine.specs.Symbols.{perhaps_lattice, lattice_lines, less_equal};
 ghost use Rattle.sv_parse_machine.specs.Reads.{NextIsNotWord};
-ghost use Rattle.sv_parse_expr.specs.Parses.{GivesAs, Gives, Shortens, Leads, HaltsOn};
+ghost use Rattle.sv_parse_expr.specs.Parses.{placed, GivesAs, Gives, Shortens, Leads, HaltsOn};
 
 use std::alloc::Global;
 use sv_ast::LatticeText;
 use sv_num::{BinOp, Name, Place};
 use sv_parse_expr::cursor::{behind_word, expect_sign, expect_word, read_name, unexpected};
-use sv_parse_expr::lists::{Listed, read_list};
+use sv_parse_expr::lists::{Begun, Listed, read_list};
 use sv_parse_expr::operators::operator_at;
-use sv_parse_expr::stop::Read;
-use sv_token::{SignKind, Token, WordKind};
+use sv_parse_expr::stop::{Input, Read};
+use sv_token::{SignKind, WordKind};
 
 // A name with its place.
-fn read_placed_name<'a>(alloc: Global, bytes: &[u8], tokens: &'a [Token]) -> Read<'a, (Name, Place)>
-    ensures is { Gives result bytes.now tokens.now placed_name IsPlacedName }
-    ensures shorter { Shortens result tokens.now }
-    ensures reads { Leads result bytes.now tokens.now (plain_name ∷ []) [] }
-    ensures halts { HaltsOn result bytes.now tokens.now (plain_name ∷ []) }
+fn read_placed_name<'a>(alloc: Global, input: Input<'a>) -> Read<'a, (Name, Place)>
+    ensures is { Gives result input.entry placed_name IsPlacedName }
+    ensures shorter { Shortens result input.entry }
+    ensures reads { Leads result input.entry (plain_name ∷ []) [] }
+    ensures halts { HaltsOn result input.entry (plain_name ∷ []) }
 {
-    let (name, place, rest) = read_name(alloc, bytes, tokens)?;
+    let (name, place, rest) = read_name(alloc, input)?;
     Ok(((name, place), rest))
 }
 
@@ -47,31 +46,27 @@ impl Listed for Points {
 
     ghost Later = { λ n before. IsPlacedName };
 
+    ghost next = { λ n. outer plain_name ∷ [] };
+
+    fn later<'a>(
+        alloc: Global,
+        input: Input<'a>,
+        _open: usize,
+        _before: &(Name, Place),
+    ) -> Read<'a, (Name, Place)> {
+        read_placed_name(alloc, input)
+    }
+}
+
+impl Begun for Points {
     ghost Begins = { λ ts. Unit {0} };
 
     ghost start = { λ n. outer plain_name ∷ [] };
 
     ghost behind = { λ n. [] };
 
-    ghost next = { λ n. outer plain_name ∷ [] };
-
-    fn first<'a>(
-        alloc: Global,
-        bytes: &[u8],
-        _open: usize,
-        tokens: &'a [Token],
-    ) -> Read<'a, (Name, Place)> {
-        read_placed_name(alloc, bytes, tokens)
-    }
-
-    fn later<'a>(
-        alloc: Global,
-        bytes: &[u8],
-        _open: usize,
-        _before: &(Name, Place),
-        tokens: &'a [Token],
-    ) -> Read<'a, (Name, Place)> {
-        read_placed_name(alloc, bytes, tokens)
+    fn first<'a>(alloc: Global, input: Input<'a>, _open: usize) -> Read<'a, (Name, Place)> {
+        read_placed_name(alloc, input)
     }
 }
 
@@ -79,34 +74,32 @@ impl Listed for Points {
 type Pair = (Name, Place, Name, Place);
 
 // A pair, and its `;`.
-fn read_pair<'a>(alloc: Global, bytes: &[u8], tokens: &'a [Token]) -> Read<'a, Pair>
-    ensures is { GivesAs result bytes.now tokens.now (λ x. IsLatticeLine (pair (pair_tree x))) }
-    ensures shorter { Shortens result tokens.now }
-    ensures reads { Leads result bytes.now tokens.now
+fn read_pair<'a>(alloc: Global, input: Input<'a>) -> Read<'a, Pair>
+    ensures is { GivesAs result input.entry (λ x. IsLatticeLine (pair (pair_tree x))) }
+    ensures shorter { Shortens result input.entry }
+    ensures reads { Leads result input.entry
         (plain_name ∷ less_equal ∷ plain_name ∷ punctuation signs.Semicolon ∷ []) [] }
-    ensures halts { HaltsOn result bytes.now tokens.now
+    ensures halts { HaltsOn result input.entry
         (plain_name ∷ less_equal ∷ plain_name ∷ punctuation signs.Semicolon ∷ []) }
 {
-    let (lower, place, rest) = read_name(alloc, bytes, tokens)?;
+    let (lower, place, rest) = read_name(alloc, input)?;
     let Some(rest) = operator_at(BinOp::Le, rest) else {
         return Err(unexpected(rest));
     };
-    let (upper, upper_place, rest) = read_name(alloc, bytes, rest)?;
+    let (upper, upper_place, rest) = read_name(alloc, Input { rest, ..input })?;
     let rest = expect_sign(SignKind::Semicolon, rest)?;
     Ok(((lower, place, upper, upper_place), rest))
 }
 
 // The points of a line, behind `point`, and its `;`.
-fn read_points<'a>(alloc: Global, bytes: &[u8], tokens: &'a [Token]) -> Read<'a, Vec<(Name, Place)>>
-    ensures is { GivesAs result bytes.now tokens.now (λ x.
+fn read_points<'a>(alloc: Global, input: Input<'a>) -> Read<'a, Vec<(Name, Place)>>
+    ensures is { GivesAs result input.entry (λ x.
         commas IsPlacedName (map placed_name x.items) ⨾ a_sign signs.Semicolon) }
-    ensures shorter { Shortens result tokens.now }
-    ensures reads { Leads result bytes.now tokens.now
-        (plain_name ∷ more_names signs.Semicolon ∷ []) [] }
-    ensures halts { HaltsOn result bytes.now tokens.now
-        (plain_name ∷ more_names signs.Semicolon ∷ []) }
+    ensures shorter { Shortens result input.entry }
+    ensures reads { Leads result input.entry (plain_name ∷ more_names signs.Semicolon ∷ []) [] }
+    ensures halts { HaltsOn result input.entry (plain_name ∷ more_names signs.Semicolon ∷ []) }
 {
-    let (points, rest) = read_list::<Points>(alloc, bytes, 0, tokens)?;
+    let (points, rest) = read_list::<Points>(alloc, input, 0)?;
     let rest = expect_sign(SignKind::Semicolon, rest)?;
     Ok((points, rest))
 }
@@ -119,28 +112,28 @@ struct Lines {
 }
 
 // One more line.
-fn read_line<'a>(alloc: Global, bytes: &[u8], lines: Lines, tokens: &'a [Token]) -> Read<'a, Lines>
-    ensures is { GivesAs result bytes.now tokens.now (λ x.
+fn read_line<'a>(alloc: Global, input: Input<'a>, lines: Lines) -> Read<'a, Lines>
+    ensures is { GivesAs result input.entry (λ x.
         IsOneMore (map placed_name lines.points.items) (map pair_tree lines.pairs.items)
         (map placed_name x.points.items) (map pair_tree x.pairs.items)) }
-    ensures shorter { Shortens result tokens.now }
-    ensures reads { NextIsNotWord WordKind.Endlattice (placed_tokens bytes.now tokens.now) →
-        Leads result bytes.now tokens.now (lattice_lines ∷ []) (lattice_lines ∷ []) }
-    ensures halts { NextIsNotWord WordKind.Endlattice (placed_tokens bytes.now tokens.now) →
-        HaltsOn result bytes.now tokens.now (lattice_lines ∷ []) }
+    ensures shorter { Shortens result input.entry }
+    ensures reads { NextIsNotWord WordKind.Endlattice (placed input.entry) →
+        Leads result input.entry (lattice_lines ∷ []) (lattice_lines ∷ []) }
+    ensures halts { NextIsNotWord WordKind.Endlattice (placed input.entry) →
+        HaltsOn result input.entry (lattice_lines ∷ []) }
 {
     let Lines {
         mut points,
         mut pairs,
     } = lines;
-    match behind_word(WordKind::Point, tokens) {
+    match behind_word(WordKind::Point, input.rest) {
         Some(rest) => {
-            let (mut more, rest) = read_points(alloc, bytes, rest)?;
+            let (mut more, rest) = read_points(alloc, Input { rest, ..input })?;
             points.append(&mut more)?;
             Ok((Lines { points, pairs }, rest))
         }
         None => {
-            let (pair, rest) = read_pair(alloc, bytes, tokens)?;
+            let (pair, rest) = read_pair(alloc, input)?;
             pairs.push(pair)?;
             Ok((Lines { points, pairs }, rest))
         }
@@ -148,39 +141,39 @@ fn read_line<'a>(alloc: Global, bytes: &[u8], lines: Lines, tokens: &'a [Token])
 }
 
 // The lines of a lattice, and its last word.
-fn read_lines<'a>(alloc: Global, bytes: &[u8], tokens: &'a [Token]) -> Read<'a, Lines>
-    ensures is { GivesAs result bytes.now tokens.now (λ x.
+fn read_lines<'a>(alloc: Global, input: Input<'a>) -> Read<'a, Lines>
+    ensures is { GivesAs result input.entry (λ x.
         AreLines (map placed_name x.points.items) (map pair_tree x.pairs.items)) }
-    ensures shorter { Shortens result tokens.now }
-    ensures reads { Leads result bytes.now tokens.now (lattice_lines ∷ []) [] }
-    ensures halts { HaltsOn result bytes.now tokens.now (lattice_lines ∷ []) }
+    ensures shorter { Shortens result input.entry }
+    ensures reads { Leads result input.entry (lattice_lines ∷ []) [] }
+    ensures halts { HaltsOn result input.entry (lattice_lines ∷ []) }
 {
     let mut lines = Lines {
         points: Vec::new(alloc),
         pairs: Vec::new(alloc),
     };
-    let mut rest = tokens;
+    let mut rest = input.rest;
     loop {
         if let Some(after) = behind_word(WordKind::Endlattice, rest) {
             return Ok((lines, after));
         }
-        let (more, behind) = read_line(alloc, bytes, lines, rest)?;
+        let (more, behind) = read_line(alloc, Input { rest, ..input }, lines)?;
         lines = more;
         rest = behind;
     }
 }
 
 /// A lattice.
-pub fn read_lattice<'a>(alloc: Global, bytes: &[u8], tokens: &'a [Token]) -> Read<'a, LatticeText>
-    ensures is { Gives result bytes.now tokens.now lattice_tree IsLattice }
-    ensures shorter { Shortens result tokens.now }
-    ensures reads { IsNext WordKind.Lattice (placed_tokens bytes.now tokens.now) →
-        Leads result bytes.now tokens.now (perhaps_lattice ∷ []) [] }
-    ensures halts { IsNext WordKind.Lattice (placed_tokens bytes.now tokens.now) →
-        HaltsOn result bytes.now tokens.now (perhaps_lattice ∷ []) }
+pub fn read_lattice<'a>(alloc: Global, input: Input<'a>) -> Read<'a, LatticeText>
+    ensures is { Gives result input.entry lattice_tree IsLattice }
+    ensures shorter { Shortens result input.entry }
+    ensures reads { IsNext WordKind.Lattice (placed input.entry) →
+        Leads result input.entry (perhaps_lattice ∷ []) [] }
+    ensures halts { IsNext WordKind.Lattice (placed input.entry) →
+        HaltsOn result input.entry (perhaps_lattice ∷ []) }
 {
-    let (place, rest) = expect_word(WordKind::Lattice, tokens)?;
-    let (Lines { points, pairs }, rest) = read_lines(alloc, bytes, rest)?;
+    let (place, rest) = expect_word(WordKind::Lattice, input.rest)?;
+    let (Lines { points, pairs }, rest) = read_lines(alloc, Input { rest, ..input })?;
     let lattice = LatticeText {
         place,
         points,

@@ -13,7 +13,7 @@ use std::alloc::Global;
 use sv_ast::Text;
 use sv_num::Fault;
 use sv_parse_expr::faults::broken;
-use sv_parse_expr::stop::Stop;
+use sv_parse_expr::stop::{Input, Stop};
 use sv_token::Token;
 
 /// The text that the tokens of the bytes mean: the only one, of the shape that the grammar gives.
@@ -33,7 +33,11 @@ pub fn parse(alloc: Global, tokens: &[Token], bytes: &[u8]) -> Result<Text, Faul
     ensures refusal { IfErr result
         (IsRefusalOf (end_place bytes.now) (placed_tokens bytes.now tokens.now)) }
 {
-    match text(alloc, bytes, tokens) {
+    let input = Input {
+        bytes,
+        rest: tokens,
+    };
+    match text(alloc, input) {
         Ok(text) => Ok(text),
         Err(Stop::Broken(breach, left)) => {
             let fault = broken(alloc, bytes, tokens, breach, left)?;

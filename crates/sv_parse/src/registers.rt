@@ -1,6 +1,6 @@
 // Registers and memories (IEEE 1364-2005, clause 4; the forms of memories are this project's
 // profile).
-ghost use Rattle.std.specs.Prelude.{◌≡◌, ℕ, List, map, true, false, IfOk, [], ◌∷◌};
+ghost use Rattle.std.specs.Prelude.{◌≡◌, ◌<◌, ℕ, List, length, map, true, false, IfOk, [], ◌∷◌};
 ghost use Rattle.std.specs.Option.{option_map};
 ghost use Rattle.sv_token.specs.Lexemes.{placed_tokens, literal_of};
 ghost use Rattle.sv_token.specs.declared.signs.SignKind.TheVariants as signs;
@@ -20,8 +20,8 @@ ghost use Rattle.sv_parse_machine.specs.Symbols.{label_selector};
 ghost use Rattle.sv_parse_machine.specs.Symbols.{more_names, items};
 ghost use Rattle.sv_parse_machine.specs.Machine.{outside_on};
 ghost use Rattle.sv_parse_machine.specs.Reads.{Reads};
-ghost use Rattle.sv_parse_expr.specs.Parses.{Comes, GivesAs, Gives, Shortens, NoLonger, Leads};
-ghost use Rattle.sv_parse_expr.specs.Parses.{HaltsOn, TakesNoMemory};
+ghost use Rattle.sv_parse_expr.specs.Parses.{placed, in_text, Comes, GivesAs, Gives, Shortens};
+ghost use Rattle.sv_parse_expr.specs.Parses.{NoLonger, Leads, HaltsOn, TakesNoMemory};
 ghost use Rattle.sv_parse.specs.ReadingDeclarations.{memory_bounds, memory_end, behind_name};
 ghost use Rattle.sv_parse.specs.ReadingItems.{IsRegLabelEnd, IsOpenRegLabel, IsRegLabel};
 ghost use Rattle.sv_parse.specs.ReadingItems.{MayBeMemory, MayBeSignal, memory_label_of};
@@ -34,7 +34,7 @@ use sv_ast::{Decl, DeclKind, Item, LabelText, MemLabel, Memory, Span};
 use sv_num::{Name, Place};
 use sv_parse_expr::cursor::{behind, expect_sign, expect_word, read_name, read_number};
 use sv_parse_expr::lists::{one, read_list_from};
-use sv_parse_expr::stop::Read;
+use sv_parse_expr::stop::{Input, Read};
 use sv_token::{Lit, SignKind, Token, WordKind};
 
 // The label behind `reg` and its range: that of a register or of a memory, or of a memory alone.
@@ -49,25 +49,24 @@ enum RegLabel {
 // A label with a selector or an index, behind its map and the `(`.
 fn read_selected_label<'a>(
     alloc: Global,
-    bytes: &[u8],
+    input: Input<'a>,
     map: Name,
     place: Place,
-    tokens: &'a [Token],
 ) -> Read<'a, RegLabel>
-    ensures is { GivesAs result bytes.now tokens.now (IsRegLabelEnd map place) }
-    ensures shorter { Shortens result tokens.now }
+    ensures is { GivesAs result input.entry (IsRegLabelEnd map place) }
+    ensures shorter { Shortens result input.entry }
     ensures reads { IfOk result (λ x.
-        Comes (label_selector ∷ []) (plain_name ∷ behind_name x.0) bytes.now tokens.now x.1.now) }
-    ensures halts { HaltsOn result bytes.now tokens.now (label_selector ∷ []) }
+        Comes (label_selector ∷ []) (plain_name ∷ behind_name x.0) input.entry x.1.now) }
+    ensures halts { HaltsOn result input.entry (label_selector ∷ []) }
 {
-    match behind(SignKind::Hash, tokens) {
+    match behind(SignKind::Hash, input.rest) {
         Some(rest) => {
             let rest = expect_sign(SignKind::CloseParenthesis, rest)?;
             let rest = expect_sign(SignKind::CloseBrace, rest)?;
             Ok((RegLabel::ByIndex(map, place), rest))
         }
         None => {
-            let (label, rest) = read_table_label(alloc, bytes, map, place, tokens)?;
+            let (label, rest) = read_table_label(alloc, input, map, place)?;
             Ok((RegLabel::Table(label), rest))
         }
     }
@@ -77,17 +76,17 @@ fn read_selected_label<'a>(
 // symbols for labels of registers, which go on at a `#` and leave behind the `}` what the label
 // allows, a memory or registers or both. One function for both would promise each clause twice, and
 // what they share, a label with selectors, is `read_table_label`.
-fn read_open_reg_label<'a>(alloc: Global, bytes: &[u8], tokens: &'a [Token]) -> Read<'a, RegLabel>
-    ensures is { GivesAs result bytes.now tokens.now IsOpenRegLabel }
-    ensures shorter { Shortens result tokens.now }
+fn read_open_reg_label<'a>(alloc: Global, input: Input<'a>) -> Read<'a, RegLabel>
+    ensures is { GivesAs result input.entry IsOpenRegLabel }
+    ensures shorter { Shortens result input.entry }
     ensures reads { IfOk result (λ x.
         Comes (plain_name ∷ reg_label_end ∷ []) (plain_name ∷ behind_name x.0)
-        bytes.now tokens.now x.1.now) }
-    ensures halts { HaltsOn result bytes.now tokens.now (plain_name ∷ reg_label_end ∷ []) }
+        input.entry x.1.now) }
+    ensures halts { HaltsOn result input.entry (plain_name ∷ reg_label_end ∷ []) }
 {
-    let (name, place, rest) = read_name(alloc, bytes, tokens)?;
+    let (name, place, rest) = read_name(alloc, input)?;
     if let Some(rest) = behind(SignKind::OpenParenthesis, rest) {
-        let (label, rest) = read_selected_label(alloc, bytes, name, place, rest)?;
+        let (label, rest) = read_selected_label(alloc, Input { rest, ..input }, name, place)?;
         return Ok((label, rest));
     }
     let rest = expect_sign(SignKind::CloseBrace, rest)?;
@@ -95,19 +94,19 @@ fn read_open_reg_label<'a>(alloc: Global, bytes: &[u8], tokens: &'a [Token]) -> 
 }
 
 // A label, if one comes.
-fn read_reg_label<'a>(alloc: Global, bytes: &[u8], tokens: &'a [Token]) -> Read<'a, RegLabel>
-    ensures is { GivesAs result bytes.now tokens.now IsRegLabel }
-    ensures shorter { NoLonger result tokens.now }
+fn read_reg_label<'a>(alloc: Global, input: Input<'a>) -> Read<'a, RegLabel>
+    ensures is { GivesAs result input.entry IsRegLabel }
+    ensures shorter { NoLonger result input.entry }
     ensures reads { IfOk result (λ x.
-        Comes (reg_label ∷ []) (plain_name ∷ behind_name x.0) bytes.now tokens.now x.1.now) }
-    ensures halts { HaltsOn result bytes.now tokens.now (reg_label ∷ []) }
+        Comes (reg_label ∷ []) (plain_name ∷ behind_name x.0) input.entry x.1.now) }
+    ensures halts { HaltsOn result input.entry (reg_label ∷ []) }
 {
-    match behind(SignKind::OpenBrace, tokens) {
+    match behind(SignKind::OpenBrace, input.rest) {
         Some(rest) => {
-            let (label, rest) = read_open_reg_label(alloc, bytes, rest)?;
+            let (label, rest) = read_open_reg_label(alloc, Input { rest, ..input })?;
             Ok((label, rest))
         }
-        None => Ok((RegLabel::None, tokens)),
+        None => Ok((RegLabel::None, input.rest)),
     }
 }
 
@@ -119,20 +118,19 @@ struct RegType {
     label: RegLabel,
 }
 
-fn read_reg_type<'a>(alloc: Global, bytes: &[u8], tokens: &'a [Token]) -> Read<'a, RegType>
-    ensures is { GivesAs result bytes.now tokens.now (λ x.
+fn read_reg_type<'a>(alloc: Global, input: Input<'a>) -> Read<'a, RegType>
+    ensures is { GivesAs result input.entry (λ x.
         flag words.Signed x.signed ⨾ perhaps (IsRange all_limits) (option_map span_tree x.span)
         ⨾ IsRegLabel x.label) }
-    ensures shorter { NoLonger result tokens.now }
+    ensures shorter { NoLonger result input.entry }
     ensures reads { IfOk result (λ x.
         Comes (perhaps_signed ∷ perhaps_range ∷ reg_label ∷ []) (plain_name ∷ behind_name x.0.label)
-        bytes.now tokens.now x.1.now) }
-    ensures halts { HaltsOn result bytes.now tokens.now
-        (perhaps_signed ∷ perhaps_range ∷ reg_label ∷ []) }
+        input.entry x.1.now) }
+    ensures halts { HaltsOn result input.entry (perhaps_signed ∷ perhaps_range ∷ reg_label ∷ []) }
 {
-    let (signed, rest) = is_signed(tokens);
-    let (span, rest) = read_span(alloc, bytes, rest)?;
-    let (label, rest) = read_reg_label(alloc, bytes, rest)?;
+    let (signed, rest) = is_signed(input.rest);
+    let (span, rest) = read_span(alloc, Input { rest, ..input })?;
+    let (label, rest) = read_reg_label(alloc, Input { rest, ..input })?;
     let reg_type = RegType {
         signed,
         span,
@@ -184,11 +182,11 @@ fn signal_label(label: RegLabel) -> Option<LabelText>
 // The first and the last number of a memory's words, in brackets.
 fn read_bounds(tokens: &[Token]) -> Read<'_, (Lit, Lit)>
     ensures is { (bytes : List ℕ) →
-        GivesAs result bytes tokens.now (λ x.
+        GivesAs result (in_text bytes tokens.now) (λ x.
         in_brackets (a_number (literal_of x.0) ⨾ a_sign signs.Colon ⨾ a_number (literal_of x.1))) }
-    ensures shorter { Shortens result tokens.now }
-    ensures reads { (bytes : List ℕ) → Leads result bytes tokens.now memory_bounds [] }
-    ensures halts { (bytes : List ℕ) → HaltsOn result bytes tokens.now memory_bounds }
+    ensures shorter { IfOk result (λ x. length x.1.now < length tokens.now) }
+    ensures reads { (bytes : List ℕ) → Leads result (in_text bytes tokens.now) memory_bounds [] }
+    ensures halts { (bytes : List ℕ) → HaltsOn result (in_text bytes tokens.now) memory_bounds }
     ensures memory { TakesNoMemory result }
 {
     let rest = expect_sign(SignKind::OpenBracket, tokens)?;
@@ -202,12 +200,12 @@ fn read_bounds(tokens: &[Token]) -> Read<'_, (Lit, Lit)>
 // A memory, behind its name.
 fn read_memory(of: RegType, name: Name, place: Place, tokens: &[Token]) -> Read<'_, Memory>
     ensures is { (bytes : List ℕ) →
-        Gives result bytes tokens.now memory_tree
+        Gives result (in_text bytes tokens.now) memory_tree
         (IsMemoryAs of.signed (option_map span_tree of.span) (memory_label_of of.label)
         name place) }
-    ensures shorter { Shortens result tokens.now }
-    ensures reads { (bytes : List ℕ) → Leads result bytes tokens.now memory_bounds [] }
-    ensures halts { (bytes : List ℕ) → HaltsOn result bytes tokens.now memory_bounds }
+    ensures shorter { IfOk result (λ x. length x.1.now < length tokens.now) }
+    ensures reads { (bytes : List ℕ) → Leads result (in_text bytes tokens.now) memory_bounds [] }
+    ensures halts { (bytes : List ℕ) → HaltsOn result (in_text bytes tokens.now) memory_bounds }
     ensures memory { TakesNoMemory result }
 {
     let ((first, last), rest) = read_bounds(tokens)?;
@@ -257,26 +255,26 @@ fn first_register(of: RegType, name: Name, place: Place) -> Decl
 }
 
 /// The registers of an item that begins with `reg`, or its memory.
-pub fn read_registers<'a>(alloc: Global, bytes: &[u8], tokens: &'a [Token]) -> Read<'a, Vec<Item>>
-    ensures is { GivesAs result bytes.now tokens.now (λ x.
+pub fn read_registers<'a>(alloc: Global, input: Input<'a>) -> Read<'a, Vec<Item>>
+    ensures is { GivesAs result input.entry (λ x.
         all_as tree.declared (AreSignals all_limits) (map item_tree x.items)
         or all_as tree.memory_item (only (IsMemory all_limits)) (map item_tree x.items)) }
-    ensures shorter { Shortens result tokens.now }
-    ensures reads { IsNext words.Reg (placed_tokens bytes.now tokens.now) →
-        Leads result bytes.now tokens.now (items ∷ []) (punctuation signs.Semicolon ∷ items ∷ []) }
-    ensures halts { IsNext words.Reg (placed_tokens bytes.now tokens.now) →
-        HaltsOn result bytes.now tokens.now (items ∷ []) }
+    ensures shorter { Shortens result input.entry }
+    ensures reads { IsNext words.Reg (placed input.entry) →
+        Leads result input.entry (items ∷ []) (punctuation signs.Semicolon ∷ items ∷ []) }
+    ensures halts { IsNext words.Reg (placed input.entry) →
+        HaltsOn result input.entry (items ∷ []) }
 {
-    let (_place, rest) = expect_word(WordKind::Reg, tokens)?;
-    let (of, rest) = read_reg_type(alloc, bytes, rest)?;
-    let (name, place, rest) = read_name(alloc, bytes, rest)?;
+    let (_place, rest) = expect_word(WordKind::Reg, input.rest)?;
+    let (of, rest) = read_reg_type(alloc, Input { rest, ..input })?;
+    let (name, place, rest) = read_name(alloc, Input { rest, ..input })?;
     if is_memory(&of.label, rest) {
         let (memory, rest) = read_memory(of, name, place, rest)?;
         let items = one(alloc, Item::Memory(memory))?;
         return Ok((items, rest));
     }
     let first = first_register(of, name, place);
-    let (decls, rest) = read_list_from::<Registers>(alloc, bytes, 0, first, rest)?;
+    let (decls, rest) = read_list_from::<Registers>(alloc, Input { rest, ..input }, 0, first)?;
     let items = declared(alloc, decls)?;
     Ok((items, rest))
 }

@@ -11,8 +11,8 @@ ghost use Rattle.sv_ast.specs.GrammarRules.{all_limits};
 ghost use Rattle.sv_parse_machine.specs.Symbols.{plain_name, perhaps_signed, perhaps_range};
 ghost use Rattle.sv_parse_machine.specs.Symbols.{perhaps_label, perhaps_second_name, label_end};
 ghost use Rattle.sv_parse_machine.specs.ModuleTable.{value_range};
-ghost use Rattle.sv_parse_expr.specs.Parses.{Stands, Comes, GivesAs, Gives, Shortens, NoLonger};
-ghost use Rattle.sv_parse_expr.specs.Parses.{Leads, HaltsOn};
+ghost use Rattle.sv_parse_expr.specs.Parses.{in_text, Stands, Comes, GivesAs, Gives, Shortens};
+ghost use Rattle.sv_parse_expr.specs.Parses.{NoLonger, Leads, HaltsOn};
 ghost use Rattle.sv_parse.specs.ReadingDeclarations.{name_type, table_end};
 ghost use Rattle.sv_parse.specs.Reading.{IsTableEnd, IsOpenLabel, IsTypedAs};
 
@@ -20,17 +20,17 @@ use std::alloc::{AllocError, Global};
 use sv_ast::{LabelText, Span};
 use sv_num::{Name, Place};
 use sv_parse_expr::cursor::{behind, behind_word, expect_sign, read_name};
-use sv_parse_expr::stop::Read;
+use sv_parse_expr::stop::{Input, Read};
 use sv_parse_stmt::closed::read_closed;
 use sv_token::{SignKind, Token, WordKind};
 
 /// Whether `signed` comes, and the tokens behind it.
 pub fn is_signed(tokens: &[Token]) -> (bool, &[Token])
     ensures is { (bytes : List ℕ) →
-        Stands (flag words.Signed result.0) bytes tokens.now result.1.now }
+        Stands (flag words.Signed result.0) (in_text bytes tokens.now) result.1.now }
     ensures shorter { length result.1.now ≤ length tokens.now }
     ensures reads { (bytes : List ℕ) →
-        Comes (perhaps_signed ∷ []) [] bytes tokens.now result.1.now }
+        Comes (perhaps_signed ∷ []) [] (in_text bytes tokens.now) result.1.now }
 {
     match behind_word(WordKind::Signed, tokens) {
         Some(rest) => (true, rest),
@@ -39,87 +39,80 @@ pub fn is_signed(tokens: &[Token]) -> (bool, &[Token])
 }
 
 /// A range, behind its `[`.
-pub fn read_open_span<'a>(alloc: Global, bytes: &[u8], tokens: &'a [Token]) -> Read<'a, Span>
-    ensures is { GivesAs result bytes.now tokens.now (λ x.
+pub fn read_open_span<'a>(alloc: Global, input: Input<'a>) -> Read<'a, Span>
+    ensures is { GivesAs result input.entry (λ x.
         IsValue all_limits (span_tree x).high ⨾ a_sign signs.Colon
         ⨾ IsValue all_limits (span_tree x).low ⨾ a_sign signs.CloseBracket) }
-    ensures shorter { Shortens result tokens.now }
-    ensures reads { Leads result bytes.now tokens.now value_range [] }
-    ensures halts { HaltsOn result bytes.now tokens.now value_range }
+    ensures shorter { Shortens result input.entry }
+    ensures reads { Leads result input.entry value_range [] }
+    ensures halts { HaltsOn result input.entry value_range }
 {
-    let (high, rest) = read_closed(alloc, bytes, 0, SignKind::Colon, tokens)?;
-    let (low, rest) = read_closed(alloc, bytes, 0, SignKind::CloseBracket, rest)?;
+    let (high, rest) = read_closed(alloc, input, 0, SignKind::Colon)?;
+    let (low, rest) = read_closed(alloc, Input { rest, ..input }, 0, SignKind::CloseBracket)?;
     Ok((Span { high, low }, rest))
 }
 
 /// A range, if one comes.
-pub fn read_span<'a>(alloc: Global, bytes: &[u8], tokens: &'a [Token]) -> Read<'a, Option<Span>>
-    ensures is { Gives result bytes.now tokens.now (option_map span_tree)
-        (perhaps (IsRange all_limits)) }
-    ensures shorter { NoLonger result tokens.now }
-    ensures reads { Leads result bytes.now tokens.now (perhaps_range ∷ []) [] }
-    ensures halts { HaltsOn result bytes.now tokens.now (perhaps_range ∷ []) }
+pub fn read_span<'a>(alloc: Global, input: Input<'a>) -> Read<'a, Option<Span>>
+    ensures is { Gives result input.entry (option_map span_tree) (perhaps (IsRange all_limits)) }
+    ensures shorter { NoLonger result input.entry }
+    ensures reads { Leads result input.entry (perhaps_range ∷ []) [] }
+    ensures halts { HaltsOn result input.entry (perhaps_range ∷ []) }
 {
-    match behind(SignKind::OpenBracket, tokens) {
+    match behind(SignKind::OpenBracket, input.rest) {
         Some(rest) => {
-            let (span, rest) = read_open_span(alloc, bytes, rest)?;
+            let (span, rest) = read_open_span(alloc, Input { rest, ..input })?;
             Ok((Some(span), rest))
         }
-        None => Ok((None, tokens)),
+        None => Ok((None, input.rest)),
     }
 }
 
 // The second selector of a label, if one comes.
-fn read_second_selector<'a>(
-    alloc: Global,
-    bytes: &[u8],
-    tokens: &'a [Token],
-) -> Read<'a, Option<Name>>
-    ensures is { GivesAs result bytes.now tokens.now
-        (perhaps (λ x. a_sign signs.Comma ⨾ a_name x)) }
-    ensures shorter { NoLonger result tokens.now }
-    ensures reads { Leads result bytes.now tokens.now (perhaps_second_name ∷ []) [] }
-    ensures halts { HaltsOn result bytes.now tokens.now (perhaps_second_name ∷ []) }
+fn read_second_selector<'a>(alloc: Global, input: Input<'a>) -> Read<'a, Option<Name>>
+    ensures is { GivesAs result input.entry (perhaps (λ x. a_sign signs.Comma ⨾ a_name x)) }
+    ensures shorter { NoLonger result input.entry }
+    ensures reads { Leads result input.entry (perhaps_second_name ∷ []) [] }
+    ensures halts { HaltsOn result input.entry (perhaps_second_name ∷ []) }
 {
-    match behind(SignKind::Comma, tokens) {
+    match behind(SignKind::Comma, input.rest) {
         Some(rest) => {
-            let (name, _at, rest) = read_name(alloc, bytes, rest)?;
+            let (name, _at, rest) = read_name(alloc, Input { rest, ..input })?;
             Ok((Some(name), rest))
         }
-        None => Ok((None, tokens)),
+        None => Ok((None, input.rest)),
     }
 }
 
 /// A label with selectors, behind its map and the `(`.
 pub fn read_table_label<'a>(
     alloc: Global,
-    bytes: &[u8],
+    input: Input<'a>,
     map: Name,
     place: Place,
-    tokens: &'a [Token],
 ) -> Read<'a, LabelText>
-    ensures is { Gives result bytes.now tokens.now label_tree (IsTableEnd map place) }
-    ensures shorter { Shortens result tokens.now }
-    ensures reads { Leads result bytes.now tokens.now table_end [] }
-    ensures halts { HaltsOn result bytes.now tokens.now table_end }
+    ensures is { Gives result input.entry label_tree (IsTableEnd map place) }
+    ensures shorter { Shortens result input.entry }
+    ensures reads { Leads result input.entry table_end [] }
+    ensures halts { HaltsOn result input.entry table_end }
 {
-    let (first, _at, rest) = read_name(alloc, bytes, tokens)?;
-    let (second, rest) = read_second_selector(alloc, bytes, rest)?;
+    let (first, _at, rest) = read_name(alloc, input)?;
+    let (second, rest) = read_second_selector(alloc, Input { rest, ..input })?;
     let rest = expect_sign(SignKind::CloseParenthesis, rest)?;
     let rest = expect_sign(SignKind::CloseBrace, rest)?;
     Ok((LabelText::Table(map, first, second, place), rest))
 }
 
 // A label, behind its brace.
-fn read_open_label<'a>(alloc: Global, bytes: &[u8], tokens: &'a [Token]) -> Read<'a, LabelText>
-    ensures is { Gives result bytes.now tokens.now label_tree IsOpenLabel }
-    ensures shorter { Shortens result tokens.now }
-    ensures reads { Leads result bytes.now tokens.now (plain_name ∷ label_end ∷ []) [] }
-    ensures halts { HaltsOn result bytes.now tokens.now (plain_name ∷ label_end ∷ []) }
+fn read_open_label<'a>(alloc: Global, input: Input<'a>) -> Read<'a, LabelText>
+    ensures is { Gives result input.entry label_tree IsOpenLabel }
+    ensures shorter { Shortens result input.entry }
+    ensures reads { Leads result input.entry (plain_name ∷ label_end ∷ []) [] }
+    ensures halts { HaltsOn result input.entry (plain_name ∷ label_end ∷ []) }
 {
-    let (name, place, rest) = read_name(alloc, bytes, tokens)?;
+    let (name, place, rest) = read_name(alloc, input)?;
     if let Some(rest) = behind(SignKind::OpenParenthesis, rest) {
-        let (label, rest) = read_table_label(alloc, bytes, name, place, rest)?;
+        let (label, rest) = read_table_label(alloc, Input { rest, ..input }, name, place)?;
         return Ok((label, rest));
     }
     let rest = expect_sign(SignKind::CloseBrace, rest)?;
@@ -127,22 +120,18 @@ fn read_open_label<'a>(alloc: Global, bytes: &[u8], tokens: &'a [Token]) -> Read
 }
 
 /// A label, if one comes.
-pub fn read_label<'a>(
-    alloc: Global,
-    bytes: &[u8],
-    tokens: &'a [Token],
-) -> Read<'a, Option<LabelText>>
-    ensures is { Gives result bytes.now tokens.now (option_map label_tree) (perhaps IsLabel) }
-    ensures shorter { NoLonger result tokens.now }
-    ensures reads { Leads result bytes.now tokens.now (perhaps_label ∷ []) [] }
-    ensures halts { HaltsOn result bytes.now tokens.now (perhaps_label ∷ []) }
+pub fn read_label<'a>(alloc: Global, input: Input<'a>) -> Read<'a, Option<LabelText>>
+    ensures is { Gives result input.entry (option_map label_tree) (perhaps IsLabel) }
+    ensures shorter { NoLonger result input.entry }
+    ensures reads { Leads result input.entry (perhaps_label ∷ []) [] }
+    ensures halts { HaltsOn result input.entry (perhaps_label ∷ []) }
 {
-    match behind(SignKind::OpenBrace, tokens) {
+    match behind(SignKind::OpenBrace, input.rest) {
         Some(rest) => {
-            let (label, rest) = read_open_label(alloc, bytes, rest)?;
+            let (label, rest) = read_open_label(alloc, Input { rest, ..input })?;
             Ok((Some(label), rest))
         }
-        None => Ok((None, tokens)),
+        None => Ok((None, input.rest)),
     }
 }
 
@@ -155,20 +144,16 @@ pub struct SignalType {
 }
 
 /// The type of a declaration.
-pub fn read_signal_type<'a>(
-    alloc: Global,
-    bytes: &[u8],
-    tokens: &'a [Token],
-) -> Read<'a, SignalType>
-    ensures is { GivesAs result bytes.now tokens.now (λ x.
+pub fn read_signal_type<'a>(alloc: Global, input: Input<'a>) -> Read<'a, SignalType>
+    ensures is { GivesAs result input.entry (λ x.
         IsTypedAs x.signed (option_map span_tree x.span) (option_map label_tree x.label)) }
-    ensures shorter { NoLonger result tokens.now }
-    ensures reads { Leads result bytes.now tokens.now name_type [] }
-    ensures halts { HaltsOn result bytes.now tokens.now name_type }
+    ensures shorter { NoLonger result input.entry }
+    ensures reads { Leads result input.entry name_type [] }
+    ensures halts { HaltsOn result input.entry name_type }
 {
-    let (signed, rest) = is_signed(tokens);
-    let (span, rest) = read_span(alloc, bytes, rest)?;
-    let (label, rest) = read_label(alloc, bytes, rest)?;
+    let (signed, rest) = is_signed(input.rest);
+    let (span, rest) = read_span(alloc, Input { rest, ..input })?;
+    let (label, rest) = read_label(alloc, Input { rest, ..input })?;
     let signal_type = SignalType {
         signed,
         span,

@@ -5,7 +5,7 @@ use Rattle.sv_parse.proofs.declarations.read_wire_name.Goals as goal
 
 pub returns-clause-is : goal.returns-clause-is
 returns-clause-is c = (
-  placed_tokens c.args.bytes.now c.in_ok-name.rest.now,
+  placed_tokens c.args.input.bytes.now c.in_ok-name.rest.now,
   c.in_ok-name.ensures.is,
   c.in_ok-value.ensures.is,
 )

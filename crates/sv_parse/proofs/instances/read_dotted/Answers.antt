@@ -6,36 +6,36 @@ use Rattle.sv_parse.proofs.instances.read_dotted.Goals as goal
 
 pub returns-clause-is : goal.returns-clause-is
 returns-clause-is c = (
-  (placed_tokens c.args.bytes.now c.in_ok-rest.rest.now),
+  (placed_tokens c.args.input.bytes.now c.in_ok-rest.rest.now),
   c.in_ok-rest.ensures.is
-      c.args.bytes.now,
+      c.args.input.bytes.now,
   (
-    (placed_tokens c.args.bytes.now c.in_ok-name.rest.now),
+    (placed_tokens c.args.input.bytes.now c.in_ok-name.rest.now),
     c.in_ok-name.ensures.is,
-    c.in_ok-rest-2.ensures.is c.args.bytes.now,
+    c.in_ok-rest-2.ensures.is c.args.input.bytes.now,
   ),
 )
 
 pub returns-in_err-rest-clause-halts : goal.returns-in_err-rest-clause-halts
 returns-in_err-rest-clause-halts c =
     passed _ _ _ c.from_residual.ensures.1
-    (front_stop _ _ _ _ (c.in_err-rest.ensures.halts c.args.bytes.now))
+    (front_stop _ _ _ _ (c.in_err-rest.ensures.halts c.args.input.bytes.now))
 
 pub returns-in_err-name-clause-halts : goal.returns-in_err-name-clause-halts
 returns-in_err-name-clause-halts c =
     passed _ _ _ c.from_residual-in_err-name.ensures.1
-    (and_stop _ _ _ _ _ (c.in_ok-rest.ensures.reads c.args.bytes.now refl)
+    (and_stop _ _ _ _ _ (c.in_ok-rest.ensures.reads c.args.input.bytes.now refl)
     (front_stop _ _ _ _ c.in_err-name.ensures.halts))
 
 pub returns-in_err-rest-2-clause-halts : goal.returns-in_err-rest-2-clause-halts
 returns-in_err-rest-2-clause-halts c =
     passed _ _ _ c.from_residual-in_err-rest-2.ensures.1
-    (and_stop _ _ _ _ _ (c.in_ok-rest.ensures.reads c.args.bytes.now refl)
+    (and_stop _ _ _ _ _ (c.in_ok-rest.ensures.reads c.args.input.bytes.now refl)
     (and_stop _ _ _ _ _ c.in_ok-name.ensures.reads
-    (c.in_err-rest-2.ensures.halts c.args.bytes.now)))
+    (c.in_err-rest-2.ensures.halts c.args.input.bytes.now)))
 
 pub returns-clause-reads : goal.returns-clause-reads
 returns-clause-reads c =
-    and_read _ _ _ _ _ _ (c.in_ok-rest.ensures.reads c.args.bytes.now refl)
+    and_read _ _ _ _ _ _ (c.in_ok-rest.ensures.reads c.args.input.bytes.now refl)
     (and_read _ _ _ _ _ _ c.in_ok-name.ensures.reads
-    (c.in_ok-rest-2.ensures.reads c.args.bytes.now refl))
+    (c.in_ok-rest-2.ensures.reads c.args.input.bytes.now refl))

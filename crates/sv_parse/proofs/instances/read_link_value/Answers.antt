@@ -1,5 +1,5 @@
 use Rattle.std.proofs.Common.{refl, [], ◌∷◌}
-use Rattle.sv_token.specs.Lexemes.{placed_tokens}
+use Rattle.sv_parse_expr.specs.Parses.{placed}
 use Rattle.sv_parse_machine.specs.Symbols.{outer, punctuation, expression, link}
 use Rattle.sv_parse_machine.proofs.ReadSteps.{reads_then}
 use Rattle.sv_parse_machine.proofs.ReadRows.{sign_taken}
@@ -11,9 +11,9 @@ use Rattle.sv_parse.proofs.instances.read_link_value.Goals as goal
 
 pub returns-in-Some-clause-is : goal.returns-in-Some-clause-is
 returns-in-Some-clause-is c = (
-  (placed_tokens c.args.bytes.now c.args.tokens.now),
+  (placed c.args.input),
   refl,
-  (c.in-Some.ensures.is c.args.bytes.now),
+  (c.in-Some.ensures.is c.args.input.bytes.now),
 )
 
 pub returns-clause-is : goal.returns-clause-is
@@ -21,7 +21,8 @@ returns-clause-is c = c.in_ok-value.ensures.is
 
 pub returns-in-Some-clause-reads : goal.returns-in-Some-clause-reads
 returns-in-Some-clause-reads c =
-    (sign_taken link signs.CloseParenthesis [] _ _ refl (c.in-Some.ensures.is c.args.bytes.now))
+    (sign_taken link signs.CloseParenthesis [] _ _ refl
+    (c.in-Some.ensures.is c.args.input.bytes.now))
 
 pub returns-in_err-value-clause-halts : goal.returns-in_err-value-clause-halts
 returns-in_err-value-clause-halts c =
@@ -29,7 +30,7 @@ returns-in_err-value-clause-halts c =
     (stops_then (outer link ∷ [])
     (outer (expression 0) ∷ outer (punctuation signs.CloseParenthesis) ∷ []) _ _ _
     (as_expression (outer link ∷ []) 0 (punctuation signs.CloseParenthesis ∷ []) _
-    (begins_link _ (c.in_default.ensures.none c.args.bytes.now)))
+    (begins_link _ (c.in_default.ensures.none c.args.input.bytes.now)))
     c.in_err-value.ensures.halts)
 
 pub returns-clause-reads : goal.returns-clause-reads
@@ -37,5 +38,5 @@ returns-clause-reads c =
     reads_then (outer link ∷ [])
     (outer (expression 0) ∷ outer (punctuation signs.CloseParenthesis) ∷ []) [] _ _ _
     (as_expression (outer link ∷ []) 0 (punctuation signs.CloseParenthesis ∷ []) _
-    (begins_link _ (c.in_default.ensures.none c.args.bytes.now)))
+    (begins_link _ (c.in_default.ensures.none c.args.input.bytes.now)))
     (c.in_ok-value.ensures.reads refl)

@@ -8,12 +8,12 @@ pub returns-clause-is : goal.returns-clause-is
 returns-clause-is c = (
   (refl, refl, refl),
   (
-    (placed_tokens c.args.bytes.now c.in_ok-name.rest.now),
+    (placed_tokens c.args.input.bytes.now c.in_ok-name.rest.now),
     c.in_ok-name.ensures.is,
     (
-      (placed_tokens c.args.bytes.now c.in_ok-rest.rest.now),
+      (placed_tokens c.args.input.bytes.now c.in_ok-rest.rest.now),
       c.in_ok-rest.ensures.is
-          c.args.bytes.now,
+          c.args.input.bytes.now,
       c.in_ok-links.ensures.is,
     ),
   ),
@@ -27,17 +27,17 @@ pub returns-in_err-rest-clause-halts : goal.returns-in_err-rest-clause-halts
 returns-in_err-rest-clause-halts c =
     passed _ _ _ c.from_residual-in_err-rest.ensures.1
     (and_stop _ _ _ _ _ c.in_ok-name.ensures.reads
-    (front_stop _ _ _ _ (c.in_err-rest.ensures.halts c.args.bytes.now)))
+    (front_stop _ _ _ _ (c.in_err-rest.ensures.halts c.args.input.bytes.now)))
 
 pub returns-in_err-links-clause-halts : goal.returns-in_err-links-clause-halts
 returns-in_err-links-clause-halts c =
     passed _ _ _ c.from_residual-in_err-links.ensures.1
     (and_stop _ _ _ _ _ c.in_ok-name.ensures.reads
-    (and_stop _ _ _ _ _ (c.in_ok-rest.ensures.reads c.args.bytes.now refl)
+    (and_stop _ _ _ _ _ (c.in_ok-rest.ensures.reads c.args.input.bytes.now refl)
     c.in_err-links.ensures.halts))
 
 pub returns-clause-reads : goal.returns-clause-reads
 returns-clause-reads c =
     and_read _ _ _ _ _ _ c.in_ok-name.ensures.reads
-    (and_read _ _ _ _ _ _ (c.in_ok-rest.ensures.reads c.args.bytes.now refl)
+    (and_read _ _ _ _ _ _ (c.in_ok-rest.ensures.reads c.args.input.bytes.now refl)
     c.in_ok-links.ensures.reads)

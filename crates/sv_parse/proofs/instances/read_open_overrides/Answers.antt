@@ -21,7 +21,7 @@ returns-in_err-values-in-Some-clause-halts c =
     (begins_with_sign overrides signs.Dot
     (plain_name ∷ (punctuation signs.OpenParenthesis) ∷ (expression 0) ∷
     (punctuation signs.CloseParenthesis) ∷ more_named_overrides ∷ []) _ _ refl refl
-    (c.in-Some.ensures.is c.args.bytes.now))
+    (c.in-Some.ensures.is c.args.input.bytes.now))
     (c.in_err-values-in-Some.ensures.halts (outer more_named_overrides ∷ [])
     (outer more_named_overrides ∷ []) goes_on_overrides refl tt))
 
@@ -35,7 +35,7 @@ returns-in_ok-values-in-Some-clause-reads c =
     (begins_with_sign overrides signs.Dot
     (plain_name ∷ (punctuation signs.OpenParenthesis) ∷ (expression 0) ∷
     (punctuation signs.CloseParenthesis) ∷ more_named_overrides ∷ []) _ _ refl refl
-    (c.in-Some.ensures.is c.args.bytes.now))
+    (c.in-Some.ensures.is c.args.input.bytes.now))
     (reads_then (outer (punctuation signs.Dot) ∷ outer plain_name ∷
     outer (punctuation signs.OpenParenthesis) ∷ outer (expression 0) ∷
     outer (punctuation signs.CloseParenthesis) ∷
@@ -50,7 +50,7 @@ returns-in_err-values-in-None-clause-halts c =
     passed _ _ _ c.from_residual-in_err-values-in-None.ensures.1
     (stops_then (outer overrides ∷ []) (outer (expression 0) ∷ outer more_values ∷ []) _ _ _
     (as_expression (outer overrides ∷ []) 0 (more_values ∷ []) _
-    (begins_overrides _ (c.in-None.ensures.none c.args.bytes.now)))
+    (begins_overrides _ (c.in-None.ensures.none c.args.input.bytes.now)))
     (c.in_err-values-in-None.ensures.halts (outer more_values ∷ []) (outer more_values ∷ [])
     goes_on_values refl tt))
 
@@ -59,7 +59,7 @@ returns-in_ok-values-in-None-clause-reads c =
     (reads_then (outer overrides ∷ []) (outer (expression 0) ∷ outer more_values ∷ [])
     (outer (punctuation signs.CloseParenthesis) ∷ []) _ _ _
     (as_expression (outer overrides ∷ []) 0 (more_values ∷ []) _
-    (begins_overrides _ (c.in-None.ensures.none c.args.bytes.now)))
+    (begins_overrides _ (c.in-None.ensures.none c.args.input.bytes.now)))
     (reads_then (outer (expression 0) ∷ outer more_values ∷ []) (outer more_values ∷ [])
     (outer (punctuation signs.CloseParenthesis) ∷ []) _ _ _
     (c.in_ok-values-in-None.ensures.reads (outer more_values ∷ []) (outer more_values ∷ [])

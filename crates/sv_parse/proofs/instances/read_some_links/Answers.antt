@@ -1,6 +1,7 @@
 use Rattle.sv_ast.specs.Views.{expression_trees}
 use Rattle.sv_parse.proofs.ReadingInstances.{ordered_links_are}
 use Rattle.sv_token.specs.Lexemes.{placed_tokens}
+use Rattle.sv_parse_expr.specs.Parses.{placed}
 use Rattle.std.proofs.Common.{[], ◌∷◌, refl}
 use Rattle.sv_parse_machine.specs.Symbols.{outer, punctuation, plain_name, expression, more_values, links}
 use Rattle.sv_parse_machine.specs.Symbols.{link, more_named_links}
@@ -16,8 +17,8 @@ use Rattle.sv_parse.proofs.instances.read_some_links.Goals as goal
 pub returns-in_ok-links-in-None-clause-is : goal.returns-in_ok-links-in-None-clause-is
 returns-in_ok-links-in-None-clause-is c =
     ordered_links_are (expression_trees c.in_ok-links-in-None.links.items)
-    (placed_tokens c.args.bytes.now c.args.tokens.now)
-    (placed_tokens c.args.bytes.now c.in_ok-links-in-None.rest.now)
+    (placed c.args.input)
+    (placed_tokens c.args.input.bytes.now c.in_ok-links-in-None.rest.now)
     c.in_ok-links-in-None.ensures.is
 
 pub returns-in_err-links-in-Some-clause-halts : goal.returns-in_err-links-in-Some-clause-halts
@@ -29,7 +30,7 @@ returns-in_err-links-in-Some-clause-halts c = λ no_close.
     outer more_named_links ∷ []) _ _ _
     (begins_with_sign links signs.Dot
     (plain_name ∷ (punctuation signs.OpenParenthesis) ∷ link ∷ more_named_links ∷ []) _ _ refl
-    refl (c.in-Some.ensures.is c.args.bytes.now))
+    refl (c.in-Some.ensures.is c.args.input.bytes.now))
     (c.in_err-links-in-Some.ensures.halts (outer more_named_links ∷ [])
     (outer more_named_links ∷ []) goes_on_links refl tt))
 
@@ -41,7 +42,7 @@ returns-in_ok-links-in-Some-clause-reads c = λ no_close.
     outer more_named_links ∷ []) (outer (punctuation signs.CloseParenthesis) ∷ []) _ _ _
     (begins_with_sign links signs.Dot
     (plain_name ∷ (punctuation signs.OpenParenthesis) ∷ link ∷ more_named_links ∷ []) _ _ refl
-    refl (c.in-Some.ensures.is c.args.bytes.now))
+    refl (c.in-Some.ensures.is c.args.input.bytes.now))
     (reads_then (outer (punctuation signs.Dot) ∷ outer plain_name ∷
     outer (punctuation signs.OpenParenthesis) ∷ outer link ∷
     outer more_named_links ∷ []) (outer more_named_links ∷ [])
@@ -55,7 +56,7 @@ returns-in_err-links-in-None-clause-halts c = λ no_close.
     passed _ _ _ c.from_residual-in_err-links-in-None.ensures.1
     (stops_then (outer links ∷ []) (outer (expression 0) ∷ outer more_values ∷ []) _ _ _
     (as_expression (outer links ∷ []) 0 (more_values ∷ []) _
-    (begins_links _ no_close (c.in-None.ensures.none c.args.bytes.now)))
+    (begins_links _ no_close (c.in-None.ensures.none c.args.input.bytes.now)))
     (c.in_err-links-in-None.ensures.halts (outer more_values ∷ []) (outer more_values ∷ [])
     goes_on_values refl tt))
 
@@ -64,7 +65,7 @@ returns-in_ok-links-in-None-clause-reads c = λ no_close.
     (reads_then (outer links ∷ []) (outer (expression 0) ∷ outer more_values ∷ [])
     (outer (punctuation signs.CloseParenthesis) ∷ []) _ _ _
     (as_expression (outer links ∷ []) 0 (more_values ∷ []) _
-    (begins_links _ no_close (c.in-None.ensures.none c.args.bytes.now)))
+    (begins_links _ no_close (c.in-None.ensures.none c.args.input.bytes.now)))
     (reads_then (outer (expression 0) ∷ outer more_values ∷ []) (outer more_values ∷ [])
     (outer (punctuation signs.CloseParenthesis) ∷ []) _ _ _
     (c.in_ok-links-in-None.ensures.reads (outer more_values ∷ []) (outer more_values ∷ [])

@@ -18,8 +18,8 @@ returns-clause-is c =
     one_is _ _ item_tree (IsInvariant all_limits) _ _ _ _ c.in_ok-one.ensures (
       c.place_of.ensures,
       (
-        (placed_tokens c.args.bytes.now c.in_ok-_place.rest.now),
-        (c.in_ok-_place._place, c.in_ok-_place.ensures.is c.args.bytes.now),
+        (placed_tokens c.args.input.bytes.now c.in_ok-_place.rest.now),
+        (c.in_ok-_place._place, c.in_ok-_place.ensures.is c.args.input.bytes.now),
         c.in_ok-expr.ensures.is,
       ),
     )
@@ -27,7 +27,8 @@ returns-clause-is c =
 pub returns-in_err-_place-clause-halts : goal.returns-in_err-_place-clause-halts
 returns-in_err-_place-clause-halts c = λ is.
     passed _ _ _ c.from_residual.ensures.1
-    (word_was_next _ words.Invariant _ _ _ is (c.in_err-_place.ensures.stops c.args.bytes.now))
+    (word_was_next _ words.Invariant _ _ _ is
+    (c.in_err-_place.ensures.stops c.args.input.bytes.now))
 
 pub returns-in_err-expr-clause-halts : goal.returns-in_err-expr-clause-halts
 returns-in_err-expr-clause-halts c = λ is.
@@ -36,7 +37,7 @@ returns-in_err-expr-clause-halts c = λ is.
     (outer (expression 0) ∷ outer (punctuation signs.Semicolon) ∷ outer items ∷ []) _ _ _
     (word_taken items words.Invariant
     ((expression 0) ∷ (punctuation signs.Semicolon) ∷ items ∷ []) _ _ refl
-    (c.in_ok-_place._place, c.in_ok-_place.ensures.is c.args.bytes.now))
+    (c.in_ok-_place._place, c.in_ok-_place.ensures.is c.args.input.bytes.now))
     (stops_before (outer (expression 0) ∷ [])
     (outer (punctuation signs.Semicolon) ∷ outer items ∷ []) _ _ c.in_err-expr.ensures.halts))
 
@@ -47,6 +48,6 @@ returns-clause-reads c = λ is.
     (outer (punctuation signs.Semicolon) ∷ outer items ∷ []) _ _ _
     (word_taken items words.Invariant
     ((expression 0) ∷ (punctuation signs.Semicolon) ∷ items ∷ []) _ _ refl
-    (c.in_ok-_place._place, c.in_ok-_place.ensures.is c.args.bytes.now))
+    (c.in_ok-_place._place, c.in_ok-_place.ensures.is c.args.input.bytes.now))
     (reads_before (outer (expression 0) ∷ []) []
     (outer (punctuation signs.Semicolon) ∷ outer items ∷ []) _ _ c.in_ok-expr.ensures.reads))

@@ -16,33 +16,33 @@ pub returns-in_err-item-in-Some-clause-halts : goal.returns-in_err-item-in-Some-
 returns-in_err-item-in-Some-clause-halts c = λ no_end.
     passed _ _ _ c.from_residual.ensures.1
     (c.in_err-item-in-Some.ensures.halts
-    (word_is_next words.Always _ _ (c.in-Some.ensures.is c.args.bytes.now)))
+    (word_is_next words.Always _ _ (c.in-Some.ensures.is c.args.input.bytes.now)))
 
 pub returns-in_ok-items-in-Some-clause-reads : goal.returns-in_ok-items-in-Some-clause-reads
 returns-in_ok-items-in-Some-clause-reads c = λ no_end.
     (c.in_ok-item-in-Some.ensures.reads
-    (word_is_next words.Always _ _ (c.in-Some.ensures.is c.args.bytes.now)))
+    (word_is_next words.Always _ _ (c.in-Some.ensures.is c.args.input.bytes.now)))
 
 pub returns-in_err-items-in-None-clause-halts : goal.returns-in_err-items-in-None-clause-halts
 returns-in_err-items-in-None-clause-halts c = λ no_end.
     passed _ _ _ c.from_residual-in_err-items-in-None.ensures.1
-    (c.in_err-items-in-None.ensures.halts (c.in-None.ensures.none c.args.bytes.now) no_end)
+    (c.in_err-items-in-None.ensures.halts (c.in-None.ensures.none c.args.input.bytes.now) no_end)
 
 pub returns-in_err-rest-in-None-clause-halts : goal.returns-in_err-rest-in-None-clause-halts
 returns-in_err-rest-in-None-clause-halts c = λ no_end.
     passed _ _ _ c.from_residual-in_err-rest-in-None.ensures.1
     (stops_then (outer items ∷ []) (outer (punctuation signs.Semicolon) ∷ outer items ∷ []) _ _ _
-    (c.in_ok-items-in-None.ensures.reads (c.in-None.ensures.none c.args.bytes.now) no_end)
+    (c.in_ok-items-in-None.ensures.reads (c.in-None.ensures.none c.args.input.bytes.now) no_end)
     (stops_before (outer (punctuation signs.Semicolon) ∷ []) (outer items ∷ []) _ _
-    (c.in_err-rest-in-None.ensures.halts c.args.bytes.now)))
+    (c.in_err-rest-in-None.ensures.halts c.args.input.bytes.now)))
 
 pub returns-in_ok-rest-in-None-clause-reads : goal.returns-in_ok-rest-in-None-clause-reads
 returns-in_ok-rest-in-None-clause-reads c = λ no_end.
     (reads_then (outer items ∷ []) (outer (punctuation signs.Semicolon) ∷ outer items ∷ [])
     (outer items ∷ []) _ _ _
-    (c.in_ok-items-in-None.ensures.reads (c.in-None.ensures.none c.args.bytes.now) no_end)
+    (c.in_ok-items-in-None.ensures.reads (c.in-None.ensures.none c.args.input.bytes.now) no_end)
     (reads_before (outer (punctuation signs.Semicolon) ∷ []) [] (outer items ∷ []) _ _
-    (c.in_ok-rest-in-None.ensures.reads c.args.bytes.now refl)))
+    (c.in_ok-rest-in-None.ensures.reads c.args.input.bytes.now refl)))
 
 pub returns-in_ok-items-in-Some-clause-is : goal.returns-in_ok-items-in-Some-clause-is
 returns-in_ok-items-in-Some-clause-is c =
@@ -53,4 +53,4 @@ returns-in_ok-items-in-Some-clause-is c =
 pub returns-in_ok-rest-in-None-clause-is : goal.returns-in_ok-rest-in-None-clause-is
 returns-in_ok-rest-in-None-clause-is c =
     listed_item_is _ _ _ _ c.in_ok-items-in-None.ensures.is
-    (c.in_ok-rest-in-None.ensures.is c.args.bytes.now)
+    (c.in_ok-rest-in-None.ensures.is c.args.input.bytes.now)

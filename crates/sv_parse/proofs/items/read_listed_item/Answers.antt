@@ -2,6 +2,7 @@ use Rattle.std.proofs.Common.{List, map, inl, inr}
 use Rattle.std.specs.Prelude.{Result, IfOk}
 use Rattle.std.proofs.lemmas.Result.{IfOk-weaker}
 use Rattle.sv_token.specs.Lexemes.{Placed, placed_tokens}
+use Rattle.sv_parse_expr.specs.Parses.{placed}
 use Rattle.sv_ast.specs.Tree as tree
 use Rattle.sv_ast.specs.Tree.{ItemTree}
 use Rattle.sv_ast.specs.Views.{item_tree}
@@ -45,39 +46,39 @@ of_assigned ts is rest (inr released) = inr (inr (inr (inr (inl released))))
 pub returns-in-Word-Parameter-clause-is : goal.returns-in-Word-Parameter-clause-is
 returns-in-Word-Parameter-clause-is c =
     listed_as c.read_params.result (λ x. map item_tree x.0.items)
-    (λ x. placed_tokens c.args.bytes.now x.1.now) (placed_tokens c.args.bytes.now c.args.tokens.now)
+    (λ x. placed_tokens c.args.input.bytes.now x.1.now) (placed c.args.input)
     (all_as tree.parameter_item (AreParameters all_limits)) (λ is rest h. inl h)
     c.read_params.ensures.is
 
 pub returns-in-Word-Wire-clause-is : goal.returns-in-Word-Wire-clause-is
 returns-in-Word-Wire-clause-is c =
     listed_as c.read_wires.result (λ x. map item_tree x.0.items)
-    (λ x. placed_tokens c.args.bytes.now x.1.now) (placed_tokens c.args.bytes.now c.args.tokens.now)
+    (λ x. placed_tokens c.args.input.bytes.now x.1.now) (placed c.args.input)
     (all_as tree.declared (AreSignals all_limits)) (λ is rest h. inr (inl h))
     c.read_wires.ensures.is
 
 pub returns-in-Word-Reg-clause-is : goal.returns-in-Word-Reg-clause-is
 returns-in-Word-Reg-clause-is c =
     listed_as c.read_registers.result (λ x. map item_tree x.0.items)
-    (λ x. placed_tokens c.args.bytes.now x.1.now) (placed_tokens c.args.bytes.now c.args.tokens.now)
+    (λ x. placed_tokens c.args.input.bytes.now x.1.now) (placed c.args.input)
     AreRegisters (of_registers _) c.read_registers.ensures.is
 
 pub returns-in-Word-Assign-clause-is : goal.returns-in-Word-Assign-clause-is
 returns-in-Word-Assign-clause-is c =
     listed_as c.read_assigned.result (λ x. map item_tree x.0.items)
-    (λ x. placed_tokens c.args.bytes.now x.1.now) (placed_tokens c.args.bytes.now c.args.tokens.now)
+    (λ x. placed_tokens c.args.input.bytes.now x.1.now) (placed c.args.input)
     AreAssigned (of_assigned _) c.read_assigned.ensures.is
 
 pub returns-in-Word-Invariant-clause-is : goal.returns-in-Word-Invariant-clause-is
 returns-in-Word-Invariant-clause-is c =
     listed_as c.read_invariant.result (λ x. map item_tree x.0.items)
-    (λ x. placed_tokens c.args.bytes.now x.1.now) (placed_tokens c.args.bytes.now c.args.tokens.now)
+    (λ x. placed_tokens c.args.input.bytes.now x.1.now) (placed c.args.input)
     (only (IsInvariant all_limits)) (λ is rest h. inr (inr (inr (inr (inr (inl h))))))
     c.read_invariant.ensures.is
 
 pub returns-in-Name-clause-is : goal.returns-in-Name-clause-is
 returns-in-Name-clause-is c =
     listed_as c.read_instances.result (λ x. map item_tree x.0.items)
-    (λ x. placed_tokens c.args.bytes.now x.1.now) (placed_tokens c.args.bytes.now c.args.tokens.now)
+    (λ x. placed_tokens c.args.input.bytes.now x.1.now) (placed c.args.input)
     (all_as tree.instance_item (AreInstances all_limits))
     (λ is rest h. inr (inr (inr (inr (inr (inr h)))))) c.read_instances.ensures.is

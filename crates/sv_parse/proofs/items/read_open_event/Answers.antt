@@ -13,8 +13,8 @@ use Rattle.sv_parse.proofs.items.read_open_event.Goals as goal
 
 pub returns-in-Some-clause-is : goal.returns-in-Some-clause-is
 returns-in-Some-clause-is c = (
-  (placed_tokens c.args.bytes.now c.in-Some.rest.now),
-  (c.in-Some.ensures.is c.args.bytes.now),
+  (placed_tokens c.args.input.bytes.now c.in-Some.rest.now),
+  (c.in-Some.ensures.is c.args.input.bytes.now),
   c.in_ok-name.ensures.is,
 )
 
@@ -25,7 +25,7 @@ returns-in_err-name-clause-halts c =
     (outer plain_name ∷ outer (punctuation signs.CloseParenthesis) ∷ []) _ _ _
     (word_taken event_inside words.Posedge
     (plain_name ∷ (punctuation signs.CloseParenthesis) ∷ []) _ _ refl
-    (c.in-Some.ensures.is c.args.bytes.now))
+    (c.in-Some.ensures.is c.args.input.bytes.now))
     c.in_err-name.ensures.halts)
 
 pub returns-in-Some-clause-reads : goal.returns-in-Some-clause-reads
@@ -34,34 +34,34 @@ returns-in-Some-clause-reads c =
     (outer plain_name ∷ outer (punctuation signs.CloseParenthesis) ∷ []) [] _ _ _
     (word_taken event_inside words.Posedge
     (plain_name ∷ (punctuation signs.CloseParenthesis) ∷ []) _ _ refl
-    (c.in-Some.ensures.is c.args.bytes.now))
+    (c.in-Some.ensures.is c.args.input.bytes.now))
     c.in_ok-name.ensures.reads)
 
 pub returns-in-None-clause-halts : goal.returns-in-None-clause-halts
 returns-in-None-clause-halts c =
-    (stops_here c.args.bytes.now _ (outer event_inside ∷ []) (Stuck expected.Edge) _
-    (halts_event_inside _ (c.in-None.ensures.none c.args.bytes.now)
-    (c.in_default.ensures.none c.args.bytes.now)) c.stuck.ensures)
+    (stops_here c.args.input.bytes.now _ (outer event_inside ∷ []) (Stuck expected.Edge) _
+    (halts_event_inside _ (c.in-None.ensures.none c.args.input.bytes.now)
+    (c.in_default.ensures.none c.args.input.bytes.now)) c.stuck.ensures)
 
 pub returns-in_err-rest-in-Some-operator_at-clause-halts :
     goal.returns-in_err-rest-in-Some-operator_at-clause-halts
 returns-in_err-rest-in-Some-operator_at-clause-halts c =
     passed _ _ _ c.from_residual-in_err-rest-in-Some-operator_at.ensures.1
     (stops_then (outer event_inside ∷ []) (outer (punctuation signs.CloseParenthesis) ∷ []) _ _ _
-    (star_inside_read _ _ (c.in-Some-operator_at.ensures.is c.args.bytes.now))
-    (c.in_err-rest-in-Some-operator_at.ensures.halts c.args.bytes.now))
+    (star_inside_read _ _ (c.in-Some-operator_at.ensures.is c.args.input.bytes.now))
+    (c.in_err-rest-in-Some-operator_at.ensures.halts c.args.input.bytes.now))
 
 pub returns-in_ok-rest-in-Some-operator_at-clause-reads :
     goal.returns-in_ok-rest-in-Some-operator_at-clause-reads
 returns-in_ok-rest-in-Some-operator_at-clause-reads c =
     (reads_then (outer event_inside ∷ []) (outer (punctuation signs.CloseParenthesis) ∷ []) [] _ _ _
-    (star_inside_read _ _ (c.in-Some-operator_at.ensures.is c.args.bytes.now))
-    (c.in_ok-rest-in-Some-operator_at.ensures.reads c.args.bytes.now refl))
+    (star_inside_read _ _ (c.in-Some-operator_at.ensures.is c.args.input.bytes.now))
+    (c.in_ok-rest-in-Some-operator_at.ensures.reads c.args.input.bytes.now refl))
 
 pub returns-in_ok-rest-in-Some-operator_at-clause-is :
     goal.returns-in_ok-rest-in-Some-operator_at-clause-is
 returns-in_ok-rest-in-Some-operator_at-clause-is c = (
   _,
-  (c.in-Some-operator_at.ensures.is c.args.bytes.now),
-  (c.in_ok-rest-in-Some-operator_at.ensures.is c.args.bytes.now),
+  (c.in-Some-operator_at.ensures.is c.args.input.bytes.now),
+  (c.in_ok-rest-in-Some-operator_at.ensures.is c.args.input.bytes.now),
 )

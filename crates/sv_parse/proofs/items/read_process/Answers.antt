@@ -10,14 +10,14 @@ use Rattle.sv_parse.proofs.items.read_process.Goals as goal
 
 pub returns-clause-is : goal.returns-clause-is
 returns-clause-is c = (
-  (placed_tokens c.args.bytes.now c.in_ok-place.rest.now),
+  (placed_tokens c.args.input.bytes.now c.in_ok-place.rest.now),
   c.in_ok-place.ensures.is
-      c.args.bytes.now,
+      c.args.input.bytes.now,
   (
-    (placed_tokens c.args.bytes.now c.in_ok-rest.rest.now),
-    c.in_ok-rest.ensures.is c.args.bytes.now,
+    (placed_tokens c.args.input.bytes.now c.in_ok-rest.rest.now),
+    c.in_ok-rest.ensures.is c.args.input.bytes.now,
     (
-      (placed_tokens c.args.bytes.now c.in_ok-clock.rest.now),
+      (placed_tokens c.args.input.bytes.now c.in_ok-clock.rest.now),
       c.in_ok-clock.ensures.is,
       c.in_ok-body.ensures.is,
     ),
@@ -27,36 +27,36 @@ returns-clause-is c = (
 pub returns-in_err-place-clause-halts : goal.returns-in_err-place-clause-halts
 returns-in_err-place-clause-halts c = λ is.
     passed _ _ _ c.from_residual.ensures.1
-    (word_was_next _ words.Always _ _ _ is (c.in_err-place.ensures.stops c.args.bytes.now))
+    (word_was_next _ words.Always _ _ _ is (c.in_err-place.ensures.stops c.args.input.bytes.now))
 
 pub returns-in_err-rest-clause-halts : goal.returns-in_err-rest-clause-halts
 returns-in_err-rest-clause-halts c = λ is.
     passed _ _ _ c.from_residual-in_err-rest.ensures.1
     (stops_then _ _ _ _ _
-    (process_comes _ _ (c.in_ok-place.place, c.in_ok-place.ensures.is c.args.bytes.now))
-    (front_stop _ _ _ _ (c.in_err-rest.ensures.halts c.args.bytes.now)))
+    (process_comes _ _ (c.in_ok-place.place, c.in_ok-place.ensures.is c.args.input.bytes.now))
+    (front_stop _ _ _ _ (c.in_err-rest.ensures.halts c.args.input.bytes.now)))
 
 pub returns-in_err-clock-clause-halts : goal.returns-in_err-clock-clause-halts
 returns-in_err-clock-clause-halts c = λ is.
     passed _ _ _ c.from_residual-in_err-clock.ensures.1
     (stops_then _ _ _ _ _
-    (process_comes _ _ (c.in_ok-place.place, c.in_ok-place.ensures.is c.args.bytes.now))
-    (and_stop _ _ _ _ _ (c.in_ok-rest.ensures.reads c.args.bytes.now refl)
+    (process_comes _ _ (c.in_ok-place.place, c.in_ok-place.ensures.is c.args.input.bytes.now))
+    (and_stop _ _ _ _ _ (c.in_ok-rest.ensures.reads c.args.input.bytes.now refl)
     (front_stop _ _ _ _ c.in_err-clock.ensures.halts)))
 
 pub returns-in_err-body-clause-halts : goal.returns-in_err-body-clause-halts
 returns-in_err-body-clause-halts c = λ is.
     passed _ _ _ c.from_residual-in_err-body.ensures.1
     (stops_then _ _ _ _ _
-    (process_comes _ _ (c.in_ok-place.place, c.in_ok-place.ensures.is c.args.bytes.now))
-    (and_stop _ _ _ _ _ (c.in_ok-rest.ensures.reads c.args.bytes.now refl)
+    (process_comes _ _ (c.in_ok-place.place, c.in_ok-place.ensures.is c.args.input.bytes.now))
+    (and_stop _ _ _ _ _ (c.in_ok-rest.ensures.reads c.args.input.bytes.now refl)
     (and_stop _ _ _ _ _ c.in_ok-clock.ensures.reads
     (front_stop _ _ _ _ c.in_err-body.ensures.halts))))
 
 pub returns-clause-reads : goal.returns-clause-reads
 returns-clause-reads c = λ is.
     reads_then _ _ _ _ _ _
-    (process_comes _ _ (c.in_ok-place.place, c.in_ok-place.ensures.is c.args.bytes.now))
-    (and_read _ _ _ _ _ _ (c.in_ok-rest.ensures.reads c.args.bytes.now refl)
+    (process_comes _ _ (c.in_ok-place.place, c.in_ok-place.ensures.is c.args.input.bytes.now))
+    (and_read _ _ _ _ _ _ (c.in_ok-rest.ensures.reads c.args.input.bytes.now refl)
     (and_read _ _ _ _ _ _ c.in_ok-clock.ensures.reads
     (front_read _ _ _ _ c.in_ok-body.ensures.reads)))

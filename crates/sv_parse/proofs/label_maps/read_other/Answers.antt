@@ -11,8 +11,8 @@ use Rattle.sv_parse.proofs.label_maps.read_other.Goals as goal
 
 pub returns-in_ok-point-in-Some-clause-is : goal.returns-in_ok-point-in-Some-clause-is
 returns-in_ok-point-in-Some-clause-is c = (
-  (placed_tokens c.args.bytes.now c.in-Some.rest.now),
-  (c.in-Some.ensures.is c.args.bytes.now),
+  (placed_tokens c.args.input.bytes.now c.in-Some.rest.now),
+  (c.in-Some.ensures.is c.args.input.bytes.now),
   c.in_ok-point-in-Some.ensures.is,
 )
 
@@ -24,7 +24,7 @@ returns-in_err-point-in-Some-clause-halts c = λ ends.
     outer end_of_map ∷ []) _ _ _
     (word_taken rows words.Default
     ((punctuation signs.Colon) ∷ plain_name ∷ (punctuation signs.Semicolon) ∷ end_of_map ∷ []) _
-    _ refl (c.in-Some.ensures.is c.args.bytes.now))
+    _ refl (c.in-Some.ensures.is c.args.input.bytes.now))
     (stops_before (outer (punctuation signs.Colon) ∷ outer plain_name ∷
     outer (punctuation signs.Semicolon) ∷ []) (outer end_of_map ∷ []) _ _
     c.in_err-point-in-Some.ensures.halts))
@@ -36,11 +36,11 @@ returns-in_ok-point-in-Some-clause-reads c = λ ends.
     outer end_of_map ∷ []) (outer end_of_map ∷ []) _ _ _
     (word_taken rows words.Default
     ((punctuation signs.Colon) ∷ plain_name ∷ (punctuation signs.Semicolon) ∷ end_of_map ∷ []) _
-    _ refl (c.in-Some.ensures.is c.args.bytes.now))
+    _ refl (c.in-Some.ensures.is c.args.input.bytes.now))
     (reads_before (outer (punctuation signs.Colon) ∷ outer plain_name ∷
     outer (punctuation signs.Semicolon) ∷ []) [] (outer end_of_map ∷ []) _ _
     c.in_ok-point-in-Some.ensures.reads))
 
 pub returns-in-None-clause-reads : goal.returns-in-None-clause-reads
 returns-in-None-clause-reads c = λ ends.
-    (ends_rows _ (c.in-None.ensures.none c.args.bytes.now) ends)
+    (ends_rows _ (c.in-None.ensures.none c.args.input.bytes.now) ends)

@@ -18,8 +18,8 @@ returns-in_err-row-clause-halts c =
     (outer plain_number ∷ outer perhaps_second_key ∷ outer (punctuation signs.Colon) ∷
     outer plain_name ∷ outer (punctuation signs.Semicolon) ∷
     outer rows ∷ []) _ _ _
-    (begins_row _ (c.loop-alloc-test.ensures.default c.args.bytes.now (search rules))
-    (c.loop-alloc-test.ensures.last c.args.bytes.now (search rules)))
+    (begins_row _ (c.loop-alloc-test.ensures.default c.args.input.bytes.now (search rules))
+    (c.loop-alloc-test.ensures.last c.args.input.bytes.now (search rules)))
     (stops_before (outer plain_number ∷ outer perhaps_second_key ∷ outer (punctuation signs.Colon) ∷
     outer plain_name ∷ outer (punctuation signs.Semicolon) ∷ []) (outer rows ∷ []) _ _
     c.in_err-row.ensures.halts)))
@@ -37,8 +37,8 @@ loop-alloc-preserved c = record {
       (outer plain_number ∷ outer perhaps_second_key ∷ outer (punctuation signs.Colon) ∷
       outer plain_name ∷ outer (punctuation signs.Semicolon) ∷
       outer rows ∷ []) (outer rows ∷ []) _ _ _
-      (begins_row _ (c.loop-alloc-test.ensures.default c.args.bytes.now (search rules))
-      (c.loop-alloc-test.ensures.last c.args.bytes.now (search rules)))
+      (begins_row _ (c.loop-alloc-test.ensures.default c.args.input.bytes.now (search rules))
+      (c.loop-alloc-test.ensures.last c.args.input.bytes.now (search rules)))
       (reads_before (outer plain_number ∷ outer perhaps_second_key ∷
       outer (punctuation signs.Colon) ∷ outer plain_name ∷
       outer (punctuation signs.Semicolon) ∷ []) [] (outer rows ∷ []) _ _

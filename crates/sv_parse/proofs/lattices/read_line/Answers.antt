@@ -19,7 +19,7 @@ returns-in_err-more-in-Some-clause-halts c = λ no_end.
     (outer plain_name ∷ outer (more_names signs.Semicolon) ∷ outer lattice_lines ∷ []) _ _ _
     (word_taken lattice_lines words.Point
     (plain_name ∷ (more_names signs.Semicolon) ∷ lattice_lines ∷ []) _ _ refl
-    (c.in-Some.ensures.is c.args.bytes.now))
+    (c.in-Some.ensures.is c.args.input.bytes.now))
     (stops_before (outer plain_name ∷ outer (more_names signs.Semicolon) ∷ [])
     (outer lattice_lines ∷ []) _ _ c.in_err-more-in-Some.ensures.halts))
 
@@ -30,7 +30,7 @@ returns-in_ok-append-in-Some-clause-reads c = λ no_end.
     (outer lattice_lines ∷ []) _ _ _
     (word_taken lattice_lines words.Point
     (plain_name ∷ (more_names signs.Semicolon) ∷ lattice_lines ∷ []) _ _ refl
-    (c.in-Some.ensures.is c.args.bytes.now))
+    (c.in-Some.ensures.is c.args.input.bytes.now))
     (reads_before (outer plain_name ∷ outer (more_names signs.Semicolon) ∷ []) []
     (outer lattice_lines ∷ []) _ _ c.in_ok-more-in-Some.ensures.reads))
 
@@ -40,7 +40,7 @@ returns-in_err-pair-in-None-clause-halts c = λ no_end.
     (stops_then (outer lattice_lines ∷ [])
     (outer plain_name ∷ outer less_equal ∷ outer plain_name ∷
     outer (punctuation signs.Semicolon) ∷ outer lattice_lines ∷ []) _ _ _
-    (begins_pair _ (c.in-None.ensures.none c.args.bytes.now) no_end)
+    (begins_pair _ (c.in-None.ensures.none c.args.input.bytes.now) no_end)
     (stops_before (outer plain_name ∷ outer less_equal ∷ outer plain_name ∷
     outer (punctuation signs.Semicolon) ∷ []) (outer lattice_lines ∷ []) _ _
     c.in_err-pair-in-None.ensures.halts))
@@ -50,7 +50,7 @@ returns-in_ok-push-in-None-clause-reads c = λ no_end.
     (reads_then (outer lattice_lines ∷ [])
     (outer plain_name ∷ outer less_equal ∷ outer plain_name ∷
     outer (punctuation signs.Semicolon) ∷ outer lattice_lines ∷ []) (outer lattice_lines ∷ []) _
-    _ _ (begins_pair _ (c.in-None.ensures.none c.args.bytes.now) no_end)
+    _ _ (begins_pair _ (c.in-None.ensures.none c.args.input.bytes.now) no_end)
     (reads_before (outer plain_name ∷ outer less_equal ∷ outer plain_name ∷
     outer (punctuation signs.Semicolon) ∷ []) [] (outer lattice_lines ∷ []) _ _
     c.in_ok-pair-in-None.ensures.reads))
@@ -58,7 +58,7 @@ returns-in_ok-push-in-None-clause-reads c = λ no_end.
 pub returns-in_ok-append-in-Some-clause-is : goal.returns-in_ok-append-in-Some-clause-is
 returns-in_ok-append-in-Some-clause-is c =
     points_more _ _ _ _ _ _ _ (ap (map placed_name) c.in_ok-append-in-Some.ensures.items
-    ∙ map-append placed_name _ _) (c.in-Some.ensures.is c.args.bytes.now)
+    ∙ map-append placed_name _ _) (c.in-Some.ensures.is c.args.input.bytes.now)
     c.in_ok-more-in-Some.ensures.is
 
 pub returns-in_ok-push-in-None-clause-is : goal.returns-in_ok-push-in-None-clause-is

@@ -10,9 +10,9 @@ use Rattle.sv_parse.proofs.lattices.read_points.Goals as goal
 
 pub returns-clause-is : goal.returns-clause-is
 returns-clause-is c = (
-  (placed_tokens c.args.bytes.now c.in_ok-points.rest.now),
+  (placed_tokens c.args.input.bytes.now c.in_ok-points.rest.now),
   c.in_ok-points.ensures.is,
-  c.in_ok-rest.ensures.is c.args.bytes.now,
+  c.in_ok-rest.ensures.is c.args.input.bytes.now,
 )
 
 pub returns-in_err-points-clause-halts : goal.returns-in_err-points-clause-halts
@@ -30,7 +30,7 @@ returns-in_err-rest-clause-halts c =
     (outer (more_names signs.Semicolon) ∷ []) goes_on_names refl tt)
     (stops_then (outer (more_names signs.Semicolon) ∷ []) (outer (punctuation signs.Semicolon) ∷ [])
     _ _ _ (ends_listed _ c.in_ok-points.ensures.ends)
-    (c.in_err-rest.ensures.halts c.args.bytes.now)))
+    (c.in_err-rest.ensures.halts c.args.input.bytes.now)))
 
 pub returns-clause-reads : goal.returns-clause-reads
 returns-clause-reads c =
@@ -40,4 +40,4 @@ returns-clause-reads c =
     (outer (more_names signs.Semicolon) ∷ []) goes_on_names refl tt)
     (reads_then (outer (more_names signs.Semicolon) ∷ []) (outer (punctuation signs.Semicolon) ∷ [])
     [] _ _ _ (ends_listed _ c.in_ok-points.ensures.ends)
-    (c.in_ok-rest.ensures.reads c.args.bytes.now refl)))
+    (c.in_ok-rest.ensures.reads c.args.input.bytes.now refl)))

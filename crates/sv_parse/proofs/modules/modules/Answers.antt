@@ -9,7 +9,7 @@ use Rattle.sv_parse.proofs.modules.modules.Goals as goal
 
 pub returns-clause-are : goal.returns-clause-are
 returns-clause-are c =
-    some_up_to_the_end _ _ module_tree _ _ c.args.bytes.now _ _ c.loop-rest.invariant.some
+    some_up_to_the_end _ _ module_tree _ _ c.args.input.bytes.now _ _ c.loop-rest.invariant.some
     c.loop-rest.invariant.are (search rules)
 
 pub returns-in_err-first-clause-fails : goal.returns-in_err-first-clause-fails
@@ -21,7 +21,8 @@ pub returns-in_err-next-clause-fails : goal.returns-in_err-next-clause-fails
 returns-in_err-next-clause-fails c =
     passed _ _ _ c.from_residual-in_err-next.ensures.1
     (fails_then (outer one_module ∷ []) [] _ _ _ c.loop-rest.invariant.runs
-    (fails_then [] (outer one_module ∷ []) _ _ _ (next_module c.args.bytes.now _ (search rules))
+    (fails_then [] (outer one_module ∷ []) _ _ _
+    (next_module c.args.input.bytes.now _ (search rules))
     (halting_fails (outer one_module ∷ []) _ _ c.in_err-next.ensures.halts)))
 
 pub loop-rest-init : goal.loop-rest-init
@@ -40,6 +41,6 @@ loop-rest-preserved c = record {
       c.loop-rest.invariant.are c.in_ok-next.ensures.is;
   some = search rules;
   runs =
-      c.loop-rest.invariant.runs ∙ next_module c.args.bytes.now _ (search rules)
+      c.loop-rest.invariant.runs ∙ next_module c.args.input.bytes.now _ (search rules)
       ∙ c.in_ok-next.ensures.reads.runs [];
 }

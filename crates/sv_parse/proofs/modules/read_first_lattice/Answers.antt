@@ -8,13 +8,13 @@ pub returns-in_err-lattice-in-Some-clause-halts : goal.returns-in_err-lattice-in
 returns-in_err-lattice-in-Some-clause-halts c =
     passed _ _ _ c.from_residual.ensures.1
     (c.in_err-lattice-in-Some.ensures.halts
-    (word_is_next words.Lattice _ _ (c.in-Some.ensures.is c.args.bytes.now)))
+    (word_is_next words.Lattice _ _ (c.in-Some.ensures.is c.args.input.bytes.now)))
 
 pub returns-in_ok-lattice-in-Some-clause-reads : goal.returns-in_ok-lattice-in-Some-clause-reads
 returns-in_ok-lattice-in-Some-clause-reads c =
     (c.in_ok-lattice-in-Some.ensures.reads
-    (word_is_next words.Lattice _ _ (c.in-Some.ensures.is c.args.bytes.now)))
+    (word_is_next words.Lattice _ _ (c.in-Some.ensures.is c.args.input.bytes.now)))
 
 pub returns-in-None-clause-reads : goal.returns-in-None-clause-reads
 returns-in-None-clause-reads c =
-    (skips_perhaps_lattice _ (c.in-None.ensures.none c.args.bytes.now))
+    (skips_perhaps_lattice _ (c.in-None.ensures.none c.args.input.bytes.now))

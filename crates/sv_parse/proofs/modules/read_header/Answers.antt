@@ -10,18 +10,18 @@ use Rattle.sv_parse.proofs.modules.read_header.Goals as goal
 
 pub returns-clause-is : goal.returns-clause-is
 returns-clause-is c = (
-  (placed_tokens c.args.bytes.now c.in_ok-_word.rest.now),
-  (c.in_ok-_word._word, c.in_ok-_word.ensures.is c.args.bytes.now),
+  (placed_tokens c.args.input.bytes.now c.in_ok-_word.rest.now),
+  (c.in_ok-_word._word, c.in_ok-_word.ensures.is c.args.input.bytes.now),
   (
-    (placed_tokens c.args.bytes.now c.in_ok-name.rest.now),
+    (placed_tokens c.args.input.bytes.now c.in_ok-name.rest.now),
     c.in_ok-name.ensures.is,
     (
-      (placed_tokens c.args.bytes.now c.in_ok-params.rest.now),
+      (placed_tokens c.args.input.bytes.now c.in_ok-params.rest.now),
       c.in_ok-params.ensures.is,
       (
-        (placed_tokens c.args.bytes.now c.in_ok-ports.rest.now),
+        (placed_tokens c.args.input.bytes.now c.in_ok-ports.rest.now),
         c.in_ok-ports.ensures.is,
-        c.in_ok-rest.ensures.is c.args.bytes.now,
+        c.in_ok-rest.ensures.is c.args.input.bytes.now,
       ),
     ),
   ),
@@ -30,21 +30,21 @@ returns-clause-is c = (
 pub returns-in_err-_word-clause-halts : goal.returns-in_err-_word-clause-halts
 returns-in_err-_word-clause-halts c =
     passed _ _ _ c.from_residual.ensures.1
-    (stops_by c.args.bytes.now _ (outer one_module ∷ []) _ _ (halts_one_module _)
-    (c.in_err-_word.ensures.stops c.args.bytes.now))
+    (stops_by c.args.input.bytes.now _ (outer one_module ∷ []) _ _ (halts_one_module _)
+    (c.in_err-_word.ensures.stops c.args.input.bytes.now))
 
 pub returns-in_err-name-clause-halts : goal.returns-in_err-name-clause-halts
 returns-in_err-name-clause-halts c =
     passed _ _ _ c.from_residual-in_err-name.ensures.1
     (stops_then _ _ _ _ _
-    (module_comes _ _ (c.in_ok-_word._word, c.in_ok-_word.ensures.is c.args.bytes.now))
+    (module_comes _ _ (c.in_ok-_word._word, c.in_ok-_word.ensures.is c.args.input.bytes.now))
     (front_stop _ _ _ _ c.in_err-name.ensures.halts))
 
 pub returns-in_err-params-clause-halts : goal.returns-in_err-params-clause-halts
 returns-in_err-params-clause-halts c =
     passed _ _ _ c.from_residual-in_err-params.ensures.1
     (stops_then _ _ _ _ _
-    (module_comes _ _ (c.in_ok-_word._word, c.in_ok-_word.ensures.is c.args.bytes.now))
+    (module_comes _ _ (c.in_ok-_word._word, c.in_ok-_word.ensures.is c.args.input.bytes.now))
     (and_stop _ _ _ _ _ c.in_ok-name.ensures.reads
     (front_stop _ _ _ _ c.in_err-params.ensures.halts)))
 
@@ -52,7 +52,7 @@ pub returns-in_err-ports-clause-halts : goal.returns-in_err-ports-clause-halts
 returns-in_err-ports-clause-halts c =
     passed _ _ _ c.from_residual-in_err-ports.ensures.1
     (stops_then _ _ _ _ _
-    (module_comes _ _ (c.in_ok-_word._word, c.in_ok-_word.ensures.is c.args.bytes.now))
+    (module_comes _ _ (c.in_ok-_word._word, c.in_ok-_word.ensures.is c.args.input.bytes.now))
     (and_stop _ _ _ _ _ c.in_ok-name.ensures.reads
     (and_stop _ _ _ _ _ c.in_ok-params.ensures.reads
     (front_stop _ _ _ _ c.in_err-ports.ensures.halts))))
@@ -61,17 +61,17 @@ pub returns-in_err-rest-clause-halts : goal.returns-in_err-rest-clause-halts
 returns-in_err-rest-clause-halts c =
     passed _ _ _ c.from_residual-in_err-rest.ensures.1
     (stops_then _ _ _ _ _
-    (module_comes _ _ (c.in_ok-_word._word, c.in_ok-_word.ensures.is c.args.bytes.now))
+    (module_comes _ _ (c.in_ok-_word._word, c.in_ok-_word.ensures.is c.args.input.bytes.now))
     (and_stop _ _ _ _ _ c.in_ok-name.ensures.reads
     (and_stop _ _ _ _ _ c.in_ok-params.ensures.reads
     (and_stop _ _ _ _ _ c.in_ok-ports.ensures.reads
-    (front_stop _ _ _ _ (c.in_err-rest.ensures.halts c.args.bytes.now))))))
+    (front_stop _ _ _ _ (c.in_err-rest.ensures.halts c.args.input.bytes.now))))))
 
 pub returns-clause-reads : goal.returns-clause-reads
 returns-clause-reads c =
     reads_then _ _ _ _ _ _
-    (module_comes _ _ (c.in_ok-_word._word, c.in_ok-_word.ensures.is c.args.bytes.now))
+    (module_comes _ _ (c.in_ok-_word._word, c.in_ok-_word.ensures.is c.args.input.bytes.now))
     (and_read _ _ _ _ _ _ c.in_ok-name.ensures.reads
     (and_read _ _ _ _ _ _ c.in_ok-params.ensures.reads
     (and_read _ _ _ _ _ _ c.in_ok-ports.ensures.reads
-    (front_read _ _ _ _ (c.in_ok-rest.ensures.reads c.args.bytes.now refl)))))
+    (front_read _ _ _ _ (c.in_ok-rest.ensures.reads c.args.input.bytes.now refl)))))

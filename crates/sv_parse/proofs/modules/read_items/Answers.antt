@@ -11,18 +11,18 @@ use Rattle.sv_parse.proofs.modules.read_items.Goals as goal
 
 pub returns-in-Some-clause-is : goal.returns-in-Some-clause-is
 returns-in-Some-clause-is c =
-    (_, items_end _ _ _ c.loop-after.invariant.are, (c.in-Some.ensures.is c.args.bytes.now))
+    (_, items_end _ _ _ c.loop-after.invariant.are, (c.in-Some.ensures.is c.args.input.bytes.now))
 
 pub returns-in-Some-clause-reads : goal.returns-in-Some-clause-reads
 returns-in-Some-clause-reads c =
     reads_then (outer items ∷ []) (outer items ∷ []) [] _ _ _ c.loop-after.invariant.reads
-    (word_taken items words.Endmodule [] _ _ refl (c.in-Some.ensures.is c.args.bytes.now))
+    (word_taken items words.Endmodule [] _ _ refl (c.in-Some.ensures.is c.args.input.bytes.now))
 
 pub returns-in_err-more-clause-halts : goal.returns-in_err-more-clause-halts
 returns-in_err-more-clause-halts c =
     passed _ _ _ c.from_residual.ensures.1
     (stops_then (outer items ∷ []) (outer items ∷ []) _ _ _ c.loop-after.invariant.reads
-    (c.in_err-more.ensures.halts (c.in_default.ensures.none c.args.bytes.now)))
+    (c.in_err-more.ensures.halts (c.in_default.ensures.none c.args.input.bytes.now)))
 
 pub loop-after-preserved : goal.loop-after-preserved
 loop-after-preserved c = record {
@@ -33,5 +33,5 @@ loop-after-preserved c = record {
   reads =
       reads_then (outer items ∷ []) (outer items ∷ []) (outer items ∷ []) _ _ _
       c.loop-after.invariant.reads
-      (c.in_ok-more.ensures.reads (c.in_default.ensures.none c.args.bytes.now));
+      (c.in_ok-more.ensures.reads (c.in_default.ensures.none c.args.input.bytes.now));
 }

@@ -16,7 +16,8 @@ returns-clause-is c = each_end _ _ _ _ _ c.loop-maps.invariant.are
 pub returns-clause-reads : goal.returns-clause-reads
 returns-clause-reads c =
     reads_then (outer perhaps_maps ∷ []) (outer perhaps_maps ∷ []) [] _ _ _
-    c.loop-maps.invariant.reads (skips_perhaps_maps _ (c.in_default.ensures.none c.args.bytes.now))
+    c.loop-maps.invariant.reads
+    (skips_perhaps_maps _ (c.in_default.ensures.none c.args.input.bytes.now))
 
 pub returns-in_err-map-clause-halts : goal.returns-in_err-map-clause-halts
 returns-in_err-map-clause-halts c =
@@ -24,7 +25,7 @@ returns-in_err-map-clause-halts c =
     (stops_then (outer perhaps_maps ∷ []) (outer perhaps_maps ∷ []) _ _ _
     c.loop-maps.invariant.reads
     (c.in_err-map.ensures.halts
-    (word_is_next words.Labelmap _ _ (c.in-Some.ensures.is c.args.bytes.now))))
+    (word_is_next words.Labelmap _ _ (c.in-Some.ensures.is c.args.input.bytes.now))))
 
 pub loop-maps-preserved : goal.loop-maps-preserved
 loop-maps-preserved c = record {
@@ -36,5 +37,5 @@ loop-maps-preserved c = record {
       reads_then (outer perhaps_maps ∷ []) (outer perhaps_maps ∷ []) (outer perhaps_maps ∷ []) _ _ _
       c.loop-maps.invariant.reads
       (c.in_ok-map.ensures.reads
-      (word_is_next words.Labelmap _ _ (c.in-Some.ensures.is c.args.bytes.now)));
+      (word_is_next words.Labelmap _ _ (c.in-Some.ensures.is c.args.input.bytes.now)));
 }

@@ -10,29 +10,30 @@ use Rattle.sv_parse.proofs.modules.read_open_ports.Goals as goal
 
 pub returns-in-Some-clause-reads : goal.returns-in-Some-clause-reads
 returns-in-Some-clause-reads c =
-    (sign_taken ports signs.CloseParenthesis [] _ _ refl (c.in-Some.ensures.is c.args.bytes.now))
+    (sign_taken ports signs.CloseParenthesis [] _ _ refl
+    (c.in-Some.ensures.is c.args.input.bytes.now))
 
 pub returns-in_err-ports-clause-halts : goal.returns-in_err-ports-clause-halts
 returns-in_err-ports-clause-halts c =
     passed _ _ _ c.from_residual.ensures.1
-    (c.in_err-ports.ensures.halts (c.in_default.ensures.none c.args.bytes.now))
+    (c.in_err-ports.ensures.halts (c.in_default.ensures.none c.args.input.bytes.now))
 
 pub returns-in_err-rest-clause-halts : goal.returns-in_err-rest-clause-halts
 returns-in_err-rest-clause-halts c =
     passed _ _ _ c.from_residual-in_err-rest.ensures.1
     (stops_then (outer ports ∷ []) (outer (punctuation signs.CloseParenthesis) ∷ []) _ _ _
-    (c.in_ok-ports.ensures.reads (c.in_default.ensures.none c.args.bytes.now))
-    (c.in_err-rest.ensures.halts c.args.bytes.now))
+    (c.in_ok-ports.ensures.reads (c.in_default.ensures.none c.args.input.bytes.now))
+    (c.in_err-rest.ensures.halts c.args.input.bytes.now))
 
 pub returns-clause-reads : goal.returns-clause-reads
 returns-clause-reads c =
     (reads_then (outer ports ∷ []) (outer (punctuation signs.CloseParenthesis) ∷ []) [] _ _ _
-    (c.in_ok-ports.ensures.reads (c.in_default.ensures.none c.args.bytes.now))
-    (c.in_ok-rest.ensures.reads c.args.bytes.now refl))
+    (c.in_ok-ports.ensures.reads (c.in_default.ensures.none c.args.input.bytes.now))
+    (c.in_ok-rest.ensures.reads c.args.input.bytes.now refl))
 
 pub returns-in-Some-clause-is : goal.returns-in-Some-clause-is
 returns-in-Some-clause-is c = (
   _,
   inl (ap (map declaration_tree) c.new.ensures.items, refl),
-  (c.in-Some.ensures.is c.args.bytes.now),
+  (c.in-Some.ensures.is c.args.input.bytes.now),
 )

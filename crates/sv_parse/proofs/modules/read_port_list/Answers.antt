@@ -13,20 +13,21 @@ returns-in_err-ports-in-Some-clause-halts c =
     passed _ _ _ c.from_residual.ensures.1
     (stops_then (outer perhaps_ports ∷ []) (outer ports ∷ []) _ _ _
     (sign_taken perhaps_ports signs.OpenParenthesis (ports ∷ []) _ _ refl
-    (c.in-Some.ensures.is c.args.bytes.now))
+    (c.in-Some.ensures.is c.args.input.bytes.now))
     c.in_err-ports-in-Some.ensures.halts)
 
 pub returns-in_ok-ports-in-Some-clause-reads : goal.returns-in_ok-ports-in-Some-clause-reads
 returns-in_ok-ports-in-Some-clause-reads c =
     (reads_then (outer perhaps_ports ∷ []) (outer ports ∷ []) [] _ _ _
     (sign_taken perhaps_ports signs.OpenParenthesis (ports ∷ []) _ _ refl
-    (c.in-Some.ensures.is c.args.bytes.now))
+    (c.in-Some.ensures.is c.args.input.bytes.now))
     c.in_ok-ports-in-Some.ensures.reads)
 
 pub returns-in-None-clause-reads : goal.returns-in-None-clause-reads
 returns-in-None-clause-reads c =
-    (skips_perhaps_ports _ (c.in-None.ensures.none c.args.bytes.now))
+    (skips_perhaps_ports _ (c.in-None.ensures.none c.args.input.bytes.now))
 
 pub returns-in_ok-ports-in-Some-clause-is : goal.returns-in_ok-ports-in-Some-clause-is
 returns-in_ok-ports-in-Some-clause-is c =
-    port_list_is _ _ _ _ (c.in-Some.ensures.is c.args.bytes.now) c.in_ok-ports-in-Some.ensures.is
+    port_list_is _ _ _ _ (c.in-Some.ensures.is c.args.input.bytes.now)
+    c.in_ok-ports-in-Some.ensures.is

@@ -2,6 +2,7 @@ use Rattle.std.proofs.Common.{refl, ◌∷◌}
 use Rattle.sv_token.specs.declared.signs.SignKind.TheVariants as signs
 use Rattle.sv_token.specs.declared.keywords.WordKind.TheVariants as words
 use Rattle.sv_token.specs.Lexemes.{placed_tokens}
+use Rattle.sv_parse_expr.specs.Parses.{placed}
 use Rattle.sv_parse.proofs.ReadingDeclarations.{range_is}
 use Rattle.sv_parse_expr.proofs.Halting.{passed, stops_then}
 use Rattle.sv_parse_machine.proofs.ReadRows.{word_taken, sign_taken}
@@ -13,17 +14,17 @@ use Rattle.sv_parse.proofs.parameters.read_param_type.Goals as goal
 
 pub returns-in-Some-clause-is : goal.returns-in-Some-clause-is
 returns-in-Some-clause-is c = (
-  placed_tokens c.args.bytes.now c.in-Some.rest.now,
-  c.in-Some.ensures.is c.args.bytes.now,
-  range_is _ _ _ _ (c.in_ok-rest.ensures.is c.args.bytes.now) c.in_ok-span.ensures.is,
+  placed_tokens c.args.input.bytes.now c.in-Some.rest.now,
+  c.in-Some.ensures.is c.args.input.bytes.now,
+  range_is _ _ _ _ (c.in_ok-rest.ensures.is c.args.input.bytes.now) c.in_ok-span.ensures.is,
 )
 
 pub returns-in-Some-behind-clause-is : goal.returns-in-Some-behind-clause-is
 returns-in-Some-behind-clause-is c = (
-  placed_tokens c.args.bytes.now c.args.tokens.now,
+  placed c.args.input,
   refl,
   range_is _ _ _ _
-      (c.in-Some-behind.ensures.is c.args.bytes.now) c.in_ok-span-2.ensures.is,
+      (c.in-Some-behind.ensures.is c.args.input.bytes.now) c.in_ok-span-2.ensures.is,
 )
 
 pub returns-in_err-rest-clause-halts : goal.returns-in_err-rest-clause-halts
@@ -31,24 +32,24 @@ returns-in_err-rest-clause-halts c =
     passed _ _ _ c.from_residual.ensures.1
     (stops_then _ _ _ _ _
     (word_taken parameter_type words.Signed (punctuation signs.OpenBracket ∷ value_range) _ _
-    refl (c.in-Some.ensures.is c.args.bytes.now))
-    (front_stop _ _ _ _ (c.in_err-rest.ensures.halts c.args.bytes.now)))
+    refl (c.in-Some.ensures.is c.args.input.bytes.now))
+    (front_stop _ _ _ _ (c.in_err-rest.ensures.halts c.args.input.bytes.now)))
 
 pub returns-in_err-span-clause-halts : goal.returns-in_err-span-clause-halts
 returns-in_err-span-clause-halts c =
     passed _ _ _ c.from_residual-in_err-span.ensures.1
     (stops_then _ _ _ _ _
     (word_taken parameter_type words.Signed (punctuation signs.OpenBracket ∷ value_range) _ _
-    refl (c.in-Some.ensures.is c.args.bytes.now))
-    (and_stop _ _ _ _ _ (c.in_ok-rest.ensures.reads c.args.bytes.now refl)
+    refl (c.in-Some.ensures.is c.args.input.bytes.now))
+    (and_stop _ _ _ _ _ (c.in_ok-rest.ensures.reads c.args.input.bytes.now refl)
     (c.in_err-span.ensures.halts)))
 
 pub returns-in-Some-clause-reads : goal.returns-in-Some-clause-reads
 returns-in-Some-clause-reads c =
     reads_then _ _ _ _ _ _
     (word_taken parameter_type words.Signed (punctuation signs.OpenBracket ∷ value_range) _ _
-    refl (c.in-Some.ensures.is c.args.bytes.now))
-    (and_read _ _ _ _ _ _ (c.in_ok-rest.ensures.reads c.args.bytes.now refl)
+    refl (c.in-Some.ensures.is c.args.input.bytes.now))
+    (and_read _ _ _ _ _ _ (c.in_ok-rest.ensures.reads c.args.input.bytes.now refl)
     (c.in_ok-span.ensures.reads))
 
 pub returns-in_err-span-2-clause-halts : goal.returns-in_err-span-2-clause-halts
@@ -56,12 +57,12 @@ returns-in_err-span-2-clause-halts c =
     passed _ _ _ c.from_residual-in_err-span-2.ensures.1
     (stops_then _ _ _ _ _
     (sign_taken parameter_type signs.OpenBracket value_range _ _ refl
-    (c.in-Some-behind.ensures.is c.args.bytes.now))
+    (c.in-Some-behind.ensures.is c.args.input.bytes.now))
     (c.in_err-span-2.ensures.halts))
 
 pub returns-in-Some-behind-clause-reads : goal.returns-in-Some-behind-clause-reads
 returns-in-Some-behind-clause-reads c =
     reads_then _ _ _ _ _ _
     (sign_taken parameter_type signs.OpenBracket value_range _ _ refl
-    (c.in-Some-behind.ensures.is c.args.bytes.now))
+    (c.in-Some-behind.ensures.is c.args.input.bytes.now))
     (c.in_ok-span-2.ensures.reads)

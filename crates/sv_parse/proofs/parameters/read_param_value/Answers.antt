@@ -6,11 +6,11 @@ use Rattle.sv_parse.proofs.parameters.read_param_value.Goals as goal
 
 pub returns-clause-is : goal.returns-clause-is
 returns-clause-is c = (
-  placed_tokens c.args.bytes.now c.in_ok-name.rest.now,
+  placed_tokens c.args.input.bytes.now c.in_ok-name.rest.now,
   c.in_ok-name.ensures.is,
   (
-    placed_tokens c.args.bytes.now c.in_ok-rest.rest.now,
-    c.in_ok-rest.ensures.is c.args.bytes.now,
+    placed_tokens c.args.input.bytes.now c.in_ok-rest.rest.now,
+    c.in_ok-rest.ensures.is c.args.input.bytes.now,
     c.in_ok-value.ensures.is,
   ),
 )
@@ -23,17 +23,17 @@ pub returns-in_err-rest-clause-halts : goal.returns-in_err-rest-clause-halts
 returns-in_err-rest-clause-halts c =
     passed _ _ _ c.from_residual-in_err-rest.ensures.1
     (and_stop _ _ _ _ _ c.in_ok-name.ensures.reads
-    (front_stop _ _ _ _ (c.in_err-rest.ensures.halts c.args.bytes.now)))
+    (front_stop _ _ _ _ (c.in_err-rest.ensures.halts c.args.input.bytes.now)))
 
 pub returns-in_err-value-clause-halts : goal.returns-in_err-value-clause-halts
 returns-in_err-value-clause-halts c =
     passed _ _ _ c.from_residual-in_err-value.ensures.1
     (and_stop _ _ _ _ _ c.in_ok-name.ensures.reads
-    (and_stop _ _ _ _ _ (c.in_ok-rest.ensures.reads c.args.bytes.now refl)
+    (and_stop _ _ _ _ _ (c.in_ok-rest.ensures.reads c.args.input.bytes.now refl)
     c.in_err-value.ensures.halts))
 
 pub returns-clause-reads : goal.returns-clause-reads
 returns-clause-reads c =
     and_read _ _ _ _ _ _ c.in_ok-name.ensures.reads
-    (and_read _ _ _ _ _ _ (c.in_ok-rest.ensures.reads c.args.bytes.now refl)
+    (and_read _ _ _ _ _ _ (c.in_ok-rest.ensures.reads c.args.input.bytes.now refl)
     c.in_ok-value.ensures.reads)

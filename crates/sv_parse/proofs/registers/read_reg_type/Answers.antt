@@ -3,10 +3,10 @@ use Rattle.sv_parse.proofs.registers.read_reg_type.Goals as goal
 
 pub returns-clause-is : goal.returns-clause-is
 returns-clause-is c = (
-  placed_tokens c.args.bytes.now c.is_signed-signed.result.1.now,
-  c.is_signed-signed.ensures.is c.args.bytes.now,
+  placed_tokens c.args.input.bytes.now c.is_signed-signed.result.1.now,
+  c.is_signed-signed.ensures.is c.args.input.bytes.now,
   (
-    placed_tokens c.args.bytes.now c.in_ok-span.rest.now,
+    placed_tokens c.args.input.bytes.now c.in_ok-span.rest.now,
     c.in_ok-span.ensures.is,
     c.in_ok-label.ensures.is,
   ),

@@ -16,20 +16,20 @@ use Rattle.sv_parse.proofs.registers.read_registers.Goals as goal
 pub returns-in_err-_place-clause-halts : goal.returns-in_err-_place-clause-halts
 returns-in_err-_place-clause-halts c =
     λ next. passed _ _ _ c.from_residual.ensures.1
-    (stops_never c.args.bytes.now c.args.tokens.now _ words.Reg _ next
-    (c.in_err-_place.ensures.stops c.args.bytes.now))
+    (stops_never c.args.input.bytes.now c.args.input.rest.now _ words.Reg _ next
+    (c.in_err-_place.ensures.stops c.args.input.bytes.now))
 
 pub returns-in_err-memory-clause-halts : goal.returns-in_err-memory-clause-halts
 returns-in_err-memory-clause-halts c =
     λ next. passed _ _ _ c.from_residual-in_err-memory.ensures.1
     (stops_then _ _ _ _ _
     (reg_begun c.in_ok-of.of.label memory_end _ _ _ _
-    (c.in_ok-_place._place, c.in_ok-_place.ensures.is c.args.bytes.now)
+    (c.in_ok-_place._place, c.in_ok-_place.ensures.is c.args.input.bytes.now)
     c.in_ok-of.ensures.reads c.in_ok-name.ensures.reads
-    (c.is_memory.ensures.words c.args.bytes.now c.if-is_memory.true))
+    (c.is_memory.ensures.words c.args.input.bytes.now c.if-is_memory.true))
     (stops_before (outside_on memory_bounds)
     (outer (punctuation signs.Semicolon) ∷ outer items ∷ []) _ _
-    (c.in_err-memory.ensures.halts c.args.bytes.now)))
+    (c.in_err-memory.ensures.halts c.args.input.bytes.now)))
 
 pub returns-then-is_memory-clause-is : goal.returns-then-is_memory-clause-is
 returns-then-is_memory-clause-is c =
@@ -37,10 +37,10 @@ returns-then-is_memory-clause-is c =
       memory_tree c.in_ok-memory.memory ∷ [],
       ap (map item_tree) c.in_ok-items.ensures,
       memory_is _ _ c.in_ok-of.of.label _ _ _ _ _ _ _ _
-          (c.in_ok-_place._place, c.in_ok-_place.ensures.is c.args.bytes.now)
+          (c.in_ok-_place._place, c.in_ok-_place.ensures.is c.args.input.bytes.now)
           c.in_ok-of.ensures.is c.in_ok-name.ensures.is
           (c.is_memory.ensures.memory c.if-is_memory.true)
-          (c.in_ok-memory.ensures.is c.args.bytes.now),
+          (c.in_ok-memory.ensures.is c.args.input.bytes.now),
     )
 
 pub returns-in_err-decls-clause-halts : goal.returns-in_err-decls-clause-halts
@@ -48,9 +48,9 @@ returns-in_err-decls-clause-halts c =
     λ next. passed _ _ _ c.from_residual-in_err-decls.ensures.1
     (stops_then _ _ _ _ _
     (reg_begun c.in_ok-of.of.label (more_names signs.Semicolon ∷ []) _ _ _ _
-    (c.in_ok-_place._place, c.in_ok-_place.ensures.is c.args.bytes.now)
+    (c.in_ok-_place._place, c.in_ok-_place.ensures.is c.args.input.bytes.now)
     c.in_ok-of.ensures.reads c.in_ok-name.ensures.reads
-    (c.is_memory.ensures.names c.args.bytes.now c.if-is_memory.false))
+    (c.is_memory.ensures.names c.args.input.bytes.now c.if-is_memory.false))
     (stops_before (outer (more_names signs.Semicolon) ∷ []) (outer items ∷ []) _ _
     (c.in_err-decls.ensures.halts (outer (more_names signs.Semicolon) ∷ []) registers_go_on)))
 
@@ -61,7 +61,7 @@ returns-clause-is c =
       c.in_ok-items-2.ensures,
       list_is _ _ _ _ _ _ _ _
           (first_register_is _ _ c.in_ok-of.of.label _ _ _ _ _ _ _ c.first_register-first.ensures
-          (c.in_ok-_place._place, c.in_ok-_place.ensures.is c.args.bytes.now)
+          (c.in_ok-_place._place, c.in_ok-_place.ensures.is c.args.input.bytes.now)
           c.in_ok-of.ensures.is c.in_ok-name.ensures.is
           (c.is_memory.ensures.signal c.if-is_memory.false))
           c.in_ok-decls.ensures.is,
@@ -71,9 +71,9 @@ pub returns-clause-reads : goal.returns-clause-reads
 returns-clause-reads c =
     λ next. reads_then _ _ _ _ _ _
     (reg_begun c.in_ok-of.of.label (more_names signs.Semicolon ∷ []) _ _ _ _
-    (c.in_ok-_place._place, c.in_ok-_place.ensures.is c.args.bytes.now)
+    (c.in_ok-_place._place, c.in_ok-_place.ensures.is c.args.input.bytes.now)
     c.in_ok-of.ensures.reads c.in_ok-name.ensures.reads
-    (c.is_memory.ensures.names c.args.bytes.now c.if-is_memory.false))
+    (c.is_memory.ensures.names c.args.input.bytes.now c.if-is_memory.false))
     (reads_then _ _ _ _ _ _
     (reads_before (outer (more_names signs.Semicolon) ∷ [])
     (outer (more_names signs.Semicolon) ∷ []) (outer items ∷ []) _ _

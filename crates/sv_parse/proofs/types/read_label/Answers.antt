@@ -12,16 +12,16 @@ returns-in_err-label-in-Some-clause-halts c =
     passed _ _ _ c.from_residual.ensures.1
     (stops_then _ _ _ _ _
     (sign_taken perhaps_label signs.OpenBrace (plain_name ∷ label_end ∷ []) _ _ refl
-    (c.in-Some.ensures.is c.args.bytes.now))
+    (c.in-Some.ensures.is c.args.input.bytes.now))
     (c.in_err-label-in-Some.ensures.halts))
 
 pub returns-in_ok-label-in-Some-clause-reads : goal.returns-in_ok-label-in-Some-clause-reads
 returns-in_ok-label-in-Some-clause-reads c =
     reads_then _ _ _ _ _ _
     (sign_taken perhaps_label signs.OpenBrace (plain_name ∷ label_end ∷ []) _ _ refl
-    (c.in-Some.ensures.is c.args.bytes.now))
+    (c.in-Some.ensures.is c.args.input.bytes.now))
     (c.in_ok-label-in-Some.ensures.reads)
 
 pub returns-in_ok-label-in-Some-clause-is : goal.returns-in_ok-label-in-Some-clause-is
 returns-in_ok-label-in-Some-clause-is c =
-    label_is _ _ _ _ (c.in-Some.ensures.is c.args.bytes.now) c.in_ok-label-in-Some.ensures.is
+    label_is _ _ _ _ (c.in-Some.ensures.is c.args.input.bytes.now) c.in_ok-label-in-Some.ensures.is

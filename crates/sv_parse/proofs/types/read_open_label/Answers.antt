@@ -12,15 +12,15 @@ use Rattle.sv_parse.proofs.types.read_open_label.Goals as goal
 
 pub returns-clause-is : goal.returns-clause-is
 returns-clause-is c = (
-  placed_tokens c.args.bytes.now c.in_ok-name.rest.now,
+  placed_tokens c.args.input.bytes.now c.in_ok-name.rest.now,
   c.in_ok-name.ensures.is,
-  c.in_ok-rest.ensures.is c.args.bytes.now,
+  c.in_ok-rest.ensures.is c.args.input.bytes.now,
 )
 
 pub returns-in-Some-clause-is : goal.returns-in-Some-clause-is
 returns-in-Some-clause-is c =
-    open_label_is _ _ _ _ _ _ _ c.in_ok-name.ensures.is (c.in-Some.ensures.is c.args.bytes.now)
-    c.in_ok-label.ensures.is
+    open_label_is _ _ _ _ _ _ _ c.in_ok-name.ensures.is
+    (c.in-Some.ensures.is c.args.input.bytes.now) c.in_ok-label.ensures.is
 
 pub returns-in_err-label-clause-halts : goal.returns-in_err-label-clause-halts
 returns-in_err-label-clause-halts c =
@@ -28,7 +28,7 @@ returns-in_err-label-clause-halts c =
     (and_stop _ _ _ _ _ c.in_ok-name.ensures.reads
     (stops_then _ _ _ _ _
     (sign_taken label_end signs.OpenParenthesis table_end _ _ refl
-    (c.in-Some.ensures.is c.args.bytes.now))
+    (c.in-Some.ensures.is c.args.input.bytes.now))
     (c.in_err-label.ensures.halts)))
 
 pub returns-in-Some-clause-reads : goal.returns-in-Some-clause-reads
@@ -36,13 +36,13 @@ returns-in-Some-clause-reads c =
     and_read _ _ _ _ _ _ c.in_ok-name.ensures.reads
     (reads_then _ _ _ _ _ _
     (sign_taken label_end signs.OpenParenthesis table_end _ _ refl
-    (c.in-Some.ensures.is c.args.bytes.now))
+    (c.in-Some.ensures.is c.args.input.bytes.now))
     (c.in_ok-label.ensures.reads))
 
 pub returns-in_err-rest-clause-halts : goal.returns-in_err-rest-clause-halts
 returns-in_err-rest-clause-halts c =
     passed _ _ _ c.from_residual-in_err-rest.ensures.1
     (and_stop _ _ _ _ _ c.in_ok-name.ensures.reads
-    (stops_by c.args.bytes.now c.in_ok-name.rest.now _ _ _ (λ no_close.
-    halts_label_end _ no_close (c.in_default.ensures.none c.args.bytes.now))
-    (c.in_err-rest.ensures.stops c.args.bytes.now)))
+    (stops_by c.args.input.bytes.now c.in_ok-name.rest.now _ _ _ (λ no_close.
+    halts_label_end _ no_close (c.in_default.ensures.none c.args.input.bytes.now))
+    (c.in_err-rest.ensures.stops c.args.input.bytes.now)))

@@ -11,7 +11,7 @@ returns-clause-is c =
     let high = c.in_ok-high.ensures.is in (
       high.0,
       high.1,
-      (placed_tokens c.args.bytes.now c.in_ok-high.rest.now, high.2, c.in_ok-low.ensures.is),
+      (placed_tokens c.args.input.bytes.now c.in_ok-high.rest.now, high.2, c.in_ok-low.ensures.is),
     )
 
 pub returns-in_err-high-clause-halts : goal.returns-in_err-high-clause-halts

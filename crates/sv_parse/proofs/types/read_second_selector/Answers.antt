@@ -12,20 +12,20 @@ returns-in_err-name-in-Some-clause-halts c =
     passed _ _ _ c.from_residual.ensures.1
     (stops_then _ _ _ _ _
     (sign_taken perhaps_second_name signs.Comma (plain_name ∷ []) _ _ refl
-    (c.in-Some.ensures.is c.args.bytes.now))
+    (c.in-Some.ensures.is c.args.input.bytes.now))
     (c.in_err-name-in-Some.ensures.halts))
 
 pub returns-in_ok-name-in-Some-clause-reads : goal.returns-in_ok-name-in-Some-clause-reads
 returns-in_ok-name-in-Some-clause-reads c =
     reads_then _ _ _ _ _ _
     (sign_taken perhaps_second_name signs.Comma (plain_name ∷ []) _ _ refl
-    (c.in-Some.ensures.is c.args.bytes.now))
+    (c.in-Some.ensures.is c.args.input.bytes.now))
     (c.in_ok-name-in-Some.ensures.reads)
 
 pub returns-in_ok-name-in-Some-clause-is : goal.returns-in_ok-name-in-Some-clause-is
 returns-in_ok-name-in-Some-clause-is c = (
-  placed_tokens c.args.bytes.now c.in-Some.rest.now,
+  placed_tokens c.args.input.bytes.now c.in-Some.rest.now,
   c.in-Some.ensures.is
-      c.args.bytes.now,
+      c.args.input.bytes.now,
   (c.in_ok-name-in-Some._at, c.in_ok-name-in-Some.ensures.is),
 )

@@ -13,16 +13,16 @@ returns-in_err-span-in-Some-clause-halts c =
     passed _ _ _ c.from_residual.ensures.1
     (stops_then _ _ _ _ _
     (sign_taken perhaps_range signs.OpenBracket value_range _ _ refl
-    (c.in-Some.ensures.is c.args.bytes.now))
+    (c.in-Some.ensures.is c.args.input.bytes.now))
     (c.in_err-span-in-Some.ensures.halts))
 
 pub returns-in_ok-span-in-Some-clause-reads : goal.returns-in_ok-span-in-Some-clause-reads
 returns-in_ok-span-in-Some-clause-reads c =
     reads_then _ _ _ _ _ _
     (sign_taken perhaps_range signs.OpenBracket value_range _ _ refl
-    (c.in-Some.ensures.is c.args.bytes.now))
+    (c.in-Some.ensures.is c.args.input.bytes.now))
     (c.in_ok-span-in-Some.ensures.reads)
 
 pub returns-in_ok-span-in-Some-clause-is : goal.returns-in_ok-span-in-Some-clause-is
 returns-in_ok-span-in-Some-clause-is c =
-    range_is _ _ _ _ (c.in-Some.ensures.is c.args.bytes.now) c.in_ok-span-in-Some.ensures.is
+    range_is _ _ _ _ (c.in-Some.ensures.is c.args.input.bytes.now) c.in_ok-span-in-Some.ensures.is

@@ -8,16 +8,16 @@ pub returns-clause-is : goal.returns-clause-is
 returns-clause-is c = (
   (refl, refl),
   (
-    placed_tokens c.args.bytes.now c.in_ok-first.rest.now,
+    placed_tokens c.args.input.bytes.now c.in_ok-first.rest.now,
     (c.in_ok-first._at, c.in_ok-first.ensures.is),
     (
-      placed_tokens c.args.bytes.now c.in_ok-second.rest.now,
+      placed_tokens c.args.input.bytes.now c.in_ok-second.rest.now,
       c.in_ok-second.ensures.is,
       (
-        placed_tokens c.args.bytes.now c.in_ok-rest.rest.now,
+        placed_tokens c.args.input.bytes.now c.in_ok-rest.rest.now,
         c.in_ok-rest.ensures.is
-            c.args.bytes.now,
-        c.in_ok-rest-2.ensures.is c.args.bytes.now,
+            c.args.input.bytes.now,
+        c.in_ok-rest-2.ensures.is c.args.input.bytes.now,
       ),
     ),
   ),
@@ -28,12 +28,12 @@ returns-in_err-rest-clause-halts c =
     passed _ _ _ c.from_residual-in_err-rest.ensures.1
     (and_stop _ _ _ _ _ c.in_ok-first.ensures.reads
     (and_stop _ _ _ _ _ c.in_ok-second.ensures.reads
-    (front_stop _ _ _ _ (c.in_err-rest.ensures.halts c.args.bytes.now))))
+    (front_stop _ _ _ _ (c.in_err-rest.ensures.halts c.args.input.bytes.now))))
 
 pub returns-in_err-rest-2-clause-halts : goal.returns-in_err-rest-2-clause-halts
 returns-in_err-rest-2-clause-halts c =
     passed _ _ _ c.from_residual-in_err-rest-2.ensures.1
     (and_stop _ _ _ _ _ c.in_ok-first.ensures.reads
     (and_stop _ _ _ _ _ c.in_ok-second.ensures.reads
-    (and_stop _ _ _ _ _ (c.in_ok-rest.ensures.reads c.args.bytes.now refl)
-    (c.in_err-rest-2.ensures.halts c.args.bytes.now))))
+    (and_stop _ _ _ _ _ (c.in_ok-rest.ensures.reads c.args.input.bytes.now refl)
+    (c.in_err-rest-2.ensures.halts c.args.input.bytes.now))))

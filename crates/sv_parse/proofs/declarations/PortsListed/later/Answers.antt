@@ -6,7 +6,7 @@ use Rattle.sv_parse.proofs.declarations.PortsListed.later.Goals as goal
 
 pub returns-in-Some-clause-is : goal.returns-in-Some-clause-is
 returns-in-Some-clause-is c =
-    inl (port_is c.in-Some.kind _ _ _ _ (c.in-Some.ensures.is c.args.bytes.now)
+    inl (port_is c.in-Some.kind _ _ _ _ (c.in-Some.ensures.is c.args.input.bytes.now)
     c.in_ok-port.ensures.is)
 
 pub returns-clause-is : goal.returns-clause-is
@@ -16,6 +16,6 @@ returns-clause-is c =
 pub returns-in_err-alike-clause-halts : goal.returns-in_err-alike-clause-halts
 returns-in_err-alike-clause-halts c =
     passed _ _ _ c.from_residual-in_err-alike.ensures.1
-    (let none = c.in_default.ensures.none c.args.bytes.now in
+    (let none = c.in_default.ensures.none c.args.input.bytes.now in
     stops_then _ _ _ _ _ (later_port_alike _ none.0 none.1)
     (c.in_err-alike.ensures.halts))

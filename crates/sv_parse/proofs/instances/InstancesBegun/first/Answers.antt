@@ -1,18 +1,19 @@
 use Rattle.sv_ast.specs.Views.{override_trees, instance_tree}
 use Rattle.sv_parse.proofs.ReadingInstances.{instance_is}
 use Rattle.sv_token.specs.Lexemes.{placed_tokens}
+use Rattle.sv_parse_expr.specs.Parses.{placed}
 use Rattle.sv_parse_expr.proofs.Halting.{passed}
 use Rattle.sv_parse.proofs.DeclarationRuns.{and_read, and_stop, front_stop}
-use Rattle.sv_parse.proofs.instances.InstancesListed.first.Goals as goal
+use Rattle.sv_parse.proofs.instances.InstancesBegun.first.Goals as goal
 
 pub returns-clause-is : goal.returns-clause-is
 returns-clause-is c =
     instance_is c.in_ok-module.module c.in_ok-module.place
     (override_trees c.in_ok-overrides.overrides) (instance_tree c.in_ok-instance.instance)
-    (placed_tokens c.args.bytes.now c.args.tokens.now)
-    (placed_tokens c.args.bytes.now c.in_ok-module.rest.now)
-    (placed_tokens c.args.bytes.now c.in_ok-overrides.rest.now)
-    (placed_tokens c.args.bytes.now c.in_ok-instance.rest.now) c.in_ok-module.ensures.is
+    (placed c.args.input)
+    (placed_tokens c.args.input.bytes.now c.in_ok-module.rest.now)
+    (placed_tokens c.args.input.bytes.now c.in_ok-overrides.rest.now)
+    (placed_tokens c.args.input.bytes.now c.in_ok-instance.rest.now) c.in_ok-module.ensures.is
     c.in_ok-overrides.ensures.is c.in_ok-instance.ensures.is
 
 pub returns-in_err-module-clause-halts : goal.returns-in_err-module-clause-halts

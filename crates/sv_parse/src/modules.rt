@@ -159,8 +159,7 @@ fn read_module<'a>(alloc: Global, input: Input<'a>) -> Read<'a, Module>
 // The modules that the tokens are, at least one.
 fn modules(alloc: Global, input: Input) -> Result<Vec<Module>, Stop>
     ensures are { IfOk result (λ modules.
-        some (IsModule all_limits) (map module_tree modules.items)
-        (placed input.entry) []) }
+        some (IsModule all_limits) (map module_tree modules.items) (placed input.entry) []) }
     ensures fails { IfErr result (λ e. FailsAs (outer one_module ∷ []) (placed input.entry) e) }
 {
     let mut modules = Vec::new(alloc);

@@ -38,8 +38,7 @@ fn read_param_type<'a>(
     input: Input<'a>,
 ) -> Result<(bool, Option<Span>, &'a [Token]), Stop>
     ensures is { IfOk result (λ x.
-        Stands (IsParameterType all_limits x.0 (option_map span_tree x.1))
-        input.entry x.2.now) }
+        Stands (IsParameterType all_limits x.0 (option_map span_tree x.1)) input.entry x.2.now) }
     ensures shorter { IfOk result (λ x. length x.2.now ≤ length input.entry.rest.now) }
     ensures reads { IfOk result (λ x. Comes (parameter_type ∷ []) [] input.entry x.2.now) }
     ensures halts { HaltsOn result input.entry (parameter_type ∷ []) }

@@ -47,8 +47,7 @@ pub fn read_closed_name<'a>(
         Stands (name_at x.0 x.1 ⨾ a_sign signs.CloseParenthesis) input.entry x.2.now) }
     ensures shorter { IfOk result (λ x. length x.2.now < length input.entry.rest.now) }
     ensures reads { IfOk result (λ x.
-        Comes (plain_name ∷ punctuation signs.CloseParenthesis ∷ []) []
-        input.entry x.2.now) }
+        Comes (plain_name ∷ punctuation signs.CloseParenthesis ∷ []) [] input.entry x.2.now) }
     ensures halts { HaltsOn result input.entry
         (plain_name ∷ punctuation signs.CloseParenthesis ∷ []) }
 {

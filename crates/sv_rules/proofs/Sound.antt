@@ -254,6 +254,13 @@ pub targets_first : (n : ℕ) (pieces : List Piece) (i : ℕ) (d : Piece) → i 
 targets_first n pieces i d inside all =
     targets_at n pieces i d inside all 0 (piece_form d) (omega arith)
 
+-- also below what is the bound
+pub target_below : {n m : ℕ} (pieces : List Piece) (i : ℕ) (d : Piece) → m ≡ n
+    → i < length pieces → AreTargets n (piece_forms (drop i pieces))
+    → (get_or pieces i d).signal.0 < m
+target_below {n} {m} pieces i d same inside all =
+    subst (λ k. (get_or pieces i d).signal.0 < k) (sym same) (targets_first n pieces i d inside all)
+
 pub targets_rest : (n : ℕ) (pieces : List Piece) (i : ℕ) (d : Piece) → i < length pieces
     → AreTargets n (piece_forms (drop i pieces))
     → AreTargets n (piece_forms (drop (i + 1) pieces))

@@ -89,6 +89,13 @@ slice_assigns s (branch place condition x y) =
     by_test true is = is
     by_test false is = refl
 
+-- a slice means what the whole statement means, whether that stands in it or not
+kept_or_none : {Y : Type 0} (means : FlatStatement → Y) (kept whole : FlatStatement) (c : Bool)
+    → (c ≡ true → means kept ≡ means whole) → (c ≡ false → means nothing ≡ means whole)
+    → means (cond c kept nothing) ≡ means whole
+kept_or_none means kept whole true stands gone = stands refl
+kept_or_none means kept whole false stands gone = gone refl
+
 -- ---- meanings
 
 -- a meaning of statements, as changes of a state, in which a branch comes to what its arms come to
@@ -110,29 +117,16 @@ module _ (s : ℕ) {X : Type 0} (means : FlatStatement → X → X) (passes : Pa
       ∙ ap (means b) (sliced_means a x)
       ∙ sym (passes.chain a b x)
   sliced_means (assign pieces place blocking right) x =
-      by_test (assigns (assign pieces place blocking right) s) refl
-    where
-      by_test : (b : Bool) → assigns (assign pieces place blocking right) s ≡ b
-          → means (cond b (assign pieces place blocking right) nothing) x
-          ≡ means (assign pieces place blocking right) x
-      by_test true is = refl
-      by_test false is =
-          passes.others nothing refl x
-          ∙ sym (passes.others (assign pieces place blocking right) is x)
+      let whole = assign pieces place blocking right in
+      kept_or_none (λ z. means z x) whole whole (assigns whole s) (λ is. refl)
+      (λ none. passes.others nothing refl x ∙ sym (passes.others whole none x))
   sliced_means (branch place condition a b) x =
-      by_test (λ y. sliced_means a y) (λ y. sliced_means b y) (assigns a s || assigns b s) refl
-    where
-      by_test : ((y : X) → means (sliced s a) y ≡ means a y)
-          → ((y : X) → means (sliced s b) y ≡ means b y)
-          → (c : Bool) → (assigns a s || assigns b s) ≡ c
-          → means (cond c (branch place condition (sliced s a) (sliced s b)) nothing) x
-          ≡ means (branch place condition a b) x
-      by_test one two true is =
-          passes.arms place condition (sliced s a) (sliced s b) a b (slice_assigns s a)
-          (slice_assigns s b) one two x
-      by_test one two false is =
-          passes.others nothing refl x
-          ∙ sym (passes.others (branch place condition a b) is x)
+      let whole = branch place condition a b in
+      kept_or_none (λ z. means z x) (branch place condition (sliced s a) (sliced s b)) whole
+      (assigns a s || assigns b s)
+      (λ is. passes.arms place condition (sliced s a) (sliced s b) a b (slice_assigns s a)
+      (slice_assigns s b) (λ y. sliced_means a y) (λ y. sliced_means b y) x)
+      (λ none. passes.others nothing refl x ∙ sym (passes.others whole none x))
 
   pub sequence_means : (a b : FlatStatement) (x : X) → means (in_sequence a b) x
       ≡ means b (means a x)
@@ -211,25 +205,16 @@ module _ (signals : List SignalForm) (s : ℕ) where
       ap (flat_map (routes (sliced s a))) (sliced_routes b r)
       ∙ flat_alike (routes (sliced s a)) (routes a) (λ y. sliced_routes a y) (routes b r)
   sliced_routes (assign pieces place blocking right) r =
-      by_test (assigns (assign pieces place blocking right) s) refl
-    where
-      by_test : (b : Bool) → assigns (assign pieces place blocking right) s ≡ b
-          → routes (cond b (assign pieces place blocking right) nothing) r
-          ≡ routes (assign pieces place blocking right) r
-      by_test true is = refl
-      by_test false is = sym (stays signals s (assign pieces place blocking right) is r)
+      let whole = assign pieces place blocking right in
+      kept_or_none (λ z. routes z r) whole whole (assigns whole s) (λ is. refl)
+      (λ none. sym (stays signals s whole none r))
   sliced_routes (branch place condition a b) r =
-      by_test (λ y. sliced_routes a y) (λ y. sliced_routes b y) (assigns a s || assigns b s) refl
-    where
-      by_test : ((y : RouteForm) → routes (sliced s a) y ≡ routes a y)
-          → ((y : RouteForm) → routes (sliced s b) y ≡ routes b y)
-          → (c : Bool) → (assigns a s || assigns b s) ≡ c
-          → routes (cond c (branch place condition (sliced s a) (sliced s b)) nothing) r
-          ≡ routes (branch place condition a b) r
-      by_test one two true is =
-          same_arms place condition (sliced s a) (sliced s b) a b (slice_assigns s a)
-          (slice_assigns s b) one two r
-      by_test one two false is = sym (stays signals s (branch place condition a b) is r)
+      let whole = branch place condition a b in
+      kept_or_none (λ z. routes z r) (branch place condition (sliced s a) (sliced s b)) whole
+      (assigns a s || assigns b s)
+      (λ is. same_arms place condition (sliced s a) (sliced s b) a b (slice_assigns s a)
+      (slice_assigns s b) (λ y. sliced_routes a y) (λ y. sliced_routes b y) r)
+      (λ none. sym (stays signals s whole none r))
 
   sequence_routes : (a b : FlatStatement) (r : RouteForm)
       → routes (in_sequence a b) r ≡ flat_map (routes a) (routes b r)

@@ -26,7 +26,7 @@ use Rattle.sv_paths.specs.Trails.{own_pieces, own_times, times_put, without_cove
 use Rattle.sv_paths.specs.Trails.{with_right_put, whole_from, with_own_ways, with_own_put}
 use Rattle.sv_paths.specs.Trails.{with_assign, trails_before}
 use Rattle.sv_paths.specs.TrailViews.{trail_form, trail_forms, AddsTrails}
-use Rattle.sv_paths.proofs.WalkFacts.{flat_longer, next_longer}
+use Rattle.sv_paths.proofs.WalkFacts.{flat_longer, some_cond, some_both, over_most, next_longer}
 
 -- ---- what is not taken
 
@@ -71,18 +71,6 @@ module _ (signals : List SignalForm) (s : ℕ) where
       (trails_before signals s second (chosen false trail))) (trail ∷ [])) h
 
 -- ---- no walk ends without a trail
-
-some_cond : (c : Bool) (xs ys : List TrailForm) → 1 ≤ length xs → 1 ≤ length ys →
-    1 ≤ length (cond c xs ys)
-some_cond true xs ys one two = one
-some_cond false xs ys one two = two
-
-some_both : (f g : TrailForm → TrailForm) (xs ys : List TrailForm) → 1 ≤ length xs →
-    1 ≤ length (map f xs ++ map g ys)
-some_both f g xs ys one =
-    let both = length-append (map f xs) (map g ys) in
-    let same = length-map xs f in
-    omega arith
 
 pub some_ways : (count from : ℕ) (right : TypedTree) (trail : TrailForm) →
     1 ≤ length (with_own_ways count from right trail)
@@ -262,10 +250,7 @@ arm_left f old given arm now later left marked start at some same is behind here
 
 pub one_too_many : (trails : List Trail) (trail : TrailForm) → 4096 ≤ length trails
     → 4096 < length (trail_forms trails ++ trail ∷ [])
-one_too_many trails trail full =
-    let same = length-map trails trail_form in
-    let more = length-append (trail_forms trails) (trail ∷ []) in
-    omega (arith, same, more)
+one_too_many trails trail full = over_most trail_form trails trail full
 
 -- ---- the trails before a statement, one by one
 

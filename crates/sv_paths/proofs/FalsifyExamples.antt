@@ -1,10 +1,11 @@
 -- Obligations that some values falsify, and obligations that none do.
 use Rattle.std.proofs.Common.{◌≡◌, ℕ, zero, suc, ◌+◌, ◌/◌, ◌%◌, ◌^◌, ◌*◌, ◌<◌, Bool, true, false}
 use Rattle.std.proofs.Common.{cond, not, ◌==◌, List, [], ◌∷◌, Some, None, slice_get, ⊎_elim, refl}
-use Rattle.std.proofs.Common.{sym, subst, ◌∙◌, arith}
+use Rattle.std.proofs.Common.{sym, subst, ◌∙◌, arith, Option}
 use Rattle.std.specs.Prelude.{codes, IsTrue, IsFalse}
 use Rattle.std.proofs.lemmas.Bool.{false≢true, eqb-true, eq-eqb}
 use Rattle.std.proofs.lemmas.List.Elements.{All-nil, All-cons}
+use Rattle.sv_num.specs.declared.faults.Place.{Place}
 use Rattle.sv_num.specs.declared.operators.UnOp.TheVariants as unop
 use Rattle.sv_num.specs.Vectors.{truth, is_true}
 use Rattle.sv_lattice.specs.Labels.{map_of}
@@ -38,14 +39,13 @@ same_arms false x = refl
 abbrev nxt_is : Bool → StepForm
 nxt_is truth = record { place = at 5 5; condition = named 1 (at 5 9); truth = truth }
 
+-- one of a register, with no facts
+abbrev of_register : List StepForm → Option Place → (reads : List ℕ) → (target : ℕ) → Obligation
+of_register path right reads target =
+    record { facts = []; path = path; right = right; reads = reads; goal = flow target Next }
+
 abbrev hold : Obligation
-hold = record {
-  facts = [];
-  path = nxt_is false ∷ [];
-  right = None;
-  reads = 1 ∷ 4 ∷ [];
-  goal = flow 4 Next;
-}
+hold = of_register (nxt_is false ∷ []) None (1 ∷ 4 ∷ []) 4
 
 third_is_hold : slice_get (obligations [] held_register) 2 ≡ Some hold
 third_is_hold = refl
@@ -132,31 +132,13 @@ mended_register = design
     (clocked_body ∷ [])
 
 abbrev to_owner : Obligation
-to_owner = record {
-  facts = [];
-  path = [];
-  right = Some (at 4 5);
-  reads = 1 ∷ [];
-  goal = flow 3 Next;
-}
+to_owner = of_register [] (Some (at 4 5)) (1 ∷ []) 3
 
 abbrev taken : Obligation
-taken = record {
-  facts = [];
-  path = nxt_is true ∷ [];
-  right = Some (at 5 14);
-  reads = 1 ∷ 2 ∷ [];
-  goal = flow 4 Next;
-}
+taken = of_register (nxt_is true ∷ []) (Some (at 5 14)) (1 ∷ 2 ∷ []) 4
 
 abbrev cleared : Obligation
-cleared = record {
-  facts = [];
-  path = nxt_is false ∷ [];
-  right = Some (at 6 10);
-  reads = 1 ∷ [];
-  goal = flow 4 Next;
-}
+cleared = of_register (nxt_is false ∷ []) (Some (at 6 10)) (1 ∷ []) 4
 
 -- the label of a point does not flow to the row of the owner
 abbrev StaysFrom : ℕ → ℕ → Type 0

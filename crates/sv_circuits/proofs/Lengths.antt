@@ -1,6 +1,7 @@
 -- How long the words are that circuits make.
 use Rattle.std.proofs.Common.{◌≡◌, ℕ, zero, suc, ◌+◌, ◌-◌, ◌^◌, ◌≤◌, min, Bool, ℤ}
-use Rattle.std.proofs.Common.{List, [], ◌∷◌, ◌++◌, map, take, drop, replicate, length, refl, sym, ap}
+use Rattle.std.proofs.Common.{List, [], ◌∷◌, ◌++◌, map, take, drop, replicate, length, refl, sym}
+use Rattle.std.proofs.Common.{ap}
 use Rattle.std.proofs.Common.{ap₂, ◌∙◌, arith, if◌then◌else◌, length-take, length-drop}
 use Rattle.std.specs.List.{zip}
 use Rattle.std.proofs.lemmas.Bool.{false≢true}
@@ -52,7 +53,7 @@ pub each_length : (makes : List BitMaker) (old : Formula) → length (made_in_tu
 each_length [] old = refl
 each_length (make ∷ makes) old = ap suc (each_length makes (make old).0)
 
-zip_length : (gate : ℤ → ℤ → BitMaker) (a b : Word) → length a ≡ length b →
+pub zip_length : (gate : ℤ → ℤ → BitMaker) (a b : Word) → length a ≡ length b →
     length (map (λ (bits : ℤ × ℤ). gate bits.0 bits.1) (zip a b)) ≡ length a
 zip_length gate [] [] e = refl
 zip_length gate [] (y ∷ b) e = refl

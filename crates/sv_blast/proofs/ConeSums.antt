@@ -1,7 +1,8 @@
 -- What the signals of a cone take, each by itself, is what inputs, registers and combinational
 -- signals take.
 use Rattle.std.proofs.Common.{◌≡◌, ℕ, zero, suc, ◌+◌, ◌<◌, Bool, true, false, cond, not, ◌||◌}
-use Rattle.std.proofs.Common.{◌&&◌, ◌==◌, List, [], ◌∷◌, ◌++◌, length, map, filter, get_or, refl, sym}
+use Rattle.std.proofs.Common.{◌&&◌, ◌==◌, List, [], ◌∷◌, ◌++◌, length, map, filter, get_or, refl}
+use Rattle.std.proofs.Common.{sym}
 use Rattle.std.proofs.Common.{ap, ◌∙◌, ⊎_elim, arith, lt-ltb, subst, Some, None}
 use Rattle.std.proofs.Common.{◌≢◌}
 use Rattle.std.specs.Prelude.{sum, flat_map, Contains, IsTrue, IsFalse, slice_get}
@@ -9,7 +10,6 @@ use Rattle.std.specs.List.{range_with_len}
 use Rattle.std.proofs.lemmas.Bool.{false≢true, eqb-true}
 use Rattle.std.proofs.lemmas.List.{get_or_default}
 use Rattle.std.proofs.lemmas.List.Kept.{AllPairs-filter}
-use Rattle.std.proofs.lemmas.List.FromFn.{length-range_with_len, get_or-range_with_len}
 use Rattle.sv_system.proofs.Lists.{Contains-head, Contains-later}
 use Rattle.sv_flat.specs.Design.{ProcessForm, FlatDesign}
 use Rattle.sv_flat.specs.Values.{signal_width}
@@ -37,7 +37,7 @@ use Rattle.sv_encoding.specs.GivenMeanings.{EachOnce}
 use Rattle.sv_encoding.specs.Sizes.{widths_of, signal_size, signals_size, truth_size, label_size}
 use Rattle.sv_encoding.specs.Sizes.{label_of_signal, target_size, violation_size, encoding_size}
 use Rattle.sv_encoding_laws.proofs.GateCounts.{mapped_more}
-use Rattle.sv_encoding_laws.proofs.Places.{once_rest, once_head, cones_once}
+use Rattle.sv_encoding_laws.proofs.Places.{once_rest, once_head, cones_once, range_from}
 use Rattle.sv_encoding_laws.proofs.QueryCones.{now_is_cone, next_is_cone, now_seen}
 use Rattle.sv_encoding_laws.proofs.QueryCones.{next_seen, from_flat_map}
 use Rattle.sv_encoding_laws.proofs.ConeFacts.{seen_below}
@@ -65,13 +65,6 @@ once_join (x ∷ xs) ys one other apart =
     (Contains-either xs ys x at))
     (once_join xs ys (once_rest x xs one) other
     (λ k at. apart k (Contains-later x xs k at)))
-
-range_from : (a n : ℕ) → EachOnce (range_with_len a n)
-range_from a n i j d less inside same =
-    let below : j < n = subst (λ k. j < k) (length-range_with_len a n) inside in
-    let first = get_or-range_with_len a n i d (omega (arith, less, below)) in
-    let second = get_or-range_with_len a n j d below in
-    omega (arith, less, sym first ∙ same ∙ second)
 
 module _ (design : FlatDesign) where
   abbrev at_depth : ℕ → List ℕ

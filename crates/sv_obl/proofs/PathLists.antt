@@ -8,7 +8,8 @@ use Rattle.std.proofs.lemmas.Bool.{false≢true}
 use Rattle.std.proofs.lemmas.List.Concat.{flat_map-append}
 use Rattle.sv_system.proofs.Lists.{Contains-nil, Contains-cases, Contains-head, Contains-later}
 use Rattle.sv_flat.proofs.Depths.{first_of, second_of}
-use Rattle.sv_flat.proofs.SameRuns.{or_none_left, or_none_right}
+use Rattle.sv_flat.proofs.LeastSets.{some_from, from_some}
+use Rattle.sv_flat.proofs.SameRuns.{or_none_left, or_none_right, none_found}
 use Rattle.sv_flat.proofs.Members.{Contains-left, Contains-right, Contains-either}
 
 -- ---- tests
@@ -130,6 +131,14 @@ module _ {X Y : Type 0} (f : X → List Y) where
       (λ later. let found = from_flat_map xs y later in
       (found.0, Contains-later x xs found.0 found.1, found.2))
       (Contains-either (f x) (flat_map f xs) y at)
+
+-- where no element passes a test, none passes one that asks for as much
+pub none_of : {X : Type 0} (f g : X → Bool) (xs : List X) → ((x : X) → IsTrue (f x) → IsTrue (g x))
+    → IsFalse (list_any g xs) → IsFalse (list_any f xs)
+none_of f g xs each none =
+    none_found (list_any f xs) (λ some.
+    let found = from_some f xs some in
+    false≢true (sym none ∙ some_from g xs found.0 found.1 (each found.0 found.2)))
 
 -- ---- two lists, element by element
 

@@ -1,7 +1,6 @@
 -- The words of all followed signals, statement by statement: what a statement leaves, what a branch
 -- comes to, and that the words of pieces stand.
-use Rattle.std.proofs.Common.{◌≡◌, ℕ, zero, suc, ◌+◌, ◌<◌, ◌≤◌, ◌==◌, ℤ, Bool, true, false, cond}
-use Rattle.std.proofs.Common.{List}
+use Rattle.std.proofs.Common.{◌≡◌, ℕ, zero, suc, ◌+◌, ◌<◌, ◌≤◌, ◌==◌, ℤ, Bool, true, false, cond, List}
 use Rattle.std.proofs.Common.{[], ◌∷◌, map, fold, drop, filter, refl, sym, ap, subst, ◌∙◌}
 use Rattle.std.proofs.Common.{⊎_elim, arith}
 use Rattle.std.specs.Prelude.{Contains, IsTrue, IsFalse}

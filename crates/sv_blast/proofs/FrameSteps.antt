@@ -37,13 +37,16 @@ module _ (design : FlatDesign) (o : Obligation) where
       ∙ ap (λ (z : Words). fresh_words design all z gates) w
       ∙ ap (λ z. fresh_words design all no_words z) g
 
+  turn_path : {ss all : List ℕ} {z y : Formula × Words} → ss ≡ all → z ≡ y →
+      settled_in_turn design ss z.1 z.0 ≡ settled_in_turn design all y.1 y.0
+  turn_path {ss} {all} {z} {y} e g =
+      ap (λ ss. settled_in_turn design ss z.1 z.0) e
+      ∙ ap (λ (w : Formula × Words). settled_in_turn design all w.1 w.0) g
+
   pub settled_path : (ss : List ℕ) (z : Formula × Words) →
       ss ≡ settled_in design (now_cone design o) → z ≡ after_given design o →
       settled_in_turn design ss z.1 z.0 ≡ after_settled design o
-  settled_path ss z e g =
-      ap (λ ss. settled_in_turn design ss z.1 z.0) e
-      ∙ ap (λ (z : Formula × Words). settled_in_turn design (settled_in design (now_cone design o))
-      z.1 z.0) g
+  settled_path ss z e g = turn_path e g
 
   pub inputs_path : (ss : List ℕ) (words : Words) (gates : Formula) →
       ss ≡ inputs_in design (next_cone design o) → words ≡ no_words →
@@ -66,10 +69,7 @@ module _ (design : FlatDesign) (o : Obligation) where
   pub next_path : (ss : List ℕ) (z : Formula × Words) →
       ss ≡ settled_in design (next_cone design o) → z ≡ after_registers design o →
       settled_in_turn design ss z.1 z.0 ≡ after_next design o
-  next_path ss z e g =
-      ap (λ ss. settled_in_turn design ss z.1 z.0) e
-      ∙ ap (λ (z : Formula × Words). settled_in_turn design (settled_in design (next_cone design o))
-      z.1 z.0) g
+  next_path ss z e g = turn_path e g
 
   -- ---- each step, where those before it are made
 

@@ -14,8 +14,7 @@ use Rattle.sv_circuits.specs.Words.{Word, BitMaker, WordMaker, ready_bit, negati
 use Rattle.sv_circuits.specs.Words.{and_chain, or_chain, xor_chain}
 use Rattle.sv_circuits.specs.Operators.{one_bit}
 use Rattle.sv_circuits.specs.Circuits.{bits_of, IsWord, IsBase, GivesBit, GivesWord}
-use Rattle.sv_circuits.proofs.Pieces.{GivesEach, values_of, each_gives, GateGives, chain_gives}
-use Rattle.sv_circuits.proofs.Pieces.{chained}
+use Rattle.sv_circuits.proofs.Pieces.{GivesEach, values_of, each_gives, GateGives, chain_gives, chained}
 
 -- exactly one of two bits
 abbrev pub differ : Bool → Bool → Bool

@@ -1,6 +1,5 @@
 -- The numbers of shifted bits.
-use Rattle.std.proofs.Common.{◌≡◌, ℕ, zero, suc, ◌+◌, ◌-◌, ◌*◌, ◌/◌, ◌%◌, ◌^◌, ◌<◌, ◌≤◌, min, Bool}
-use Rattle.std.proofs.Common.{true}
+use Rattle.std.proofs.Common.{◌≡◌, ℕ, zero, suc, ◌+◌, ◌-◌, ◌*◌, ◌/◌, ◌%◌, ◌^◌, ◌<◌, ◌≤◌, min, Bool, true}
 use Rattle.std.proofs.Common.{false, not, List, [], ◌∷◌, ◌++◌, map, drop, replicate, length, refl}
 use Rattle.std.proofs.Common.{sym, ap, ap₂, ◌∙◌, subst, arith, length-take, length-drop}
 use Rattle.std.proofs.Common.{◌⊎◌, inl, inr}
@@ -10,8 +9,7 @@ use Rattle.std.proofs.lemmas.Bool.{cases_lt}
 use Rattle.sv_num.specs.Vectors.{truth}
 use Rattle.sv_circuits.proofs.BitPieces.{joined_bits}
 use Rattle.sv_circuits.proofs.Shifts.{chosen_bit, up_bits, down_bits, shifted_bits}
-use Rattle.sv_circuits.proofs.BitNumbers.{number, number_low, zeros_number, zeros_length}
-use Rattle.sv_circuits.proofs.BitNumbers.{not_number}
+use Rattle.sv_circuits.proofs.BitNumbers.{number, number_low, zeros_number, zeros_length, not_number}
 use Rattle.sv_circuits.proofs.BitNumbers.{not_length}
 use Rattle.sv_circuits.proofs.BitMoves.{both_length, both_number, take_number, drop_number}
 

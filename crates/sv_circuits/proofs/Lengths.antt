@@ -1,7 +1,6 @@
 -- How long the words are that circuits make.
 use Rattle.std.proofs.Common.{◌≡◌, ℕ, zero, suc, ◌+◌, ◌-◌, ◌^◌, ◌≤◌, min, Bool, ℤ}
-use Rattle.std.proofs.Common.{List, [], ◌∷◌, ◌++◌, map, take, drop, replicate, length, refl, sym}
-use Rattle.std.proofs.Common.{ap}
+use Rattle.std.proofs.Common.{List, [], ◌∷◌, ◌++◌, map, take, drop, replicate, length, refl, sym, ap}
 use Rattle.std.proofs.Common.{ap₂, ◌∙◌, arith, if◌then◌else◌, length-take, length-drop}
 use Rattle.std.specs.List.{zip}
 use Rattle.std.proofs.lemmas.Bool.{false≢true}

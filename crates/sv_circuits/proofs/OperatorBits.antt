@@ -27,8 +27,7 @@ use Rattle.sv_circuits.specs.Operators.{shifted_word, moved_up}
 use Rattle.sv_circuits.specs.Operators.{moved_down, sign_fill, less_bit}
 use Rattle.sv_circuits.specs.Circuits.{bits_of, IsWord, IsBase, GivesBit, GivesWord}
 use Rattle.sv_circuits.proofs.Pieces.{base_more, chained}
-use Rattle.sv_circuits.proofs.BitPieces.{differ, joined_bits, negation_gives, one_bit_gives}
-use Rattle.sv_circuits.proofs.BitPieces.{all_gives}
+use Rattle.sv_circuits.proofs.BitPieces.{differ, joined_bits, negation_gives, one_bit_gives, all_gives}
 use Rattle.sv_circuits.proofs.BitPieces.{some_gives, odd_gives, per_bit_gives, false_is}
 use Rattle.sv_circuits.proofs.BitPieces.{false_known}
 use Rattle.sv_circuits.proofs.Sums.{sum_bits, sum_makes}

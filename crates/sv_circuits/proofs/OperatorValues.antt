@@ -1,6 +1,5 @@
 -- The circuit of each operator has the operator's value (IEEE 1364-2005, clause 5).
-use Rattle.std.proofs.Common.{◌≡◌, ℕ, suc, ◌+◌, ◌-◌, ◌*◌, ◌/◌, ◌%◌, ◌^◌, ◌<◌, ◌≤◌, Bool, true}
-use Rattle.std.proofs.Common.{false}
+use Rattle.std.proofs.Common.{◌≡◌, ℕ, suc, ◌+◌, ◌-◌, ◌*◌, ◌/◌, ◌%◌, ◌^◌, ◌<◌, ◌≤◌, Bool, true, false}
 use Rattle.std.proofs.Common.{not, ◌&&◌, ◌||◌, leb, List, [], ◌∷◌, fold}
 use Rattle.std.proofs.Common.{length, refl, sym, ap, ap₂, ◌∙◌, subst, arith}
 use Rattle.std.specs.Prelude.{slice_index_or, count_ones, int_lt}
@@ -35,8 +34,7 @@ use Rattle.sv_circuits.proofs.BitNumbers.{sum_number, difference_number, and_num
 use Rattle.sv_circuits.proofs.BitNumbers.{xor_number, xnor_number, half_of, low_of}
 use Rattle.sv_circuits.proofs.BitTests.{alike, all_number, some_number, equal_number}
 use Rattle.sv_circuits.proofs.BitMoves.{product_number}
-use Rattle.sv_circuits.proofs.BitShifts.{shifted_up_number, shifted_down_number}
-use Rattle.sv_circuits.proofs.BitShifts.{shifted_sign_number}
+use Rattle.sv_circuits.proofs.BitShifts.{shifted_up_number, shifted_down_number, shifted_sign_number}
 use Rattle.sv_circuits.proofs.BitOrder.{less_than_number, at_most}
 
 one_number : (b : Bool) → number (b ∷ []) ≡ truth b

@@ -1,7 +1,6 @@
 -- What a statement makes of words spells what it makes of values (IEEE 1364-2005, clause 9).
 use Rattle.std.proofs.Common.{◌≡◌, ℕ, ◌/◌, ◌^◌, ◌<◌, ◌≤◌, Bool, true, false, ◌||◌, ◌==◌, cond}
-use Rattle.std.proofs.Common.{ℤ, List, [], ◌∷◌, fold, drop, filter, length, refl, sym, ap, ap₂}
-use Rattle.std.proofs.Common.{subst}
+use Rattle.std.proofs.Common.{ℤ, List, [], ◌∷◌, fold, drop, filter, length, refl, sym, ap, ap₂, subst}
 use Rattle.std.proofs.Common.{◌∙◌, ◌⊎◌, inl, inr, ⊎_elim, arith}
 use Rattle.std.specs.Prelude.{Contains, IsTrue, IsFalse}
 use Rattle.std.specs.List.{list_any}

@@ -222,15 +222,26 @@ module _ (design : FlatDesign) (checked : IsChecked design) (o : Obligation)
         all_count G all es (λ x at. each x (Contains-later e es x at)) inside,
       )
 
-  pub named_inside : (t : ℕ) → Contains (named_in design (conditions_of o)) t → InCone t
-  named_inside t at =
+  -- what the conditions name, the labels of reads select by and the goal asks starts the cone
+  at_start : (t : ℕ) → Contains (named_in design (conditions_of o)
+      ++ flat_map (label_selectors design) o.reads ++ asked_now design o.goal) t → InCone t
+  at_start t at =
       let names = named_in design (conditions_of o) in
       let labels = flat_map (label_selectors design) o.reads in
-      let asked = asked_now design o.goal in
-      let registers = flat_map (reads_for design) (registers_in design later) in
       now_starts design is_sound checked.admitted o query t
-      (Contains-left (names ++ labels ++ asked) registers t
-      (Contains-left (names ++ labels) asked t (Contains-left names labels t at)))
+      (Contains-left (names ++ labels ++ asked_now design o.goal)
+      (flat_map (reads_for design) (registers_in design later)) t at)
+
+  starts_inside : (t : ℕ) → Contains (named_in design (conditions_of o)
+      ++ flat_map (label_selectors design) o.reads) t → InCone t
+  starts_inside t at =
+      at_start t (Contains-left (named_in design (conditions_of o)
+      ++ flat_map (label_selectors design) o.reads) (asked_now design o.goal) t at)
+
+  pub named_inside : (t : ℕ) → Contains (named_in design (conditions_of o)) t → InCone t
+  named_inside t at =
+      starts_inside t (Contains-left (named_in design (conditions_of o))
+      (flat_map (label_selectors design) o.reads) t at)
 
   abbrev pub conditions : List TypedTree
   conditions = map (λ (step : StepForm). step.condition) o.path
@@ -313,23 +324,13 @@ module _ (design : FlatDesign) (checked : IsChecked design) (o : Obligation)
 
   pub asked_inside : (t : ℕ) → Contains (asked_now design o.goal) t → InCone t
   asked_inside t at =
-      let names = named_in design (conditions_of o) in
-      let labels = flat_map (label_selectors design) o.reads in
-      let asked = asked_now design o.goal in
-      let registers = flat_map (reads_for design) (registers_in design later) in
-      now_starts design is_sound checked.admitted o query t
-      (Contains-left (names ++ labels ++ asked) registers t
-      (Contains-right (names ++ labels) asked t at))
+      at_start t (Contains-right (named_in design (conditions_of o)
+      ++ flat_map (label_selectors design) o.reads) (asked_now design o.goal) t at)
 
   pub labels_inside : (t : ℕ) → Contains (selectors_for design o.reads) t → InCone t
   labels_inside t at =
-      let names = named_in design (conditions_of o) in
-      let labels = flat_map (label_selectors design) o.reads in
-      let asked = asked_now design o.goal in
-      let registers = flat_map (reads_for design) (registers_in design later) in
-      now_starts design is_sound checked.admitted o query t
-      (Contains-left (names ++ labels ++ asked) registers t
-      (Contains-left (names ++ labels) asked t (Contains-right names labels t at)))
+      starts_inside t (Contains-right (named_in design (conditions_of o))
+      (flat_map (label_selectors design) o.reads) t at)
 
   pub now_word : (n : ℕ) → (s2.0).variables ≤ n → (t : ℕ) → InCone t → IsWordOf design t n (s2.1 t)
   now_word n h t held = word_more_of t (s2.0).variables n (s2.1 t) h (p2.within t held)

@@ -23,8 +23,7 @@ use Rattle.sv_flat.specs.Readings.{no_bits}
 use Rattle.sv_flat.proofs.AdmittedFacts.{body_is_sound}
 use Rattle.sv_flat.proofs.ReadSignals.{readings_signals}
 use Rattle.sv_flat.proofs.Depths.{first_of, second_of}
-use Rattle.sv_flat.proofs.LeastSets.{or_cases, some_from, from_some, in_those, those_pass}
-use Rattle.sv_flat.proofs.LeastSets.{those_below}
+use Rattle.sv_flat.proofs.LeastSets.{or_cases, some_from, from_some, in_those, those_pass, those_below}
 use Rattle.sv_flat.proofs.LeastSets.{least_set_least, least_set_closed, least_set_has, either_way}
 use Rattle.sv_flat.proofs.LeastSets.{Contains-from_holds, holds-from_Contains, Contains-from_filter}
 use Rattle.sv_flat.proofs.SameRuns.{or_none_left, or_none_right}

@@ -1,8 +1,7 @@
 -- Each gate's clauses hold exactly where its variable has the gate's value.
 use Rattle.std.proofs.Common.{IsTrue}
 use Rattle.std.proofs.Common.{◌≡◌, ◌↔◌, ℕ, suc, ◌<◌, ◌≤◌, Bool, true, false, not, ◌||◌, ◌&&◌, ℤ}
-use Rattle.std.proofs.Common.{pos, neg_ℤ, unsigned_abs, List, [], ◌∷◌, refl, sym, ap, ◌∙◌, subst}
-use Rattle.std.proofs.Common.{arith}
+use Rattle.std.proofs.Common.{pos, neg_ℤ, unsigned_abs, List, [], ◌∷◌, refl, sym, ap, ◌∙◌, subst, arith}
 use Rattle.std.proofs.Common.{if◌then◌else◌, ⊎_elim}
 use Rattle.std.specs.Bool.{beq}
 use Rattle.std.specs.Cmp.{booleans_Decides}

@@ -294,20 +294,27 @@ module _ (design : FlatDesign) (is_sound : IsTrue (sound design)) (admitted : Is
         tree_same m.result tidy.1 fine.1 (λ x named.
         or_right (steps_name q x) (names_signal design.signals q.result x) named)
 
+  both_same : (q : Path) → Origin q → (e f : Environment ℕ)
+      → ((t : ℕ) → Contains (reads_of design q) t → e t ≡ f t)
+      → (steps_hold design.signals e q.steps ≡ steps_hold design.signals f q.steps)
+      × (value design.signals e q.result ≡ value design.signals f q.result)
+  both_same q o e f same =
+      subst (λ (x : Path). ((t : ℕ) → Contains (reads_of design x) t → e t ≡ f t)
+      → (steps_hold design.signals e x.steps ≡ steps_hold design.signals f x.steps)
+      × (value design.signals e x.result ≡ value design.signals f x.result)) o.is
+      (λ agree. (
+        closed_steps_same o.unclosed o.fine o.tidy e f agree,
+        closed_result_same o.unclosed o.fine o.tidy e f agree,
+      )) same
+
   -- the path holds in both or in none
   pub steps_same : (q : Path) → Origin q → (e f : Environment ℕ)
       → ((t : ℕ) → Contains (reads_of design q) t → e t ≡ f t)
       → steps_hold design.signals e q.steps ≡ steps_hold design.signals f q.steps
-  steps_same q o e f same =
-      subst (λ (x : Path). ((t : ℕ) → Contains (reads_of design x) t → e t ≡ f t)
-      → steps_hold design.signals e x.steps ≡ steps_hold design.signals f x.steps) o.is
-      (λ agree. closed_steps_same o.unclosed o.fine o.tidy e f agree) same
+  steps_same q o e f same = (both_same q o e f same).0
 
   -- and its result has one value
   pub result_same : (q : Path) → Origin q → (e f : Environment ℕ)
       → ((t : ℕ) → Contains (reads_of design q) t → e t ≡ f t)
       → value design.signals e q.result ≡ value design.signals f q.result
-  result_same q o e f same =
-      subst (λ (x : Path). ((t : ℕ) → Contains (reads_of design x) t → e t ≡ f t)
-      → value design.signals e x.result ≡ value design.signals f x.result) o.is
-      (λ agree. closed_result_same o.unclosed o.fine o.tidy e f agree) same
+  result_same q o e f same = (both_same q o e f same).1

@@ -1,7 +1,6 @@
 -- What a trail tells of a path.
 use Rattle.std.proofs.Common.{◌≡◌, ℕ, ◌+◌, ◌<◌, Bool, true, false, cond, ◌&&◌, ◌||◌, ◌==◌, not}
-use Rattle.std.proofs.Common.{min, List, [], ◌∷◌, ◌++◌, length, map, reverse, flat_map, Option}
-use Rattle.std.proofs.Common.{Some}
+use Rattle.std.proofs.Common.{min, List, [], ◌∷◌, ◌++◌, length, map, reverse, flat_map, Option, Some}
 use Rattle.std.proofs.Common.{None, is_none, refl, sym, ap, ap₂, ◌∙◌, arith, eq-eqb, ne_eqb}
 use Rattle.std.specs.Prelude.{IsTrue, is_some, option_to_list}
 use Rattle.std.specs.List.{list_any, range_with_len, AllZip}
@@ -35,6 +34,15 @@ turned a b c = omega arith
 -- a condition as a line shows it
 abbrev pub mark_of : StepForm → StepMark
 mark_of step = record { truth = step.truth; place = step.place }
+
+-- a count that stops at 65,537 is 0 where the count is
+pub capped_zero : (k : ℕ) → (min k 65537 == 0) ≡ (k == 0)
+capped_zero k = by_test (k == 0) refl
+  where
+    by_test : (b : Bool) → (k == 0) ≡ b → (min k 65537 == 0) ≡ b
+    by_test true is = let e = eqb-true k 0 is in eq-eqb (min k 65537) 0 (omega arith)
+    by_test false is = ne_eqb (min k 65537) 0
+        (λ e. false≢true (sym is ∙ eq-eqb k 0 (omega arith)))
 
 module _ (signals : List SignalForm) (s : ℕ) where
   abbrev both : List SignalForm
@@ -136,17 +144,12 @@ module _ (signals : List SignalForm) (s : ℕ) where
   some_counted : (k : ℕ) → is_some (entry (min k 65537)) ≡ not (k == 0)
   some_counted k = by_test (k == 0) refl
     where
-      same_zero : (b : Bool) → (k == 0) ≡ b → (min k 65537 == 0) ≡ b
-      same_zero true is = let e = eqb-true k 0 is in eq-eqb (min k 65537) 0 (omega arith)
-      same_zero false is = ne_eqb (min k 65537) 0
-          (λ e. false≢true (sym is ∙ eq-eqb k 0 (omega arith)))
-
       by_test : (b : Bool) → (k == 0) ≡ b → is_some (entry (min k 65537)) ≡ not (k == 0)
       by_test true is =
-          ap (λ c. is_some (cond c None (Some (min k 65537)))) (same_zero true is)
+          ap (λ c. is_some (cond c None (Some (min k 65537)))) (capped_zero k ∙ is)
           ∙ ap not (sym is)
       by_test false is =
-          ap (λ c. is_some (cond c None (Some (min k 65537)))) (same_zero false is)
+          ap (λ c. is_some (cond c None (Some (min k 65537)))) (capped_zero k ∙ is)
           ∙ ap not (sym is)
 
   module _ (p : Path) (t : TrailForm) (tells : Tells p t) where

@@ -15,6 +15,7 @@ use Rattle.sv_flat.specs.Soundness.{is_one_to, is_signal, is_part_of, piece_fits
 use Rattle.sv_flat.specs.Soundness.{well_formed}
 use Rattle.sv_flat.specs.Soundness.{kind_sound, process_sound, map_sound, label_sound, signal_sound}
 use Rattle.sv_flat.specs.Soundness.{invariant_sound, sound}
+pub use Rattle.sv_flat.proofs.NumberedRuns.{no_piece}
 use Rattle.sv_flat.proofs.Rows.{row_chain-hidden}
 use Rattle.sv_flat.specs.Views.{flat_statement, flat_statements, chain_of, piece_form, process_form}
 use Rattle.sv_flat.specs.Views.{process_kind, design_of}
@@ -25,17 +26,6 @@ use Rattle.sv_flat.specs.declared.designs.Process.{Process}
 use Rattle.sv_flat.proofs.Depths.{first_of, second_of, from_all}
 use Rattle.sv_rules.specs.Pieces.{piece_forms}
 use Rattle.sv_rules.specs.DriverTables.{AreTargets}
-
--- what a read past the end of pieces gives
-abbrev pub no_piece : Piece
-no_piece =
-    record {
-      signal = record { 0 = 0 };
-      place = record { line = 0; column = 0 };
-      high = 0;
-      low = 0;
-      from = 0;
-    }
 
 -- the statements from a place on are the one there and those after it
 pub next_statement : (stmts : List FStmt) (i : ℕ) (stmt : FStmt) → i < length stmts

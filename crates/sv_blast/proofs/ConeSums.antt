@@ -31,6 +31,7 @@ use Rattle.sv_obl.proofs.MadeFacts.{register_driver}
 use Rattle.sv_obl.proofs.OneDriver.{one_driver_at, no_driver}
 use Rattle.sv_obl.specs.DesignQueries.{IsQueryOf}
 use Rattle.sv_obl.specs.Obligations.{Obligation}
+use Rattle.sv_obl.proofs.PathLists.{from_flat_map}
 use Rattle.sv_encoding.specs.Cones.{conditions_of, registers_in, now_cone, next_cone}
 use Rattle.sv_encoding.specs.Encoding.{inputs_in, given_in, settled_in}
 use Rattle.sv_encoding.specs.BothWays.{IsCone}
@@ -40,7 +41,7 @@ use Rattle.sv_encoding.specs.Sizes.{label_of_signal, target_size, violation_size
 use Rattle.sv_encoding_laws.proofs.GateCounts.{mapped_more}
 use Rattle.sv_encoding_laws.proofs.Places.{once_rest, once_head, cones_once, range_from}
 use Rattle.sv_encoding_laws.proofs.QueryCones.{now_is_cone, next_is_cone, now_seen}
-use Rattle.sv_encoding_laws.proofs.QueryCones.{next_seen, from_flat_map}
+use Rattle.sv_encoding_laws.proofs.QueryCones.{next_seen}
 use Rattle.sv_encoding_laws.proofs.ConeFacts.{seen_below, Seen}
 use Rattle.sv_blast.specs.ConeSizes.{now_size, next_size, now_sizes, next_sizes}
 use Rattle.sv_blast.proofs.SizeSums.{turned_sum}

@@ -1,28 +1,26 @@
 -- The words and labels that facts, conditions and the goal ask for are there.
-use Rattle.std.proofs.Common.{◌≡◌, ℕ, ◌<◌, ◌≤◌, List, [], ◌∷◌, ◌++◌, length, map, get_or, arith}
-use Rattle.std.specs.Prelude.{All, Contains, IsTrue}
+use Rattle.std.proofs.Common.{ℕ, ◌≤◌, List, [], ◌∷◌, length, arith}
+use Rattle.std.specs.Prelude.{Contains, IsTrue}
 use Rattle.std.specs.List.{list_any}
-use Rattle.std.proofs.lemmas.List.Elements.{Contains-get_or}
-use Rattle.sv_system.proofs.Lists.{Contains-head, Contains-map}
+use Rattle.sv_system.proofs.Lists.{Contains-head}
 use Rattle.sv_flat.specs.declared.designs.Flat.{Flat}
 use Rattle.sv_flat.specs.Design.{FlatDesign, TypedTree}
 use Rattle.sv_flat.specs.Soundness.{well_formed}
 use Rattle.sv_flat.specs.Readings.{names_signal}
 use Rattle.sv_flat.specs.Views.{design_of}
 use Rattle.sv_flat.proofs.LeastSets.{in_those, some_from}
-use Rattle.sv_flat.proofs.Members.{Contains-left, Contains-right, all_contained}
 use Rattle.sv_obl.specs.declared.frames.Frame.TheVariants.{Now, Next}
-use Rattle.sv_obl.specs.Paths.{StepForm}
 use Rattle.sv_obl.specs.Obligations.{Obligation, GoalForm, flow, holds as must_hold, selector}
 use Rattle.sv_obl.specs.DesignQueries.{IsExpressionOf, IsGoalOf, IsQueryOf}
 use Rattle.sv_obl.specs.Noninterference.{IsChecked}
 use Rattle.sv_encoding.specs.Cones.{label_selectors, named_in, asked_now, asked_next, conditions_of}
 use Rattle.sv_encoding.specs.Expressions.{Words}
 use Rattle.sv_encoding_laws.proofs.Chain.{s2, s5, s6, s7, s8, s9, s10, p6, p7, p8, p9, p10, InCone}
-use Rattle.sv_encoding_laws.proofs.Chain.{InLater, conditions, named_inside, now_word, next_word}
+use Rattle.sv_encoding_laws.proofs.Chain.{InLater, named_inside, now_word, next_word}
 use Rattle.sv_encoding_laws.proofs.Chain.{asked_inside, labels_inside, grows5, grows7, grows9}
 use Rattle.sv_encoding_laws.proofs.ConeFacts.{seen_below}
-use Rattle.sv_encoding_laws.proofs.QueryCones.{in_flat_map, next_starts, condition_is}
+use Rattle.sv_obl.proofs.PathLists.{in_flat_map}
+use Rattle.sv_encoding_laws.proofs.QueryCones.{next_starts, condition_is}
 use Rattle.sv_blast.specs.Goals.{IsTargetReady, IsHeldReady}
 use Rattle.sv_blast.specs.WordTables.{StandsOf, StandFor}
 

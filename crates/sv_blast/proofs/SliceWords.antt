@@ -253,26 +253,21 @@ module _ (design : FlatDesign) (is : IsDesign design) (s : ℕ)
     pub kind : is_clocked process.kind ≡ is_register design s
     pub alone : drivers (processes_of design) s ≡ process ∷ []
 
+  has_driver : (p : ProcessForm) → Contains (processes_of design) p → IsTrue (assigns p.body s) →
+      is_clocked p.kind ≡ is_register design s → drivers (processes_of design) s ≡ p ∷ [] →
+      HasDriver
+  has_driver p at own kind alone =
+      record { process = p; at = at; own = own; kind = kind; alone = alone }
+
   pub driver : HasDriver
   driver = ⊎_elim
       (λ register.
       let found = register_driver design is.is_sound is.is_admitted s register in
-      record {
-        process = found.0;
-        at = found.1;
-        own = found.3;
-        kind = found.2 ∙ sym register;
-        alone = found.4;
-      })
+      has_driver found.0 found.1 found.3 (found.2 ∙ sym register) found.4)
       (λ comb.
       let found = combinational_driver design is.is_sound is.is_admitted s comb in
-      record {
-        process = found.0;
-        at = found.1;
-        own = found.3;
-        kind = found.2 ∙ sym (parts_of design is.is_sound is.is_admitted s comb).2;
-        alone = found.4;
-      })
+      has_driver found.0 found.1 found.3
+      (found.2 ∙ sym (parts_of design is.is_sound is.is_admitted s comb).2) found.4)
       (or_cases (is_register design s) (is_combinational design s) driven)
 
   is_known : IsTrue (is_signal design.signals s)

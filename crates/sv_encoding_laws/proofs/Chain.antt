@@ -55,7 +55,8 @@ use Rattle.sv_encoding_laws.proofs.GivenWords.{words_are_free}
 use Rattle.sv_encoding_laws.proofs.LabelWords.{literals_more, label_says_point, labels_say_points}
 use Rattle.sv_encoding_laws.proofs.NamedValues.{named_from_reads}
 use Rattle.sv_encoding_laws.proofs.QueryCones.{now_is_cone, next_is_cone, now_starts, next_starts}
-use Rattle.sv_encoding_laws.proofs.QueryCones.{in_flat_map, condition_is, read_signal_known}
+use Rattle.sv_obl.proofs.PathLists.{in_flat_map}
+use Rattle.sv_encoding_laws.proofs.QueryCones.{condition_is, read_signal_known}
 use Rattle.sv_encoding_laws.proofs.Settling.{words_spell_settled_values, words_spell_next_values}
 use Rattle.sv_encoding_laws.proofs.Steps.{HasWidth}
 use Rattle.sv_encoding_laws.proofs.TruthWords.{Counts, AllCount, AreLiterals, AreTruths, truths_say}

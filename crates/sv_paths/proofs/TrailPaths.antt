@@ -66,21 +66,23 @@ module _ (signals : List SignalForm) (s : ℕ) where
       (trails_before signals s first (chosen true t)))
       (map (marked_by (length signals) (mark_of (step_of place condition false)) condition)
       (trails_before signals s second (chosen false t)))
-      (zip_map (Tells signals s) (under (step_of place condition true))
-      (marked_by (length signals) (mark_of (step_of place condition true)) condition)
-      (under_tells signals s (step_of place condition true))
-      (before signals s first p) (trails_before signals s first (chosen true t))
+      (arm_tells true (before signals s first p) (trails_before signals s first (chosen true t))
       (before_tell first lone.0
       (λ k is. below k (or_left (assigns first k) (assigns second k) is)) p (chosen true t)
       (chosen_tells signals s true p t tells)))
-      (zip_map (Tells signals s) (under (step_of place condition false))
-      (marked_by (length signals) (mark_of (step_of place condition false)) condition)
-      (under_tells signals s (step_of place condition false))
-      (before signals s second p) (trails_before signals s second (chosen false t))
+      (arm_tells false (before signals s second p) (trails_before signals s second (chosen false t))
       (before_tell second lone.1
       (λ k is. below k (or_right (assigns first k) (assigns second k) is)) p (chosen false t)
       (chosen_tells signals s false p t tells)))))
     where
+      arm_tells : (truth : Bool) (ps : List Path) (ts : List TrailForm) → AllTell signals s ps ts
+          → AllTell signals s (map (under (step_of place condition truth)) ps)
+          (map (marked_by (length signals) (mark_of (step_of place condition truth)) condition) ts)
+      arm_tells truth =
+          zip_map (Tells signals s) (under (step_of place condition truth))
+          (marked_by (length signals) (mark_of (step_of place condition truth)) condition)
+          (under_tells signals s (step_of place condition truth))
+
       by_test : (c : Bool) (ps : List Path) (ts : List TrailForm) → AllTell signals s ps ts
           → AllTell signals s (cond c ps (p ∷ [])) (cond c ts (t ∷ []))
       by_test true ps ts all = all

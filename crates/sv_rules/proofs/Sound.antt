@@ -60,6 +60,21 @@ pub sound_as : (signals : List SignalForm) {stmt other : FStmt} → stmt ≡ oth
     → IsTrue (statement_sound signals (flat_statement other))
 sound_as signals is h = subst (λ z. IsTrue (statement_sound signals (flat_statement z))) is h
 
+-- the condition and the arms of a branch are sound as the branch is
+pub branch_sound : (signals : List SignalForm) (place : Place) (condition : TypedTree)
+    (first second : FlatStatement)
+    → IsTrue (statement_sound signals (branch place condition first second))
+    → IsTrue (well_formed signals condition) × IsTrue (statement_sound signals first)
+    × IsTrue (statement_sound signals second)
+branch_sound signals place condition first second h =
+    let formed = well_formed signals condition in
+    let front = first_of (formed && statement_sound signals first)
+    (statement_sound signals second) h in (
+      first_of formed (statement_sound signals first) front,
+      second_of formed (statement_sound signals first) front,
+      second_of (formed && statement_sound signals first) (statement_sound signals second) h,
+    )
+
 -- the first arm of a branch is sound as the branch is
 pub sound_arm : (signals : List SignalForm) (stmt first : FStmt) {place : Place} {cond : TypedTree}
     {yes : FStmt} {no : FlatStatement}

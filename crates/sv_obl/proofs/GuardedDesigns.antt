@@ -37,6 +37,7 @@ use Rattle.sv_obl.specs.Obligations.{path_obligation, target_obligations, select
 use Rattle.sv_obl.specs.Obligations.{selector_obligations, obligations}
 use Rattle.sv_obl.specs.PathValues.{is_true_in, Holds}
 use Rattle.sv_obl.specs.Validity.{Valuation, MeetsFacts, IsInFrame, IsValid, AllValid}
+use Rattle.sv_obl.specs.Validity.{Falsifies, GoalFails, goal_frame}
 use Rattle.sv_obl.specs.Noninterference.{IsChecked, NoninterferentUnder}
 use Rattle.sv_flat.proofs.Members.{all_contained, contained_all}
 use Rattle.sv_obl.proofs.PathLists.{same_truth, cond_true, cond_false}
@@ -49,6 +50,12 @@ use Rattle.sv_obl.proofs.TargetValues.{some_next_path}
 use Rattle.sv_flat.proofs.SelectorFacts.{label_selected, selector_is_seen, always_is_right}
 use Rattle.sv_obl.proofs.LatticeFacts.{flows_on}
 use Rattle.sv_obl.proofs.Watched.{watched, rests, meets_facts, trace_there}
+
+-- an environment that fits and is still is what its own values settle to
+pub settles_itself : (design : FlatDesign) (e : Environment ℕ) → Fits (flat_system design) e →
+    IsStill (flat_system design) e → Settled (flat_system design) e e e
+settles_itself design e fits still =
+    record { registers = λ s h. refl; inputs_are = λ s h. refl; fits = fits; still = still }
 
 -- what is not false is true
 otherwise : (b : Bool) → (IsFalse b → ⊥) → IsTrue b
@@ -298,10 +305,19 @@ module _ (facts : List TypedTree) (design : FlatDesign) (checked : IsChecked des
   abbrev this_cycle : Environment ℕ → Environment ℕ → Valuation
   this_cycle e f = record { registers = e; inputs = e; next_inputs = f }
 
-  settles_itself : (e : Environment ℕ) → Fits (flat_system design) e →
-      IsStill (flat_system design) e → Settled (flat_system design) e e e
-  settles_itself e fits still =
-      record { registers = λ s h. refl; inputs_are = λ s h. refl; fits = fits; still = still }
+  falsified : (o : Obligation) (e f : Environment ℕ) → Fits (flat_system design) e →
+      IsStill (flat_system design) e → IsInFrame design (this_cycle e f) e (goal_frame o.goal) f →
+      MeetsFacts design o.facts e → Holds design.signals e o.path →
+      GoalFails design o.reads e f o.goal → Falsifies design (this_cycle e f) o
+  falsified o e f fits still frame met path fails = record {
+    now = e;
+    there = f;
+    settled = settles_itself design e fits still;
+    in_frame = frame;
+    facts = met;
+    path = path;
+    fails = fails;
+  }
 
   path_true : (e : Environment ℕ) (s : ℕ) (k : Taken e s)
       → Holds design.signals e k.path.steps
@@ -339,15 +355,8 @@ module _ (facts : List TypedTree) (design : FlatDesign) (checked : IsChecked des
         → Contains (reads_of design k.path) t → IsTrue (flows_between t e s f)
     read_flows e f s t k fits still met frame at = otherwise (flows_between t e s f) (λ stays.
         is_valid (path_obligation facts design k.process s k.path) (among_obligations e s k)
-        (this_cycle e f) (record {
-          now = e;
-          there = f;
-          settled = settles_itself e fits still;
-          in_frame = frame;
-          facts = met;
-          path = path_true e s k;
-          fails = (t, at, stays);
-        }))
+        (this_cycle e f) (falsified (path_obligation facts design k.process s k.path) e f fits still
+        frame met (path_true e s k) (t, at, stays)))
 
     use_flows : (e : Environment ℕ) (s t : ℕ) → IsCombinational (flat_system design) s
         → Fits (flat_system design) e
@@ -408,18 +417,10 @@ module _ (facts : List TypedTree) (design : FlatDesign) (checked : IsChecked des
         (Contains-map (selector_obligation facts s)
         (filter (λ u. not (always_flows design s u)) selectors) t
         (Contains-filter (λ u. not (always_flows design s u)) selectors t at (ap not sometimes)))))
-        (this_cycle e e) (record {
-          now = e;
-          there = e;
-          settled = settles_itself e fits still;
-          in_frame = refl;
-          facts = met;
-          path =
-              contained_all (λ (step : StepForm).
-              is_true_in design.signals e step.condition ≡ step.truth) [] (λ step none.
-              absurd (Contains-nil step none));
-          fails = (t, Contains-head t [], stays);
-        })))
+        (this_cycle e e) (falsified o e e fits still refl met
+        (contained_all (λ (step : StepForm).
+        is_true_in design.signals e step.condition ≡ step.truth) [] (λ step none.
+        absurd (Contains-nil step none))) (t, Contains-head t [], stays))))
         (either_way (always_flows design s t))
 
     -- ---- the facts of the law

@@ -26,6 +26,7 @@ use Rattle.sv_obl.specs.PathValues.{is_true_in}
 use Rattle.sv_obl.specs.Obligations.{flow, selector, Obligation, obligations}
 use Rattle.sv_obl.specs.Validity.{Falsifies, IsValid, AllValid}
 use Rattle.sv_obl.proofs.ExampleDesigns.{low, high, by, maps, signal, design, whole, held_register}
+use Rattle.sv_obl.proofs.GuardedDesigns.{settles_itself}
 use Rattle.sv_paths.proofs.ListExamples.{two_selectors}
 use Rattle.sv_obl.proofs.MadeFacts.{makes_next}
 use Rattle.sv_paths.proofs.WholeExample.{table, one_bit, no_bit}
@@ -235,17 +236,12 @@ pub copied_is_falsified : Falsifies selected
 copied_is_falsified = record {
   now = ones;
   there = ones;
-  settled = record {
-    registers = λ s register. refl;
-    inputs_are = λ s input. refl;
-    fits =
-        let P = λ (s : ℕ). 1 < 2 ^ signal_width selected.signals s in
-        All-cons P 0 (1 ∷ 2 ∷ []) (omega arith) (All-cons P 1 (2 ∷ []) (omega arith)
-        (All-cons P 2 [] (omega arith) (All-nil P)));
-    still =
-        let P = λ (run : Run ℕ). (s : ℕ) → run ones s ≡ 1 in
-        All-cons P _ [] (λ s. same_arms (2 == s) 1) (All-nil P);
-  };
+  settled = settles_itself selected ones
+      (let P = λ (s : ℕ). 1 < 2 ^ signal_width selected.signals s in
+      All-cons P 0 (1 ∷ 2 ∷ []) (omega arith) (All-cons P 1 (2 ∷ []) (omega arith)
+      (All-cons P 2 [] (omega arith) (All-nil P))))
+      (let P = λ (run : Run ℕ). (s : ℕ) → run ones s ≡ 1 in
+      All-cons P _ [] (λ s. same_arms (2 == s) 1) (All-nil P));
   in_frame = refl;
   facts = All-nil (λ (fact : TypedTree). IsTrue (is_true_in selected.signals ones fact));
   path = All-nil (λ (step : StepForm).
@@ -295,17 +291,12 @@ pub secret_selector_is_falsified : Falsifies (two_selectors high)
 secret_selector_is_falsified = record {
   now = none_set;
   there = none_set;
-  settled = record {
-    registers = λ s register. refl;
-    inputs_are = λ s input. refl;
-    fits =
-        let P = λ (s : ℕ). 0 < 2 ^ signal_width (two_selectors high).signals s in
-        All-cons P 0 (1 ∷ 2 ∷ 3 ∷ []) (omega arith) (All-cons P 1 (2 ∷ 3 ∷ []) (omega arith)
-        (All-cons P 2 (3 ∷ []) (omega arith) (All-cons P 3 [] (omega arith) (All-nil P))));
-    still =
-        let P = λ (run : Run ℕ). (s : ℕ) → run none_set s ≡ 0 in
-        All-cons P _ [] (λ s. same_arms (3 == s) 0) (All-nil P);
-  };
+  settled = settles_itself (two_selectors high) none_set
+      (let P = λ (s : ℕ). 0 < 2 ^ signal_width (two_selectors high).signals s in
+      All-cons P 0 (1 ∷ 2 ∷ 3 ∷ []) (omega arith) (All-cons P 1 (2 ∷ 3 ∷ []) (omega arith)
+      (All-cons P 2 (3 ∷ []) (omega arith) (All-cons P 3 [] (omega arith) (All-nil P)))))
+      (let P = λ (run : Run ℕ). (s : ℕ) → run none_set s ≡ 0 in
+      All-cons P _ [] (λ s. same_arms (3 == s) 0) (All-nil P));
   in_frame = refl;
   facts = All-nil (λ (fact : TypedTree).
       IsTrue (is_true_in (two_selectors high).signals none_set fact));

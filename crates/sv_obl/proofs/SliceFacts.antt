@@ -41,6 +41,46 @@ same_before a b same rest =
     ∙ ap (λ (x : FlatStatement). in_sequence x rest) same
     ∙ sym (regrouped b nothing rest)
 
+-- a change of lists by statements, where that of a sequence is that of its second part first
+module _ {X : Type 0} (walk : FlatStatement → X → List X)
+    (still : (x : X) → walk nothing x ≡ x ∷ [])
+    (then_first : (a b : FlatStatement) (x : X) → walk (after a b) x ≡ flat_map (walk a) (walk b x))
+    (arms : (place : Place) (condition : TypedTree) (a b : FlatStatement)
+    → ((x : X) → walk (in_sequence a nothing) x ≡ walk a x)
+    → ((x : X) → walk (in_sequence b nothing) x ≡ walk b x) → (x : X)
+    → walk (branch place condition (in_sequence a nothing) (in_sequence b nothing)) x
+    ≡ walk (branch place condition a b) x) where
+  walk_in_sequence : (a b : FlatStatement) (x : X)
+      → walk (in_sequence a b) x ≡ flat_map (walk a) (walk b x)
+  walk_in_sequence nothing b x =
+      sym (flat_itself (walk b x))
+      ∙ flat_alike (λ y. y ∷ []) (walk nothing) (λ y. sym (still y)) (walk b x)
+  walk_in_sequence (after c d) b x =
+      walk_in_sequence c (in_sequence d b) x
+      ∙ ap (flat_map (walk c)) (walk_in_sequence d b x)
+      ∙ flat_flat (walk d) (walk c) (walk b x)
+      ∙ flat_alike (λ y. flat_map (walk c) (walk d y)) (walk (after c d))
+      (λ y. sym (then_first c d y)) (walk b x)
+  walk_in_sequence (assign pieces place blocking right) b x =
+      then_first (assign pieces place blocking right) b x
+  walk_in_sequence (branch place condition c d) b x =
+      then_first (branch place condition (in_sequence c nothing) (in_sequence d nothing)) b x
+      ∙ flat_alike (walk (branch place condition (in_sequence c nothing) (in_sequence d nothing)))
+      (walk (branch place condition c d))
+      (arms place condition c d
+      (λ y. walk_in_sequence c nothing y ∙ ap (flat_map (walk c)) (still y) ∙ append-nil (walk c y))
+      (λ y. walk_in_sequence d nothing y ∙ ap (flat_map (walk d)) (still y)
+      ∙ append-nil (walk d y))) (walk b x)
+
+  walk_alone : (a : FlatStatement) (x : X) → walk (in_sequence a nothing) x ≡ walk a x
+  walk_alone a x =
+      walk_in_sequence a nothing x ∙ ap (flat_map (walk a)) (still x) ∙ append-nil (walk a x)
+
+  -- statements of the same parts change them alike
+  pub same_parts_walked : (a b : FlatStatement) → SameParts a b → (x : X) → walk a x ≡ walk b x
+  same_parts_walked a b same x =
+      sym (walk_alone a x) ∙ ap (λ (c : FlatStatement). walk c x) same ∙ walk_alone b x
+
 pub assigns_in_sequence : (s : ℕ) (a b : FlatStatement)
     → assigns (in_sequence a b) s ≡ (assigns a s || assigns b s)
 assigns_in_sequence s nothing b = refl
@@ -216,32 +256,21 @@ module _ (signals : List SignalForm) (s : ℕ) where
       (slice_assigns s b) (λ y. sliced_routes a y) (λ y. sliced_routes b y) r)
       (λ none. sym (stays signals s whole none r))
 
-  sequence_routes : (a b : FlatStatement) (r : RouteForm)
-      → routes (in_sequence a b) r ≡ flat_map (routes a) (routes b r)
-  sequence_routes nothing b r = sym (flat_itself (routes b r))
-  sequence_routes (after c d) b r =
-      sequence_routes c (in_sequence d b) r
-      ∙ ap (flat_map (routes c)) (sequence_routes d b r)
-      ∙ flat_flat (routes d) (routes c) (routes b r)
-  sequence_routes (assign pieces place blocking right) b r = refl
-  sequence_routes (branch place condition c d) b r =
-      flat_alike
-      (routes (branch place condition (in_sequence c nothing) (in_sequence d nothing)))
-      (routes (branch place condition c d))
-      (same_arms place condition (in_sequence c nothing) (in_sequence d nothing) c d
+  arms_in_sequence : (place : Place) (condition : TypedTree) (c d : FlatStatement)
+      → ((r : RouteForm) → routes (in_sequence c nothing) r ≡ routes c r)
+      → ((r : RouteForm) → routes (in_sequence d nothing) r ≡ routes d r) → (r : RouteForm)
+      → routes (branch place condition (in_sequence c nothing) (in_sequence d nothing)) r
+      ≡ routes (branch place condition c d) r
+  arms_in_sequence place condition c d one two =
+      same_arms place condition (in_sequence c nothing) (in_sequence d nothing) c d
       (assigns_in_sequence s c nothing ∙ or_none (assigns c s))
-      (assigns_in_sequence s d nothing ∙ or_none (assigns d s))
-      (λ y. sequence_routes c nothing y ∙ append-nil (routes c y))
-      (λ y. sequence_routes d nothing y ∙ append-nil (routes d y))) (routes b r)
+      (assigns_in_sequence s d nothing ∙ or_none (assigns d s)) one two
 
   -- statements with the same slice for a target have its routes
   pub same_slice_routes : (a b : FlatStatement) → SameParts (sliced s a) (sliced s b) → (r : RouteForm)
       → routes_before signals s a r ≡ routes_before signals s b r
   same_slice_routes a b same r =
       sym (sliced_routes a r)
-      ∙ sym (append-nil (routes (sliced s a) r))
-      ∙ sym (sequence_routes (sliced s a) nothing r)
-      ∙ ap (λ (c : FlatStatement). routes c r) same
-      ∙ sequence_routes (sliced s b) nothing r
-      ∙ append-nil (routes (sliced s b) r)
+      ∙ same_parts_walked routes (λ x. refl) (λ x y z. refl) arms_in_sequence (sliced s a)
+      (sliced s b) same r
       ∙ sliced_routes b r

@@ -22,10 +22,11 @@ use Rattle.sv_flat.proofs.Depths.{first_of, second_of}
 use Rattle.sv_flat.proofs.AdmittedFacts.{body_is_sound}
 use Rattle.sv_rules.proofs.Sound.{branch_sound}
 use Rattle.sv_obl.specs.MarkedBodies.{AllSettled, IsMarkedFor}
-use Rattle.sv_obl.specs.BodySlices.{sliced, in_sequence, SameParts, first_body, driven_body}
+use Rattle.sv_obl.specs.BodySlices.{sliced, SameParts, first_body, driven_body}
 use Rattle.sv_obl.specs.Wanted.{with_copies, marked}
 use Rattle.sv_obl.proofs.MadeFacts.{follows_itself}
 use Rattle.sv_obl.proofs.PutFacts.{width_settled}
+use Rattle.sv_obl.proofs.SliceFacts.{same_parts_sized}
 use Rattle.sv_obl.proofs.TargetReads.{follows_alone}
 use Rattle.sv_obl.proofs.Unchanged.{marked_itself}
 use Rattle.sv_encoding.specs.Sizes.{expression_size, chain_size, truth_size, widths_of, statement_size}
@@ -38,26 +39,12 @@ use Rattle.sv_blast.proofs.RenamedSizes.{size_same}
 -- ---- parts in a sequence
 
 module _ (signals : List SignalForm) (width : ℕ) where
-  sequence_size : (a rest : FlatStatement) →
-      slice_size signals width (in_sequence a rest)
-      ≡ slice_size signals width a + slice_size signals width rest
-  sequence_size nothing rest = omega arith
-  sequence_size (after first second) rest =
-      sequence_size first (in_sequence second rest) ∙ omega (arith, sequence_size second rest)
-  sequence_size (assign pieces place blocking right) rest = refl
-  sequence_size (branch place condition first second) rest =
-      omega (arith, sequence_size first nothing, sequence_size second nothing)
-
   -- statements with the same parts
   pub same_parts_size : (one other : FlatStatement) → SameParts one other →
       slice_size signals width one ≡ slice_size signals width other
-  same_parts_size one other same =
-      omega (
-        arith,
-        sequence_size one nothing,
-        sequence_size other nothing,
-        ap (slice_size signals width) same,
-      )
+  same_parts_size =
+      same_parts_sized (slice_size signals width) refl (λ a b. refl)
+      (λ place condition a b first second. omega (arith, first, second))
 
 -- ---- a statement for one target
 

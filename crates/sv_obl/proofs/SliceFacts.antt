@@ -1,6 +1,7 @@
 -- A statement means for a target what its slice means.
 use Rattle.std.proofs.Common.{◌≡◌, ℕ, Bool, true, false, cond, ◌&&◌, ◌||◌, List, [], ◌∷◌, ◌++◌}
-use Rattle.std.proofs.Common.{map, flat_map, refl, sym, ap, ap₂, ◌∙◌, append-nil, ◌==◌}
+use Rattle.std.proofs.Common.{map, flat_map, refl, sym, ap, ap₂, ◌∙◌, append-nil, ◌==◌, ◌+◌}
+use Rattle.std.proofs.Common.{subst, arith}
 use Rattle.std.specs.Prelude.{IsFalse}
 use Rattle.std.specs.List.{list_any}
 use Rattle.sv_num.specs.declared.faults.Place.{Place}
@@ -80,6 +81,76 @@ module _ {X : Type 0} (walk : FlatStatement → X → List X)
   pub same_parts_walked : (a b : FlatStatement) → SameParts a b → (x : X) → walk a x ≡ walk b x
   same_parts_walked a b same x =
       sym (walk_alone a x) ∙ ap (λ (c : FlatStatement). walk c x) same ∙ walk_alone b x
+
+-- what a sequence has where both its parts have it, and so may its arms be put in sequence or not
+module _ (P : FlatStatement → Type 0) (none : P nothing)
+    (joined : (a b : FlatStatement) → P a → P b → P (after a b))
+    (parted : (a b : FlatStatement) → P (after a b) → P a × P b)
+    (arms_in : (place : Place) (condition : TypedTree) (a b : FlatStatement)
+    → (P a → P (in_sequence a nothing)) → (P b → P (in_sequence b nothing))
+    → P (branch place condition a b)
+    → P (branch place condition (in_sequence a nothing) (in_sequence b nothing)))
+    (arms_out : (place : Place) (condition : TypedTree) (a b : FlatStatement)
+    → (P (in_sequence a nothing) → P a) → (P (in_sequence b nothing) → P b)
+    → P (branch place condition (in_sequence a nothing) (in_sequence b nothing))
+    → P (branch place condition a b)) where
+  has_in_sequence : (a b : FlatStatement) → P a → P b → P (in_sequence a b)
+  has_in_sequence nothing b one two = two
+  has_in_sequence (after x y) b one two =
+      let parts = parted x y one in
+      has_in_sequence x (in_sequence y b) parts.0 (has_in_sequence y b parts.1 two)
+  has_in_sequence (assign pieces place blocking right) b one two =
+      joined (assign pieces place blocking right) b one two
+  has_in_sequence (branch place condition x y) b one two =
+      joined (branch place condition (in_sequence x nothing) (in_sequence y nothing)) b
+      (arms_in place condition x y (λ has. has_in_sequence x nothing has none)
+      (λ has. has_in_sequence y nothing has none) one) two
+
+  has_apart : (a b : FlatStatement) → P (in_sequence a b) → P a × P b
+  has_apart nothing b has = (none, has)
+  has_apart (after x y) b has =
+      let front = has_apart x (in_sequence y b) has in
+      let rest = has_apart y b front.1 in
+      (joined x y front.0 rest.0, rest.1)
+  has_apart (assign pieces place blocking right) b has =
+      parted (assign pieces place blocking right) b has
+  has_apart (branch place condition x y) b has =
+      let parts =
+      parted (branch place condition (in_sequence x nothing) (in_sequence y nothing)) b has in (
+        arms_out place condition x y (λ there. (has_apart x nothing there).0)
+            (λ there. (has_apart y nothing there).0) parts.0,
+        parts.1,
+      )
+
+  -- statements of the same parts have it both or neither
+  pub same_parts_have : (a b : FlatStatement) → SameParts a b → P b → P a
+  same_parts_have a b same has =
+      (has_apart a nothing (subst P (sym same) (has_in_sequence b nothing has none))).0
+
+-- a number of a statement, where that of a sequence is the sum of its parts'
+module _ (size : FlatStatement → ℕ) (none : size nothing ≡ 0)
+    (joined : (a b : FlatStatement) → size (after a b) ≡ size a + size b)
+    (arms : (place : Place) (condition : TypedTree) (a b : FlatStatement)
+    → size (in_sequence a nothing) ≡ size a → size (in_sequence b nothing) ≡ size b
+    → size (branch place condition (in_sequence a nothing) (in_sequence b nothing))
+    ≡ size (branch place condition a b)) where
+  sized_in_sequence : (a b : FlatStatement) → size (in_sequence a b) ≡ size a + size b
+  sized_in_sequence nothing b = omega (arith, none)
+  sized_in_sequence (after x y) b =
+      sized_in_sequence x (in_sequence y b)
+      ∙ omega (arith, sized_in_sequence y b, joined x y)
+  sized_in_sequence (assign pieces place blocking right) b =
+      joined (assign pieces place blocking right) b
+  sized_in_sequence (branch place condition x y) b =
+      joined (branch place condition (in_sequence x nothing) (in_sequence y nothing)) b
+      ∙ ap (λ n. n + size b)
+      (arms place condition x y (omega (arith, none, sized_in_sequence x nothing))
+      (omega (arith, none, sized_in_sequence y nothing)))
+
+  -- statements of the same parts have the same
+  pub same_parts_sized : (a b : FlatStatement) → SameParts a b → size a ≡ size b
+  same_parts_sized a b same =
+      omega (arith, none, sized_in_sequence a nothing, sized_in_sequence b nothing, ap size same)
 
 pub assigns_in_sequence : (s : ℕ) (a b : FlatStatement)
     → assigns (in_sequence a b) s ≡ (assigns a s || assigns b s)

@@ -26,6 +26,10 @@ use Rattle.sv_obl.specs.Exchange.{Instead, name, content, for_whole, for_bit, fo
 use Rattle.sv_obl.specs.Exchange.{exchanged_node, exchanged_parts}
 use Rattle.sv_obl.proofs.PathLists.{both_true}
 
+-- a read of a part
+abbrev pub part_read : ℕ → Place → (high low : ℕ) → ReadForm
+part_read s place high low = record { signal = s; place = place; high = high; low = low }
+
 -- where a first test holds with two others, and these bring two more, it holds with those
 both_kept : (b c d e f : Bool) → (IsTrue c → IsTrue e) → (IsTrue d → IsTrue f) →
     IsTrue (b && c && d) → IsTrue (b && e && f)
@@ -195,7 +199,7 @@ module _ (A : List SignalForm) (instead : ReadForm → Instead) (n : ℕ) where
         bit_below (instead r) p (exchanged A instead i) (below r (Contains-head r (reads A i)))
         (exchanged_held i h (λ z at. below z (Contains-later r (reads A i) z at)))
     node_exchanged_held (read_part s p high low) h below =
-        let r : ReadForm = record { signal = s; place = p; high = high; low = low } in
+        let r = part_read s p high low in
         part_below (instead r) p high low (below r (Contains-head r []))
     node_exchanged_held (unary op a) h below = exchanged_held a h below
     node_exchanged_held (binary op a b) h below =
@@ -347,7 +351,7 @@ module _ (A B : List SignalForm) (instead : ReadForm → Instead) (E F : Environ
         (good r (Contains-head r (reads A i)))
         (exchanged_number i h (λ z at. good z (Contains-later r (reads A i) z at))))
     exchanged_node_value (read_part s p high low) w signed h good =
-        let r : ReadForm = record { signal = s; place = p; high = high; low = low } in
+        let r = part_read s p high low in
         part_value (instead r) r w signed p high low (good r (Contains-head r []))
     exchanged_node_value (unary op (typed v q m)) w signed h good =
         ap (unary_value op v q) (exchanged_node_value m v q h good)
@@ -515,7 +519,7 @@ module _ (A B : List SignalForm) (instead : ReadForm → Instead) where
         (from.0, Contains-later r (reads A i) from.0 from.1, from.2))
         (bit_comes (instead r) p (exchanged A instead i) x named)
     exchanged_node_names (read_part s p high low) x named =
-        let r : ReadForm = record { signal = s; place = p; high = high; low = low } in
+        let r = part_read s p high low in
         (r, Contains-head r [], part_comes (instead r) p high low x named)
     exchanged_node_names (unary op a) x named = exchanged_names a x named
     exchanged_node_names (binary op a b) x named = ⊎_elim

@@ -18,6 +18,7 @@ use Rattle.sv_obl.specs.Routes.{names_in}
 use Rattle.sv_paths.specs.Trails.{own_name, whole_from}
 use Rattle.sv_obl.specs.Wanted.{with_copies, is_copy, original, wanted_name, piece_value}
 use Rattle.sv_obl.specs.Wanted.{with_piece_put, put_value, pieces_put, put_in}
+use Rattle.sv_obl.proofs.TreeFacts.{part_read}
 use Rattle.sv_paths.proofs.TrailNames.{signal_low}
 
 some_same : (a b : ℕ) → Some a ≡ Some b → a ≡ b
@@ -184,12 +185,8 @@ module _ (signals : List SignalForm) where
           bit_none w signed (pieces_put signals pieces way (indexed_read both t place i)) place
           (put_in signals pieces way i)
       own_put (typed w signed (read_part t place high low)) =
-          part_none w signed (pieces_put signals pieces way (record {
-            signal = t;
-            place = place;
-            high = high;
-            low = low;
-          })) place high low
+          part_none w signed (pieces_put signals pieces way (part_read t place high low)) place high
+          low
       own_put e = refl
 
     -- ---- what pieces leave

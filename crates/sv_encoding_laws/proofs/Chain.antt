@@ -141,12 +141,17 @@ module _ (design : FlatDesign) (checked : IsChecked design) (o : Obligation)
       (in_those (length design.signals) (is_read_for design s) t
       (read_below design is_sound checked.admitted s t read.2) read.2)))
 
+  pub read_word : (t : ℕ) → IsReadThere design (registers_in design later) t →
+      IsWordOf design t (s3.0).variables (s2.1 t)
+  read_word t read =
+      word_more_of t (s2.0).variables (s3.0).variables (s2.1 t) free3.begins.grows
+      (p2.within t (read_inside t read))
+
   pub p4 : SpellsNext design later s2.1 s3.0 s4
       × LeaveOthers (registers_in design later) s3.1 s4.1
   p4 =
       words_spell_next_values design later s2.1 s3.1 s3.0 is_sound checked.admitted free3.base
-      (λ t read. word_more_of t (s2.0).variables (s3.0).variables (s2.1 t) free3.begins.grows
-      (p2.within t (read_inside t read)))
+      read_word
 
   pub base4 : IsBase s4.0
   base4 = base_more s3.0 s4.0 free3.base p4.0.extends
@@ -172,16 +177,20 @@ module _ (design : FlatDesign) (checked : IsChecked design) (o : Obligation)
       (or_cases (is_top_input design t) (is_register design t) from.0))
       (either_way (holds (registers_in design later) t))
 
-  pub p5 : SpellsSettled design later s4.1 s4.0 s5
-  p5 =
-      words_spell_settled_values design later s4.1 s4.0 is_sound checked.admitted
-      (next_is_cone design is_sound checked.admitted o query) base4
-      (λ t held. ⊎_elim
+  pub later_word : (t : ℕ) → IsTrue (holds (given_in design later) t) →
+      IsWordOf design t (s4.0).variables (s4.1 t)
+  later_word t held =
+      ⊎_elim
       (λ register. p4.0.within t register)
       (λ input. subst (IsWordOf design t (s4.0).variables) (sym (p4.1 t input.0))
       (word_more_of t (s3.0).variables (s4.0).variables (s3.1 t) p4.0.extends.begins.grows
       (free3.words t input.1).inside))
-      (later_given t held))
+      (later_given t held)
+
+  pub p5 : SpellsSettled design later s4.1 s4.0 s5
+  p5 =
+      words_spell_settled_values design later s4.1 s4.0 is_sound checked.admitted
+      (next_is_cone design is_sound checked.admitted o query) base4 later_word
 
   pub base5 : IsBase s5.0
   base5 = base_more s4.0 s5.0 base4 p5.extends

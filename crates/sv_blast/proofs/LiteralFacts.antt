@@ -15,7 +15,7 @@ use Rattle.sv_obl.specs.DesignQueries.{IsExpressionOf, IsGoalOf, IsQueryOf}
 use Rattle.sv_obl.specs.Noninterference.{IsChecked}
 use Rattle.sv_encoding.specs.Cones.{label_selectors, named_in, asked_now, asked_next, conditions_of}
 use Rattle.sv_encoding.specs.Expressions.{Words}
-use Rattle.sv_encoding_laws.proofs.Chain.{s2, s5, s6, s7, s8, s9, s10, p6, p7, p8, p9, p10, InCone}
+use Rattle.sv_encoding_laws.proofs.Chain.{s2, s5, s7, s8, s9, p8, InCone}
 use Rattle.sv_encoding_laws.proofs.Chain.{InLater, named_inside, now_word, next_word}
 use Rattle.sv_encoding_laws.proofs.Chain.{asked_inside, labels_inside, grows5, grows7, grows9}
 use Rattle.sv_encoding_laws.proofs.ConeFacts.{seen_below}
@@ -130,25 +130,3 @@ module _ (flat : Flat) (checked : IsChecked (design_of flat)) (o : Obligation)
   held_ready =
       held_of o.goal query.goal (asked_inside design checked o query)
       (λ t at. next_starts design checked.is_sound checked.admitted o query t at)
-
-  -- ---- no step takes variables away
-
-  pub facts_more : (s5 design checked o query).0.variables
-      ≤ (s6 design checked o query).0.variables
-  facts_more = (p6 design checked o query).extends.begins.grows
-
-  pub conditions_more : (s6 design checked o query).0.variables
-      ≤ (s7 design checked o query).0.variables
-  conditions_more = (p7 design checked o query).extends.begins.grows
-
-  pub target_more : (s7 design checked o query).0.variables
-      ≤ (s8 design checked o query).0.variables
-  target_more = (p8 design checked o query).extends.begins.grows
-
-  pub reads_more : (s8 design checked o query).0.variables
-      ≤ (s9 design checked o query).0.variables
-  reads_more = (p9 design checked o query).extends.begins.grows
-
-  pub violation_more : (s9 design checked o query).0.variables
-      ≤ (s10 design checked o query).0.variables
-  violation_more = (p10 design checked o query).extends.begins.grows

@@ -64,6 +64,13 @@ stand_up width m n (arm ∷ arms) up stand = (
 
 -- ---- the way back
 
+-- what is too large before is too large where it is gone on to something that takes none away
+pub full_on : {X : Type 0} {whole made : Formula × X} (from : Formula × X) → whole ≡ made →
+    from.0.variables ≤ made.0.variables → (most : ℕ) → most < from.0.variables →
+    most < whole.0.variables
+full_on {X} from is grows most high =
+    subst (λ (z : Formula × X). most < z.0.variables) (sym is) (omega (arith, high, grows))
+
 -- what is to be made comes from the arms that are left and from a word that is there
 pub record BackAt (whole : Formula × Word) (width : ℕ) (old now : Formula) (arms : List Arm)
     (word : Word) : Type 0 where
@@ -86,10 +93,8 @@ module _ (whole : Formula × Word) (width : ℕ) (old now : Formula) (arms left 
 
   pub last_full : (most : ℕ) → most < (chosen_at arm (now, word)).0.variables →
       most < whole.0.variables
-  last_full most high =
-      let grows = back_grows left (chosen_at arm (now, word)) in
-      subst (λ (z : Formula × Word). most < z.0.variables) (sym last_made)
-      (omega (arith, high, grows))
+  last_full =
+      full_on (chosen_at arm (now, word)) last_made (back_grows left (chosen_at arm (now, word)))
 
   pub last_taken : (later : Formula) (next : Word) → chosen_at arm (now, word) ≡ (later, next) →
       IsWord later.variables next → Begins now later → BackAt whole width old later left next

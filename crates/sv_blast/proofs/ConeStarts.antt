@@ -37,7 +37,8 @@ use Rattle.sv_encoding.specs.Cones.{registers_in}
 use Rattle.sv_encoding_laws.proofs.ConeFacts.{seen_below}
 use Rattle.sv_encoding_laws.proofs.QueryCones.{read_signal_known, next_seen, now_known, next_known}
 use Rattle.sv_blast.specs.NamedMarks.{is_named_in, starts_now, AreBelow}
-use Rattle.sv_blast.proofs.MarkTables.{filter_same, holds_those, holds_join, first_marks, tabled}
+use Rattle.sv_graph.proofs.Differing.{filter_same}
+use Rattle.sv_blast.proofs.MarkTables.{holds_those, holds_join, first_marks, tabled}
 use Rattle.sv_blast.proofs.MarkTables.{none_behind, named_in_alike, lt_or_le}
 
 -- a table of the kinds of signals says which are inputs of the top module

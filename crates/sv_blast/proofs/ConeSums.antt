@@ -9,7 +9,6 @@ use Rattle.std.specs.List.{range_with_len}
 use Rattle.std.proofs.lemmas.Bool.{false≢true, eqb-true}
 use Rattle.std.proofs.lemmas.List.{get_or_default}
 use Rattle.std.proofs.lemmas.List.Kept.{AllPairs-filter}
-use Rattle.std.proofs.lemmas.List.FromFn.{length-range_with_len, get_or-range_with_len}
 use Rattle.sv_system.proofs.Lists.{Contains-head, Contains-later}
 use Rattle.sv_flat.specs.Design.{ProcessForm, FlatDesign}
 use Rattle.sv_flat.specs.Values.{signal_width}
@@ -18,6 +17,7 @@ use Rattle.sv_flat.specs.Assigned.{assigns}
 use Rattle.sv_flat.specs.Processes.{is_top_input, is_register, is_clocked, drivers, signals_that}
 use Rattle.sv_flat.specs.Clocks.{processes_of, is_clock, is_clock_link}
 use Rattle.sv_flat.specs.Reads.{is_combinational, depth, order}
+use Rattle.sv_flat.specs.Sets.{holds}
 use Rattle.sv_flat.specs.SignalLists.{driver_of}
 use Rattle.sv_flat.specs.Admission.{IsAdmitted}
 use Rattle.sv_flat.proofs.AdmittedFacts.{and_true, negated_true, extra_at}
@@ -31,16 +31,18 @@ use Rattle.sv_obl.proofs.MadeFacts.{register_driver}
 use Rattle.sv_obl.proofs.OneDriver.{one_driver_at, no_driver}
 use Rattle.sv_obl.specs.DesignQueries.{IsQueryOf}
 use Rattle.sv_obl.specs.Obligations.{Obligation}
+use Rattle.sv_obl.proofs.PathLists.{from_flat_map}
 use Rattle.sv_encoding.specs.Cones.{conditions_of, registers_in, now_cone, next_cone}
 use Rattle.sv_encoding.specs.Encoding.{inputs_in, given_in, settled_in}
+use Rattle.sv_encoding.specs.BothWays.{IsCone}
 use Rattle.sv_encoding.specs.GivenMeanings.{EachOnce}
 use Rattle.sv_encoding.specs.Sizes.{widths_of, signal_size, signals_size, truth_size, label_size}
 use Rattle.sv_encoding.specs.Sizes.{label_of_signal, target_size, violation_size, encoding_size}
 use Rattle.sv_encoding_laws.proofs.GateCounts.{mapped_more}
-use Rattle.sv_encoding_laws.proofs.Places.{once_rest, once_head, cones_once}
+use Rattle.sv_encoding_laws.proofs.Places.{once_rest, once_head, cones_once, range_from}
 use Rattle.sv_encoding_laws.proofs.QueryCones.{now_is_cone, next_is_cone, now_seen}
-use Rattle.sv_encoding_laws.proofs.QueryCones.{next_seen, from_flat_map}
-use Rattle.sv_encoding_laws.proofs.ConeFacts.{seen_below}
+use Rattle.sv_encoding_laws.proofs.QueryCones.{next_seen}
+use Rattle.sv_encoding_laws.proofs.ConeFacts.{seen_below, Seen}
 use Rattle.sv_blast.specs.ConeSizes.{now_size, next_size, now_sizes, next_sizes}
 use Rattle.sv_blast.proofs.SizeSums.{turned_sum}
 
@@ -65,13 +67,6 @@ once_join (x ∷ xs) ys one other apart =
     (Contains-either xs ys x at))
     (once_join xs ys (once_rest x xs one) other
     (λ k at. apart k (Contains-later x xs k at)))
-
-range_from : (a n : ℕ) → EachOnce (range_with_len a n)
-range_from a n i j d less inside same =
-    let below : j < n = subst (λ k. j < k) (length-range_with_len a n) inside in
-    let first = get_or-range_with_len a n i d (omega (arith, less, below)) in
-    let second = get_or-range_with_len a n j d below in
-    omega (arith, less, sym first ∙ same ∙ second)
 
 module _ (design : FlatDesign) where
   abbrev at_depth : ℕ → List ℕ
@@ -280,26 +275,24 @@ module _ (design : FlatDesign) (is_sound : IsTrue (sound design)) (admitted : Is
           omega (arith, rest, mapped_more (signal_size design) s settled)
       by false false false t_is r_is c_is some rest = absurd (false≢true some)
 
+  -- the signals of a cone are the design's, each of one kind
+  cone_kinds : (cone : List ℕ) →
+      ((s : ℕ) → IsTrue (holds cone s) → Seen design is_sound admitted s) → IsCone design cone →
+      Kinds cone
+  cone_kinds cone seen is s at = (
+    lt-ltb s (length design.signals)
+        (seen_below design is_sound admitted s (seen s (holds-from_Contains cone s at))),
+    is.kinds s (holds-from_Contains cone s at),
+  )
+
   module _ (o : Obligation) (query : IsQueryOf design o) where
     now_kinds : Kinds (now_cone design o)
-    now_kinds s at = (
-      lt-ltb s (length design.signals)
-          (seen_below design is_sound admitted s
-          (now_seen design is_sound admitted o query s
-          (holds-from_Contains (now_cone design o) s at))),
-      (now_is_cone design is_sound admitted o query).kinds s
-          (holds-from_Contains (now_cone design o) s at),
-    )
+    now_kinds = cone_kinds (now_cone design o) (now_seen design is_sound admitted o query)
+        (now_is_cone design is_sound admitted o query)
 
     next_kinds : Kinds (next_cone design o)
-    next_kinds s at = (
-      lt-ltb s (length design.signals)
-          (seen_below design is_sound admitted s
-          (next_seen design is_sound admitted o query s
-          (holds-from_Contains (next_cone design o) s at))),
-      (next_is_cone design is_sound admitted o query).kinds s
-          (holds-from_Contains (next_cone design o) s at),
-    )
+    next_kinds = cone_kinds (next_cone design o) (next_seen design is_sound admitted o query)
+        (next_is_cone design is_sound admitted o query)
 
     pub now_sum : now_sizes design (now_cone design o)
         ≡ widths_of design.signals (given_in design (now_cone design o))

@@ -25,6 +25,7 @@ use Rattle.sv_encoding.specs.Bodies.{with_word}
 use Rattle.sv_blast.specs.declared.followed_arms.WordsArm.{WordsArm}
 use Rattle.sv_blast.specs.FollowedWords.{AllStand, PairsStand, ArmStands, ArmsStand, pairs, words_at}
 use Rattle.sv_blast.specs.FollowedWords.{with_words, choices, choices_back}
+use Rattle.sv_blast.proofs.ArmSteps.{full_on}
 
 -- ---- one word
 
@@ -240,10 +241,8 @@ module _ (signals : List SignalForm) (IsAtHand : ℕ → Type 0) (whole : Formul
 
   pub last_full : (most : ℕ) → most < (chosen_at arm (now, ws)).0.variables →
       most < whole.0.variables
-  last_full most high =
-      let grows = back_grows left (chosen_at arm (now, ws)) in
-      subst (λ (z : Formula × Words). most < z.0.variables) (sym last_made)
-      (omega (arith, high, grows))
+  last_full =
+      full_on (chosen_at arm (now, ws)) last_made (back_grows left (chosen_at arm (now, ws)))
 
   pub last_taken : (later : Formula) (next : Words) → chosen_at arm (now, ws) ≡ (later, next) →
       AllStand signals IsAtHand later.variables next → Begins now later →

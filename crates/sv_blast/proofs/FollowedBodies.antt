@@ -1,27 +1,25 @@
 -- The word of a signal whose process has an earlier read: from the words of what is read for it, by
 -- the body with such reads wanted.
-use Rattle.std.proofs.Common.{◌≡◌, ℕ, ◌+◌, ◌<◌, ◌≤◌, ◌&&◌, ◌||◌, ◌==◌, ◌⊎◌, inl, inr, ⊎_elim}
-use Rattle.std.proofs.Common.{Bool, true, false, cond, List, ◌++◌, length, replicate, refl, sym, ap}
+use Rattle.std.proofs.Common.{◌≡◌, ℕ, ◌<◌, ◌≤◌, ◌==◌, ◌⊎◌, inl, inr, ⊎_elim}
+use Rattle.std.proofs.Common.{Bool, true, false, cond, List, length, replicate, refl, sym, ap}
 use Rattle.std.proofs.Common.{ap₂, subst, ◌∙◌}
 use Rattle.std.specs.Prelude.{Contains, IsTrue, IsFalse}
 use Rattle.std.specs.List.{list_all}
 use Rattle.std.proofs.lemmas.Bool.{false≢true, eqb-true}
 use Rattle.std.proofs.lemmas.List.{length-replicate}
-use Rattle.sv_flat.specs.Design.{SignalForm, TypedTree, typed, PieceForm, FlatStatement, nothing, after}
-use Rattle.sv_flat.specs.Design.{assign, branch, ProcessKind, continuous, port_in, port_out}
+use Rattle.sv_flat.specs.Design.{SignalForm, TypedTree, typed, PieceForm, FlatStatement}
+use Rattle.sv_flat.specs.Design.{ProcessKind, continuous, port_in, port_out}
 use Rattle.sv_flat.specs.Design.{combinational, clocked, release, ProcessForm, FlatDesign}
 use Rattle.sv_flat.specs.Values.{signal_width}
 use Rattle.sv_flat.specs.Soundness.{piece_fits, well_formed, statement_sound}
-use Rattle.sv_flat.specs.Assigned.{assigns, can_assign, always_assigns}
-use Rattle.sv_flat.specs.Readings.{ReadForm, reads, BitSet, either, no_bits, Reading, readings_of}
+use Rattle.sv_flat.specs.Assigned.{assigns}
+use Rattle.sv_flat.specs.Readings.{ReadForm, reads, BitSet, no_bits, Reading, readings_of}
 use Rattle.sv_flat.specs.Readings.{readings}
 use Rattle.sv_flat.specs.Processes.{is_clocked, is_block}
 use Rattle.sv_flat.specs.Clocks.{processes_of}
 use Rattle.sv_flat.specs.Reads.{followed, is_read_for, reads_for, process_readings}
 use Rattle.sv_flat.specs.Reads.{is_earlier}
-use Rattle.sv_flat.proofs.Members.{Contains-left, Contains-right}
 use Rattle.sv_flat.proofs.LeastSets.{from_some, either_way, in_those, those_below, those_pass}
-use Rattle.sv_flat.proofs.Depths.{first_of, second_of}
 use Rattle.sv_flat.proofs.AdmittedFacts.{body_is_sound}
 use Rattle.sv_flat.proofs.BlockFacts.{follows_itself, follows_earlier, settled_is_read}
 use Rattle.sv_design.specs.Designs.{IsDesign}
@@ -42,6 +40,7 @@ use Rattle.sv_encoding.specs.Expressions.{Words}
 use Rattle.sv_encoding.specs.Bodies.{words_after, starting_words, driven_word}
 use Rattle.sv_encoding.specs.Sizes.{process_size, statement_size}
 use Rattle.sv_encoding_laws.proofs.MarkedReads.{same_width, ReadsCount, marked_fit}
+use Rattle.sv_encoding_laws.proofs.MarkedReads.{marked_body_fits}
 use Rattle.sv_encoding_laws.proofs.Renamed.{formed_instead}
 use Rattle.sv_blast.specs.WordTables.{StandForReads}
 use Rattle.sv_blast.specs.FollowedWords.{AllStand, IsFit, AreFit, AtHand}
@@ -110,18 +109,7 @@ module _ (design : FlatDesign) (is : IsDesign design) where
               subst Hand from.2 (all from.0 from.1).1.1,
         )
 
-    -- marks change no target
-    marked_targets : (b : FlatStatement) (later : BitSet) (t : ℕ) →
-        assigns (marked signals (is_block p.kind) b later) t ≡ assigns b t
-    marked_targets nothing later t = refl
-    marked_targets (after first second) later t =
-        ap₂ (λ a b. a || b) (marked_targets first (either (can_assign second) later) t)
-        (marked_targets second later t)
-    marked_targets (assign pieces place blocking right) later t = refl
-    marked_targets (branch place condition first second) later t =
-        ap₂ (λ a b. a || b) (marked_targets first later t) (marked_targets second later t)
-
-    -- nor the length of a right side
+    -- marks do not change the length of a right side
     pieces_fit : (e : TypedTree) (follows : BitSet) (pieces : List PieceForm) →
         IsTrue (list_all (piece_fits signals e) pieces) →
         IsTrue (list_all (piece_fits signals (marked_tree signals (is_block p.kind) follows e))
@@ -131,56 +119,12 @@ module _ (design : FlatDesign) (is : IsDesign design) where
     marked_fits : (b : FlatStatement) (early later : BitSet) → IsTrue (statement_sound signals b) →
         Count (readings signals b early later) →
         AreFit signals targets Hand (marked signals (is_block p.kind) b later)
-    marked_fits nothing early later right count = tt
-    marked_fits (after first second) early later right count =
-        let late = either (can_assign second) later in
-        let mid = either (always_assigns first) early in (
-          marked_fits first early late
-              (first_of (statement_sound signals first) (statement_sound signals second) right)
-              (λ r r_at. count r (Contains-left (readings signals first early late)
-              (readings signals second mid later) r r_at)),
-          marked_fits second mid later
-              (second_of (statement_sound signals first) (statement_sound signals second) right)
-              (λ r r_at. count r (Contains-right (readings signals first early late)
-              (readings signals second mid later) r r_at)),
-        )
-    marked_fits (assign pieces place blocking e) early later right count =
-        let whole = assign pieces place blocking e in
-        let follows = either (can_assign whole) later in
-        (λ some. let by = from_some (assigns whole) targets some in (
-          tree_fits e (assigns whole) early follows
-              (first_of (well_formed signals e) (list_all (piece_fits signals e) pieces) right)
-              by.0 by.1 by.2 count,
-          pieces_fit e follows pieces
-              (second_of (well_formed signals e) (list_all (piece_fits signals e) pieces) right),
-        ))
-    marked_fits (branch place condition first second) early later right count =
-        let whole = branch place condition first second in
-        let follows = either (can_assign whole) later in
-        let here = readings_of signals condition (assigns whole) early follows in
-        let in_first = readings signals first early later in
-        let in_second = readings signals second early later in
-        let front = first_of (well_formed signals condition && statement_sound signals first)
-        (statement_sound signals second) right in (
-          (λ some.
-              let by = from_some (assigns (marked signals (is_block p.kind) whole later)) targets
-              some in
-              tree_fits condition (assigns whole) early follows
-              (first_of (well_formed signals condition) (statement_sound signals first) front)
-              by.0 by.1 (sym (marked_targets whole later by.0) ∙ by.2)
-              (λ r r_at. count r (Contains-left (here ++ in_first) in_second r
-              (Contains-left here in_first r r_at)))),
-          (
-            marked_fits first early later
-                (second_of (well_formed signals condition) (statement_sound signals first) front)
-                (λ r r_at. count r (Contains-left (here ++ in_first) in_second r
-                (Contains-right here in_first r r_at))),
-            marked_fits second early later
-                (second_of (well_formed signals condition && statement_sound signals first)
-                (statement_sound signals second) right)
-                (λ r r_at. count r (Contains-right (here ++ in_first) in_second r r_at)),
-          ),
-        )
+    marked_fits =
+        marked_body_fits design p s (IsFit signals Hand) (AreFit signals targets Hand) tree_fits tt
+        (λ a b x y. (x, y))
+        (λ pieces place blocking e follows all tree some.
+        (tree some, pieces_fit e follows pieces all))
+        (λ place condition a b tree x y. (tree, (x, y)))
 
     abbrev marked_body : FlatStatement
     marked_body = marked signals (is_block p.kind) p.body no_bits

@@ -8,9 +8,6 @@ use Rattle.std.specs.List.{AllByRecursion, list_any, range_with_len}
 use Rattle.std.specs.List.Sorted.{IsStrictlySortedBy}
 use Rattle.std.specs.Ordering.{is_lt}
 use Rattle.std.proofs.lemmas.Bool.{false≢true, eqb-true, eq-eqb, or_left}
-use Rattle.std.proofs.lemmas.Cmp.{nat_cmp_total}
-use Rattle.std.proofs.lemmas.Map.Lookups.{exact_unsigned}
-use Rattle.std.proofs.lemmas.Map.Views.{btree_set_contains_iff}
 use mathlib.Core.Path.{fun_ext}
 use Rattle.sv_num.specs.declared.faults.Place.{Place}
 use Rattle.sv_system.proofs.Lists.{Contains-head, Contains-later, Contains-nil, Contains-cases}
@@ -24,6 +21,7 @@ use Rattle.sv_graph.specs.Marks.{is_marked, followed_in}
 use Rattle.sv_graph.proofs.BitFacts.{same_answer}
 use Rattle.sv_graph.proofs.Differing.{filter_same}
 use Rattle.sv_design.proofs.ReaderFacts.{marked_within}
+use Rattle.sv_obl.proofs.MarkedFacts.{set_holds}
 use Rattle.sv_obl.proofs.PathLists.{cond_false}
 use Rattle.sv_encoding.specs.Bodies.{assigns_some}
 use Rattle.sv_blast.proofs.FollowedSteps.{none_pass, range_above}
@@ -134,13 +132,6 @@ filter_twice f g (x ∷ xs) = by (f x) (filter_twice f g xs)
     by false e = e
 
 -- ---- sets
-
-set_holds : (targets : BTreeSet ℕ) (s : ℕ) → contains nat_cmp targets s ≡ holds targets.keys s
-set_holds targets s = same_answer (contains nat_cmp targets s) (holds targets.keys s)
-    (λ h. holds-from_Contains targets.keys s
-    ((btree_set_contains_iff nat_cmp_total exact_unsigned targets s).0 h))
-    (λ h. (btree_set_contains_iff nat_cmp_total exact_unsigned targets s).1
-    (Contains-from_holds targets.keys s h))
 
 module _ (table : List Bool) where
   pub holds_marked : (s : ℕ) → holds (followed_in table) s ≡ is_marked table s

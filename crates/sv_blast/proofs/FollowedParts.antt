@@ -1,7 +1,7 @@
 -- What statements with the same parts have in common, however their sequences are grouped: the words
 -- that they make of all followed signals, how many gates these take, and what they need.
-use Rattle.std.proofs.Common.{◌≡◌, ℕ, ◌+◌, ◌||◌, Bool, true, false, cond, List}
-use Rattle.std.proofs.Common.{filter, refl, sym, ap, ap₂, subst, ◌∙◌, arith}
+use Rattle.std.proofs.Common.{◌≡◌, ℕ, ◌+◌, ◌||◌, Bool, cond, List}
+use Rattle.std.proofs.Common.{filter, refl, sym, ap, ap₂, subst, ◌∙◌}
 use Rattle.std.specs.Prelude.{IsTrue}
 use Rattle.std.specs.List.{list_any}
 use mathlib.Core.Path.{fun_ext}
@@ -11,6 +11,8 @@ use Rattle.sv_flat.specs.Design.{assign, branch}
 use Rattle.sv_flat.specs.Assigned.{assigns}
 use Rattle.sv_obl.specs.BodySlices.{in_sequence, SameParts}
 use Rattle.sv_obl.specs.Wanted.{with_copies}
+use Rattle.sv_obl.proofs.SliceFacts.{or_none, assigns_in_sequence, same_parts_have}
+use Rattle.sv_obl.proofs.SliceFacts.{same_parts_sized}
 use Rattle.sv_gates.specs.Formulas.{Formula}
 use Rattle.sv_encoding.specs.Expressions.{Words}
 use Rattle.sv_encoding.specs.Bodies.{WordsMaker, branch_words, words_after}
@@ -19,35 +21,13 @@ use Rattle.sv_blast.specs.FollowedWords.{AreFit, IsFit}
 
 -- ---- targets
 
-or_none : (a : Bool) → (a || false) ≡ a
-or_none true = refl
-or_none false = refl
-
--- parts in one sequence assign what they assign one after the other
-pub sequence_assigns : (a rest : FlatStatement) (s : ℕ) →
-    assigns (in_sequence a rest) s ≡ (assigns a s || assigns rest s)
-sequence_assigns nothing rest s = refl
-sequence_assigns (after x y) rest s =
-    sequence_assigns x (in_sequence y rest) s
-    ∙ ap (λ c. assigns x s || c) (sequence_assigns y rest s)
-    ∙ grouped (assigns x s) (assigns y s) (assigns rest s)
-  where
-    grouped : (a b c : Bool) → (a || (b || c)) ≡ ((a || b) || c)
-    grouped true b c = refl
-    grouped false b c = refl
-sequence_assigns (assign pieces place blocking right) rest s = refl
-sequence_assigns (branch place condition x y) rest s =
-    ap₂ (λ c d. (c || d) || assigns rest s)
-    (sequence_assigns x nothing s ∙ or_none (assigns x s))
-    (sequence_assigns y nothing s ∙ or_none (assigns y s))
-
 -- a branch whose arms are in sequence assigns the same
 arms_assign : (place : Place) (condition : TypedTree) (x y : FlatStatement) →
     assigns (branch place condition (in_sequence x nothing) (in_sequence y nothing))
     ≡ assigns (branch place condition x y)
 arms_assign place condition x y = fun_ext (λ s.
-    ap₂ (λ c d. c || d) (sequence_assigns x nothing s ∙ or_none (assigns x s))
-    (sequence_assigns y nothing s ∙ or_none (assigns y s)))
+    ap₂ (λ c d. c || d) (assigns_in_sequence s x nothing ∙ or_none (assigns x s))
+    (assigns_in_sequence s y nothing ∙ or_none (assigns y s)))
 
 module _ (signals : List SignalForm) (followed : List ℕ) where
   -- ---- words
@@ -93,69 +73,34 @@ module _ (signals : List SignalForm) (followed : List ℕ) where
       (truth_size (with_copies signals) condition + one + two
       + widths_of signals (filter targets followed)) 0
 
-  sequence_size : (a rest : FlatStatement) →
-      statement_size signals followed (in_sequence a rest)
-      ≡ statement_size signals followed a + statement_size signals followed rest
-  sequence_size nothing rest = omega arith
-  sequence_size (after x y) rest =
-      sequence_size x (in_sequence y rest) ∙ omega (arith, sequence_size y rest)
-  sequence_size (assign pieces place blocking right) rest = refl
-  sequence_size (branch place condition x y) rest =
-      ap (λ k. k + statement_size signals followed rest)
-      (ap (λ (targets : ℕ → Bool). branch_size condition targets
+  pub same_size : (a b : FlatStatement) → SameParts a b →
+      statement_size signals followed a ≡ statement_size signals followed b
+  same_size =
+      same_parts_sized (statement_size signals followed) refl (λ a b. refl)
+      (λ place condition x y first second. ap (λ (targets : ℕ → Bool). branch_size condition targets
       (statement_size signals followed (in_sequence x nothing))
       (statement_size signals followed (in_sequence y nothing)))
       (arms_assign place condition x y)
-      ∙ ap₂ (branch_size condition (assigns (branch place condition x y)))
-      (omega (arith, sequence_size x nothing)) (omega (arith, sequence_size y nothing)))
-
-  pub same_size : (a b : FlatStatement) → SameParts a b →
-      statement_size signals followed a ≡ statement_size signals followed b
-  same_size a b same =
-      omega (
-        arith,
-        sequence_size a nothing,
-        sequence_size b nothing,
-        ap (statement_size signals followed) same,
-      )
+      ∙ ap₂ (branch_size condition (assigns (branch place condition x y))) first second)
 
   -- ---- what they need
 
   module _ (IsAtHand : ℕ → Type 0) where
-    abbrev Fit : FlatStatement → Type 0
-    Fit a = AreFit signals followed IsAtHand a
-
-    sequence_fit : (a rest : FlatStatement) → Fit a → Fit rest → Fit (in_sequence a rest)
-    sequence_fit nothing rest fit more = more
-    sequence_fit (after x y) rest fit more =
-        sequence_fit x (in_sequence y rest) fit.0 (sequence_fit y rest fit.1 more)
-    sequence_fit (assign pieces place blocking right) rest fit more = (fit, more)
-    sequence_fit (branch place condition x y) rest fit more = (
-      (
-        subst (λ (targets : ℕ → Bool). IsTrue (list_any targets followed) →
-            IsFit signals IsAtHand condition) (sym (arms_assign place condition x y)) fit.0,
-        (sequence_fit x nothing fit.1.0 tt, sequence_fit y nothing fit.1.1 tt),
-      ),
-      more,
-    )
-
-    fit_apart : (a rest : FlatStatement) → Fit (in_sequence a rest) → Fit a × Fit rest
-    fit_apart nothing rest fit = (tt, fit)
-    fit_apart (after x y) rest fit =
-        let p = fit_apart x (in_sequence y rest) fit in
-        let q = fit_apart y rest p.1 in
-        ((p.0, q.0), q.1)
-    fit_apart (assign pieces place blocking right) rest fit = fit
-    fit_apart (branch place condition x y) rest fit = (
-      (
-        subst (λ (targets : ℕ → Bool). IsTrue (list_any targets followed) →
-            IsFit signals IsAtHand condition) (arms_assign place condition x y) fit.0.0,
-        ((fit_apart x nothing fit.0.1.0).0, (fit_apart y nothing fit.0.1.1).0),
-      ),
-      fit.1,
-    )
+    -- a condition is fit where some followed signal is among such targets
+    abbrev FitFor : TypedTree → (ℕ → Bool) → Type 0
+    FitFor condition targets =
+        IsTrue (list_any targets followed) → IsFit signals IsAtHand condition
 
     pub same_fit : (a b : FlatStatement) → SameParts a b → AreFit signals followed IsAtHand b →
         AreFit signals followed IsAtHand a
-    same_fit a b same fit =
-        (fit_apart a nothing (subst Fit (sym same) (sequence_fit b nothing fit tt))).0
+    same_fit =
+        same_parts_have (AreFit signals followed IsAtHand) tt (λ a b one two. (one, two))
+        (λ a b fit. (fit.0, fit.1))
+        (λ place condition x y first second fit. (
+          subst (FitFor condition) (sym (arms_assign place condition x y)) fit.0,
+          (first fit.1.0, second fit.1.1),
+        ))
+        (λ place condition x y first second fit. (
+          subst (FitFor condition) (arms_assign place condition x y) fit.0,
+          (first fit.1.0, second fit.1.1),
+        ))

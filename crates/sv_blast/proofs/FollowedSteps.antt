@@ -94,15 +94,10 @@ module _ (signals : List SignalForm) (followed : List ℕ) where
   IsLeftBy b t =
       (s : ℕ) → Contains followed s → IsTrue (assigns b s) → copy_of signals s ≡ t → ⊥
 
-  pieces_leave : (right : Word) (t : ℕ) (pieces : List PieceForm) (ws : Words) →
-      ((p : PieceForm) → Contains pieces p → IsTrue (holds followed p.signal) →
-      copy_of signals p.signal ≡ t → ⊥) →
-      fold (with_piece_word signals followed right) ws pieces t ≡ ws t
-  pieces_leave right t [] ws apart = refl
-  pieces_leave right t (p ∷ pieces) ws apart =
-      pieces_leave right t pieces (with_piece_word signals followed right ws p)
-      (λ q at. apart q (Contains-later p pieces q at))
-      ∙ by (holds followed p.signal) refl
+  piece_leaves : (right : Word) (t : ℕ) (p : PieceForm) (ws : Words) →
+      (IsTrue (holds followed p.signal) → copy_of signals p.signal ≡ t → ⊥) →
+      with_piece_word signals followed right ws p t ≡ ws t
+  piece_leaves right t p ws apart = by (holds followed p.signal) refl
     where
       copy : ℕ
       copy = copy_of signals p.signal
@@ -112,7 +107,7 @@ module _ (signals : List SignalForm) (followed : List ℕ) where
 
       by : (c : Bool) → holds followed p.signal ≡ c → cond c (with_word copy new ws) ws t ≡ ws t
       by true held =
-          put_other copy t new ws (λ e. apart p (Contains-head p pieces) held (sym e))
+          put_other copy t new ws (λ e. apart held (sym e))
       by false none = refl
 
   chosen_leave : (c : ℤ) (one two : Words) (t : ℕ) (ts : List ℕ) (ws : Words) (f : Formula) →
@@ -143,10 +138,11 @@ module _ (signals : List SignalForm) (followed : List ℕ) where
         word.0,
         fold (with_piece_word signals followed word.1) ws pieces,
       ) (f, ws)).1 t ≡ ws t
-      by true = pieces_leave word.1 t pieces ws (λ p at held.
+      by true = folded_leaves (with_piece_word signals followed word.1) t pieces ws
+          (λ p at before. piece_leaves word.1 t p before (λ held.
           left p.signal (Contains-from_holds followed p.signal held)
           (some_from (λ (q : PieceForm). q.signal == p.signal) pieces p at
-          (eq-eqb p.signal p.signal refl)))
+          (eq-eqb p.signal p.signal refl))))
       by false = refl
   after_leaves (branch place condition x y) t left ws f =
       by (assigns_some followed (branch place condition x y))

@@ -1,6 +1,9 @@
 -- The words of both cycles, step by step, from what is in hand.
-use Rattle.std.proofs.Common.{◌≡◌, ℕ, List, sym, ap, ◌∙◌}
+use Rattle.std.proofs.Common.{◌≡◌, ℕ, List, sym, ap, subst, ◌∙◌}
+use Rattle.std.specs.Prelude.{All}
+use Rattle.sv_flat.specs.declared.signals.SigId.{SigId}
 use Rattle.sv_flat.specs.Design.{FlatDesign}
+use Rattle.sv_design.specs.Numbers.{numbers}
 use Rattle.sv_obl.specs.Obligations.{Obligation}
 use Rattle.sv_gates.specs.Formulas.{Formula}
 use Rattle.sv_gates.specs.Gates.{start}
@@ -9,6 +12,20 @@ use Rattle.sv_encoding.specs.Encoding.{no_words, fresh_words, given_in, inputs_i
 use Rattle.sv_encoding.specs.Expressions.{Words}
 use Rattle.sv_blast.specs.Steps.{settled_in_turn, next_in_turn, after_given, after_settled}
 use Rattle.sv_blast.specs.Steps.{after_inputs, after_registers, after_next}
+
+-- what is taken from the signals of a cone, as the lists are in hand
+pub taken : (part : List ℕ → List ℕ) {found made asked held : List SigId} {cone : List ℕ} →
+    found ≡ made → numbers made ≡ part (numbers asked) → asked ≡ held → numbers held ≡ cone →
+    numbers found ≡ part cone
+taken part found_is made_is asked_is held_is =
+    ap numbers found_is ∙ made_is ∙ ap part (ap numbers asked_is ∙ held_is)
+
+-- and what holds of all of it
+pub taken_all : (P : ℕ → Type 0) (part : List ℕ → List ℕ) {found made asked held : List SigId}
+    {cone : List ℕ} → found ≡ made → numbers made ≡ part (numbers asked) → asked ≡ held →
+    numbers held ≡ cone → All P (part cone) → All P (numbers found)
+taken_all P part found_is made_is asked_is held_is =
+    subst (All P) (sym (taken part found_is made_is asked_is held_is))
 
 module _ (design : FlatDesign) (o : Obligation) where
   pub given_path : (ss : List ℕ) (words : Words) (gates : Formula) →
@@ -20,13 +37,16 @@ module _ (design : FlatDesign) (o : Obligation) where
       ∙ ap (λ (z : Words). fresh_words design all z gates) w
       ∙ ap (λ z. fresh_words design all no_words z) g
 
+  turn_path : {ss all : List ℕ} {z y : Formula × Words} → ss ≡ all → z ≡ y →
+      settled_in_turn design ss z.1 z.0 ≡ settled_in_turn design all y.1 y.0
+  turn_path {ss} {all} {z} {y} e g =
+      ap (λ ss. settled_in_turn design ss z.1 z.0) e
+      ∙ ap (λ (w : Formula × Words). settled_in_turn design all w.1 w.0) g
+
   pub settled_path : (ss : List ℕ) (z : Formula × Words) →
       ss ≡ settled_in design (now_cone design o) → z ≡ after_given design o →
       settled_in_turn design ss z.1 z.0 ≡ after_settled design o
-  settled_path ss z e g =
-      ap (λ ss. settled_in_turn design ss z.1 z.0) e
-      ∙ ap (λ (z : Formula × Words). settled_in_turn design (settled_in design (now_cone design o))
-      z.1 z.0) g
+  settled_path ss z e g = turn_path e g
 
   pub inputs_path : (ss : List ℕ) (words : Words) (gates : Formula) →
       ss ≡ inputs_in design (next_cone design o) → words ≡ no_words →
@@ -49,10 +69,7 @@ module _ (design : FlatDesign) (o : Obligation) where
   pub next_path : (ss : List ℕ) (z : Formula × Words) →
       ss ≡ settled_in design (next_cone design o) → z ≡ after_registers design o →
       settled_in_turn design ss z.1 z.0 ≡ after_next design o
-  next_path ss z e g =
-      ap (λ ss. settled_in_turn design ss z.1 z.0) e
-      ∙ ap (λ (z : Formula × Words). settled_in_turn design (settled_in design (next_cone design o))
-      z.1 z.0) g
+  next_path ss z e g = turn_path e g
 
   -- ---- each step, where those before it are made
 

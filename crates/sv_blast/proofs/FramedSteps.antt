@@ -51,11 +51,12 @@ module _ (design : FlatDesign) (made : Framed) (is : IsFramed design made) where
   abbrev words : Words
   words = (now_frame design (numbers made.now_cone.items)).1
 
-  pub with_gates : (gates : Formula) →
-      Begins (with_truths design words first made.truths.items) gates →
-      IsFramed design (record made { gates = gates })
-  with_gates gates begins = record {
-    truths = truths_onward design words first made.gates gates made.truths.items is.truths begins;
+  -- likewise with other facts and conditions
+  framed_with : (truths : Vec Truth) (gates : Formula) →
+      AreTruths design words first gates truths.items →
+      IsFramed design (record made { truths = truths; gates = gates })
+  framed_with truths gates are = record {
+    truths = are;
     proper = is.proper;
     variables = is.variables;
     clauses = is.clauses;
@@ -64,6 +65,13 @@ module _ (design : FlatDesign) (made : Framed) (is : IsFramed design made) where
     bits = is.bits;
     size = is.size;
   }
+
+  pub with_gates : (gates : Formula) →
+      Begins (with_truths design words first made.truths.items) gates →
+      IsFramed design (record made { gates = gates })
+  with_gates gates begins =
+      framed_with made.truths gates
+      (truths_onward design words first made.gates gates made.truths.items is.truths begins)
 
   -- the first so many of the facts and conditions
   module _ (k : ℕ) (truths : Vec Truth) (e : truths.items ≡ take k made.truths.items) where
@@ -100,17 +108,9 @@ module _ (design : FlatDesign) (made : Framed) (is : IsFramed design made) where
 
     pub framed_back : (gates : Formula) → gates ≡ short →
         IsFramed design (record made { truths = truths; gates = gates })
-    framed_back gates at = record {
-      truths = subst (λ (g : Formula). AreTruths design words first g truths.items) (sym at)
-          are_short;
-      proper = is.proper;
-      variables = is.variables;
-      clauses = is.clauses;
-      now = is.now;
-      next = is.next;
-      bits = is.bits;
-      size = is.size;
-    }
+    framed_back gates at =
+        framed_with truths gates
+        (subst (λ (g : Formula). AreTruths design words first g truths.items) (sym at) are_short)
 
 -- an obligation's frames with the first so many of its facts and conditions
 pub begun_again : (encoder : Encoder) (made : Framed) → HasFramesOf encoder made → (k : ℕ)
@@ -205,20 +205,12 @@ module _ (encoder : Encoder) (made : Framed) (is : IsBegun encoder made) where
       (is_true_bit its_design.signals z (typed_tree truth.expr) made.gates).0) same in
       record {
         frames = record {
-          framed = record {
-            truths = subst (λ (ts : List Truth). AreTruths its_design words from gates ts) (sym e)
-                (subst (λ (z : Formula). AreTruths its_design words from z
-                (made.truths.items ++ truth ∷ [])) (sym (g ∙ sym there))
-                (truths_more its_design words from made.gates made.truths.items truth
-                (is.gates ∙ sym all) before.truths here));
-            proper = before.proper;
-            variables = before.variables;
-            clauses = before.clauses;
-            now = before.now;
-            next = before.next;
-            bits = before.bits;
-            size = before.size;
-          };
+          framed = framed_with its_design made before truths gates
+              (subst (λ (ts : List Truth). AreTruths its_design words from gates ts) (sym e)
+              (subst (λ (z : Formula). AreTruths its_design words from z
+              (made.truths.items ++ truth ∷ [])) (sym (g ∙ sym there))
+              (truths_more its_design words from made.gates made.truths.items truth
+              (is.gates ∙ sym all) before.truths here)));
           now = is.frames.now;
           next = is.frames.next;
         };

@@ -1,28 +1,26 @@
 -- The words and labels that facts, conditions and the goal ask for are there.
-use Rattle.std.proofs.Common.{◌≡◌, ℕ, ◌<◌, ◌≤◌, List, [], ◌∷◌, ◌++◌, length, map, get_or, arith}
-use Rattle.std.specs.Prelude.{All, Contains, IsTrue}
+use Rattle.std.proofs.Common.{ℕ, ◌≤◌, List, [], ◌∷◌, length, arith}
+use Rattle.std.specs.Prelude.{Contains, IsTrue}
 use Rattle.std.specs.List.{list_any}
-use Rattle.std.proofs.lemmas.List.Elements.{Contains-get_or}
-use Rattle.sv_system.proofs.Lists.{Contains-head, Contains-map}
+use Rattle.sv_system.proofs.Lists.{Contains-head}
 use Rattle.sv_flat.specs.declared.designs.Flat.{Flat}
 use Rattle.sv_flat.specs.Design.{FlatDesign, TypedTree}
 use Rattle.sv_flat.specs.Soundness.{well_formed}
 use Rattle.sv_flat.specs.Readings.{names_signal}
 use Rattle.sv_flat.specs.Views.{design_of}
 use Rattle.sv_flat.proofs.LeastSets.{in_those, some_from}
-use Rattle.sv_flat.proofs.Members.{Contains-left, Contains-right, all_contained}
 use Rattle.sv_obl.specs.declared.frames.Frame.TheVariants.{Now, Next}
-use Rattle.sv_obl.specs.Paths.{StepForm}
 use Rattle.sv_obl.specs.Obligations.{Obligation, GoalForm, flow, holds as must_hold, selector}
 use Rattle.sv_obl.specs.DesignQueries.{IsExpressionOf, IsGoalOf, IsQueryOf}
 use Rattle.sv_obl.specs.Noninterference.{IsChecked}
 use Rattle.sv_encoding.specs.Cones.{label_selectors, named_in, asked_now, asked_next, conditions_of}
 use Rattle.sv_encoding.specs.Expressions.{Words}
-use Rattle.sv_encoding_laws.proofs.Chain.{s2, s5, s6, s7, s8, s9, s10, p6, p7, p8, p9, p10, InCone}
-use Rattle.sv_encoding_laws.proofs.Chain.{InLater, conditions, named_inside, now_word, next_word}
+use Rattle.sv_encoding_laws.proofs.Chain.{s2, s5, s7, s8, s9, p8, InCone}
+use Rattle.sv_encoding_laws.proofs.Chain.{InLater, named_inside, now_word, next_word}
 use Rattle.sv_encoding_laws.proofs.Chain.{asked_inside, labels_inside, grows5, grows7, grows9}
 use Rattle.sv_encoding_laws.proofs.ConeFacts.{seen_below}
-use Rattle.sv_encoding_laws.proofs.QueryCones.{in_flat_map, next_starts, condition_is}
+use Rattle.sv_obl.proofs.PathLists.{in_flat_map}
+use Rattle.sv_encoding_laws.proofs.QueryCones.{next_starts, condition_is}
 use Rattle.sv_blast.specs.Goals.{IsTargetReady, IsHeldReady}
 use Rattle.sv_blast.specs.WordTables.{StandsOf, StandFor}
 
@@ -132,25 +130,3 @@ module _ (flat : Flat) (checked : IsChecked (design_of flat)) (o : Obligation)
   held_ready =
       held_of o.goal query.goal (asked_inside design checked o query)
       (λ t at. next_starts design checked.is_sound checked.admitted o query t at)
-
-  -- ---- no step takes variables away
-
-  pub facts_more : (s5 design checked o query).0.variables
-      ≤ (s6 design checked o query).0.variables
-  facts_more = (p6 design checked o query).extends.begins.grows
-
-  pub conditions_more : (s6 design checked o query).0.variables
-      ≤ (s7 design checked o query).0.variables
-  conditions_more = (p7 design checked o query).extends.begins.grows
-
-  pub target_more : (s7 design checked o query).0.variables
-      ≤ (s8 design checked o query).0.variables
-  target_more = (p8 design checked o query).extends.begins.grows
-
-  pub reads_more : (s8 design checked o query).0.variables
-      ≤ (s9 design checked o query).0.variables
-  reads_more = (p9 design checked o query).extends.begins.grows
-
-  pub violation_more : (s9 design checked o query).0.variables
-      ≤ (s10 design checked o query).0.variables
-  violation_more = (p10 design checked o query).extends.begins.grows

@@ -1,9 +1,8 @@
 -- Loops over expressions: what is to be made, what is left of it, and what is made so far.
 use Rattle.std.proofs.Common.{◌≡◌, ℕ, zero, suc, ◌+◌, ◌<◌, ◌≤◌, ℤ, List, [], ◌∷◌, ◌++◌, length, map}
 use Rattle.std.proofs.Common.{All, drop, get_or, refl, sym, ap, subst, ◌∙◌, arith, append_assoc}
-use Rattle.std.specs.Prelude.{IsTrue}
 use Rattle.std.proofs.lemmas.List.{append-nil, get_or-map, length-map, drop_more}
-use Rattle.std.proofs.lemmas.List.Elements.{All-nil, All-cons, All-get_or}
+use Rattle.std.proofs.lemmas.List.Elements.{All-nil, All-cons}
 use Rattle.sv_flat.specs.declared.expressions.FExpr.{FExpr}
 use Rattle.sv_flat.specs.Design.{SignalForm, TypedTree, TypedTrees, more_parts, no_parts}
 use Rattle.sv_flat.specs.Readings.{reads, parts_reads}
@@ -14,7 +13,7 @@ use Rattle.sv_gates.specs.Extending.{Begins}
 use Rattle.sv_gates.proofs.ExtendingLaws.{begins_none, begins_trans}
 use Rattle.sv_circuits.specs.Words.{Word, made_in_turn}
 use Rattle.sv_circuits.specs.Circuits.{IsWord}
-use Rattle.sv_circuits.proofs.WordKeeps.{onto, word_up, word_push, word_join}
+use Rattle.sv_circuits.proofs.WordKeeps.{onto, step_behind, word_up, word_push, word_join}
 use Rattle.sv_obl.specs.declared.queries.Step.{Step}
 use Rattle.sv_obl.specs.Paths.{StepForm}
 use Rattle.sv_obl.specs.Views.{step_form}
@@ -123,15 +122,12 @@ module _ (signals : List SignalForm) (words : Words) where
       is_true_bit signals words e now ≡ (later, l) → IsLiteral later.variables l →
       Begins now later → next ≡ front ++ l ∷ [] → TruthsAt whole rest old later next
   truths_more whole left rest e old now later front next l at el em is up en =
-      let more = made_in_turn (map (is_true_bit signals words) rest) later in
       rw en (record {
         made = at.made
             ∙ ap (λ z. onto front (made_in_turn (map (is_true_bit signals words) z) now)) el
-            ∙ ap (λ (z : Formula × ℤ). onto front (
-              (made_in_turn (map (is_true_bit signals words) rest) z.0).0,
-              z.1 ∷ (made_in_turn (map (is_true_bit signals words) rest) z.0).1,
-            )) em
-            ∙ ap (λ z. (more.0, z)) (sym (append_assoc front (l ∷ []) more.1));
+            ∙ step_behind front (λ z. z)
+            (λ f. made_in_turn (map (is_true_bit signals words) rest) f)
+            (is_true_bit signals words e now) later l em;
         within = word_push later.variables front l
             (word_up now.variables later.variables front up.grows at.within) is;
         begins = begins_trans old now later at.begins up;

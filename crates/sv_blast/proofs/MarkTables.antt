@@ -1,7 +1,7 @@
 -- Tables that say of each signal whether it is marked: what a table says once some lists of signals
 -- were marked in it, and the lists that are made of it.
-use Rattle.std.proofs.Common.{◌≡◌, ℕ, zero, suc, ◌<◌, ◌≤◌, Bool, true, false, cond, ◌||◌, ◌==◌}
-use Rattle.std.proofs.Common.{List, [], ◌∷◌, ◌++◌, length, replicate, filter, get_or, refl, sym}
+use Rattle.std.proofs.Common.{◌≡◌, ℕ, zero, suc, ◌<◌, ◌≤◌, Bool, true, false, ◌||◌, ◌==◌}
+use Rattle.std.proofs.Common.{List, [], ◌∷◌, ◌++◌, length, replicate, get_or, refl, sym}
 use Rattle.std.proofs.Common.{ap, ap₂, subst, ◌∙◌, ◌⊎◌, inl, inr, ⊎_elim, arith, zero-add, nat_lt}
 use Rattle.std.proofs.Common.{ltb-true, ltb-false}
 use Rattle.std.specs.Prelude.{Contains, IsTrue}
@@ -10,7 +10,8 @@ use Rattle.std.proofs.lemmas.Bool.{false≢true}
 use Rattle.std.proofs.lemmas.List.FromFn.{length-range_with_len, get_or-range_with_len}
 use Rattle.std.proofs.lemmas.List.{length-replicate}
 use Rattle.std.proofs.lemmas.List.Elements.{Contains-get_or}
-use Rattle.sv_system.proofs.Lists.{Contains-head, Contains-later, Contains-map}
+use Rattle.sv_system.proofs.Lists.{Contains-map}
+use Rattle.sv_graph.proofs.Differing.{filter_same}
 use Rattle.sv_flat.specs.declared.signals.SigId.{SigId}
 use Rattle.sv_flat.specs.Design.{SignalForm, TypedTree}
 use Rattle.sv_flat.specs.Readings.{reads, names_signal}
@@ -36,14 +37,6 @@ pub alike : (a b : Bool) → (IsTrue a → IsTrue b) → (IsTrue b → IsTrue a)
 alike true b to from = sym (to refl)
 alike false true to from = from refl
 alike false false to from = refl
-
--- a filter asks nothing but its members
-pub filter_same : (p q : ℕ → Bool) (xs : List ℕ) → ((k : ℕ) → Contains xs k → p k ≡ q k) →
-    filter p xs ≡ filter q xs
-filter_same p q [] same = refl
-filter_same p q (x ∷ xs) same =
-    ap₂ (λ b ys. cond b (x ∷ ys) ys) (same x (Contains-head x xs))
-    (filter_same p q xs (λ k at. same k (Contains-later x xs k at)))
 
 range_low : (n k : ℕ) → Contains (range_with_len 0 n) k → k < n
 range_low n k at =

@@ -13,7 +13,7 @@ use Rattle.sv_flat.specs.declared.expressions.FExpr.{FExpr}
 use Rattle.sv_flat.specs.declared.expressions.FNode.TheBlock.{hidden-the_row-FExpr-0}
 use Rattle.sv_flat.specs.Design.{SignalForm, NodeTree, TypedTrees, unary, binary, choice, join}
 use Rattle.sv_flat.specs.Design.{replication, held_bit, mend}
-use Rattle.sv_flat.specs.Readings.{reads, parts_reads}
+use Rattle.sv_flat.specs.Readings.{ReadForm, reads, parts_reads}
 use Rattle.sv_flat.specs.Soundness.{is_one_to, well_formed, node_well_formed, parts_well_formed}
 use Rattle.sv_flat.specs.Views.{typed_tree, node_tree, row_parts}
 use Rattle.sv_flat.proofs.Depths.{second_of}
@@ -58,6 +58,22 @@ module _ (signals : List SignalForm) (words : Words) (expr : FExpr) (n : ℕ)
         (stand_same signals n words e f same e_stand),
   )
 
+  -- a part whose names come before those of others, and one whose names come behind them
+  ready_before : (e : FExpr) (others : List ReadForm) →
+      IsTrue (well_formed signals (typed_tree e)) →
+      StandAll signals n words (reads signals (typed_tree e) ++ others) → (f : FExpr) → f ≡ e →
+      IsReady n f
+  ready_before e others e_formed all =
+      seen_ready e e_formed (stand_left signals n words (reads signals (typed_tree e)) others all)
+      n (le_refl n)
+
+  ready_behind : (e : FExpr) (others : List ReadForm) →
+      IsTrue (well_formed signals (typed_tree e)) →
+      StandAll signals n words (others ++ reads signals (typed_tree e)) → (m : ℕ) → n ≤ m →
+      (f : FExpr) → f ≡ e → IsReady m f
+  ready_behind e others e_formed all =
+      seen_ready e e_formed (stand_right signals n words others (reads signals (typed_tree e)) all)
+
   module _ (op : BinOp) (a b : FExpr)
       (is : node_tree expr.node ≡ binary op (typed_tree a) (typed_tree b)) where
     both_formed : IsTrue (well_formed signals (typed_tree a))
@@ -73,16 +89,10 @@ module _ (signals : List SignalForm) (words : Words) (expr : FExpr) (n : ℕ)
         stand
 
     pub left_ready : (f : FExpr) → f ≡ a → IsReady n f
-    left_ready =
-        seen_ready a both_formed.0
-        (stand_left signals n words (reads signals (typed_tree a)) (reads signals (typed_tree b))
-        both_stand) n (le_refl n)
+    left_ready = ready_before a (reads signals (typed_tree b)) both_formed.0 both_stand
 
     pub right_ready : (m : ℕ) → n ≤ m → (f : FExpr) → f ≡ b → IsReady m f
-    right_ready =
-        seen_ready b both_formed.1
-        (stand_right signals n words (reads signals (typed_tree a)) (reads signals (typed_tree b))
-        both_stand)
+    right_ready = ready_behind b (reads signals (typed_tree a)) both_formed.1 both_stand
 
   module _ (place : Place) (k a b : FExpr)
       (is : node_tree expr.node ≡ choice place (typed_tree k) (typed_tree a) (typed_tree b)) where
@@ -106,45 +116,35 @@ module _ (signals : List SignalForm) (words : Words) (expr : FExpr) (n : ℕ)
         (reads signals (typed_tree b)) all_stand
 
     pub condition_ready : (f : FExpr) → f ≡ k → IsReady n f
-    condition_ready =
-        seen_ready k all_formed.0
-        (stand_left signals n words (reads signals (typed_tree k)) (reads signals (typed_tree a))
-        front_stand) n (le_refl n)
+    condition_ready = ready_before k (reads signals (typed_tree a)) all_formed.0 front_stand
 
     pub first_ready : (m : ℕ) → n ≤ m → (f : FExpr) → f ≡ a → IsReady m f
-    first_ready =
-        seen_ready a all_formed.1
-        (stand_right signals n words (reads signals (typed_tree k)) (reads signals (typed_tree a))
-        front_stand)
+    first_ready = ready_behind a (reads signals (typed_tree k)) all_formed.1 front_stand
 
     pub second_ready : (m : ℕ) → n ≤ m → (f : FExpr) → f ≡ b → IsReady m f
     second_ready =
-        seen_ready b all_formed.2
-        (stand_right signals n words
-        (reads signals (typed_tree k) ++ reads signals (typed_tree a))
-        (reads signals (typed_tree b)) all_stand)
+        ready_behind b (reads signals (typed_tree k) ++ reads signals (typed_tree a)) all_formed.2
+        all_stand
 
   pub index_ready : (s : ℕ) (place : Place) (e i : FExpr) →
       node_tree expr.node ≡ held_bit s place (typed_tree e) (typed_tree i) →
       (m : ℕ) → n ≤ m → (f : FExpr) → f ≡ i → IsReady m f
   index_ready s place e i is =
-      seen_ready i
+      ready_behind i (reads signals (typed_tree e))
       (held_bit_formed signals expr.width expr.signed (node_tree expr.node) node_formed s place
       (typed_tree e) (typed_tree i) is)
-      (stand_right signals n words (reads signals (typed_tree e)) (reads signals (typed_tree i))
       (stand_as signals n words (node_tree expr.node)
-      (held_bit s place (typed_tree e) (typed_tree i)) is stand))
+      (held_bit s place (typed_tree e) (typed_tree i)) is stand)
 
   pub piece_ready : (s : ℕ) (e : FExpr) (high low : ℕ) (p : FExpr) →
       node_tree expr.node ≡ mend s (typed_tree e) high low (typed_tree p) →
       (m : ℕ) → n ≤ m → (f : FExpr) → f ≡ p → IsReady m f
   piece_ready s e high low p is =
-      seen_ready p
+      ready_behind p (reads signals (typed_tree e))
       (mend_formed signals expr.width expr.signed (node_tree expr.node) node_formed s
       (typed_tree e) high low (typed_tree p) is)
-      (stand_right signals n words (reads signals (typed_tree e)) (reads signals (typed_tree p))
       (stand_as signals n words (node_tree expr.node)
-      (mend s (typed_tree e) high low (typed_tree p)) is stand))
+      (mend s (typed_tree e) high low (typed_tree p)) is stand)
 
 -- ---- parts in which something takes too many variables
 

@@ -1,7 +1,6 @@
 -- The points of a label one after the other, and the keys of each.
 use Rattle.std.proofs.Common.{◌≡◌, ℕ, suc, ◌+◌, ◌-◌, ◌≤◌, ◌<◌, Bool, true, false, cond, ◌==◌, ℤ}
 use Rattle.std.proofs.Common.{List, [], ◌∷◌, ◌++◌, map, length, sym, ap, ◌∙◌, subst, arith}
-use Rattle.std.proofs.Common.{append_assoc}
 use Rattle.std.specs.Prelude.{filter}
 use Rattle.std.specs.List.{list_any, range_with_len}
 use Rattle.std.proofs.lemmas.List.{append-nil}
@@ -13,6 +12,7 @@ use Rattle.sv_gates.specs.Formulas.{Formula, IsLiteral}
 use Rattle.sv_gates.specs.Extending.{Begins}
 use Rattle.sv_gates.proofs.ExtendingLaws.{begins_trans}
 use Rattle.sv_circuits.specs.Words.{Word, BitMaker, equals_number_bit}
+use Rattle.sv_circuits.proofs.WordKeeps.{step_behind}
 use Rattle.sv_encoding.specs.Labels.{PointLiteral, LabelForm, keys_of, point_bit, point_literals}
 use Rattle.sv_encoding_laws.proofs.GateCounts.{test_count}
 use Rattle.sv_blast.specs.LabelViews.{AreWithin, AreBelow}
@@ -128,13 +128,8 @@ points_step : (rows : MapRows) (selector : Word) (points more : List ℕ) (front
     (point_literals rows selector more later)
 points_step rows selector points more front p l now later ep e =
     ap (λ z. behind front (point_literals rows selector z now)) ep
-    ∙ ap (λ (z : Formula × ℤ). behind front (
-      (point_literals rows selector more z.0).0,
-      record { point = p; literal = z.1 } ∷ (point_literals rows selector more z.0).1,
-    )) e
-    ∙ ap (λ z. ((point_literals rows selector more later).0, z))
-    (sym (append_assoc front (record { point = p; literal = l } ∷ [])
-    (point_literals rows selector more later).1))
+    ∙ step_behind front (λ (l : ℤ). record { point = p; literal = l })
+    (λ f. point_literals rows selector more f) (point_bit rows selector p now) later l e
 
 -- the literals that are left from the present formula on; those in hand are of its variables, and of
 -- points below n

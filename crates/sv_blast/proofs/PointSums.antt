@@ -1,9 +1,9 @@
 -- Sizes of labels, and pairs of points that do not flow, told point by point.
 use Rattle.std.proofs.Common.{◌≡◌, ℕ, ◌+◌, ◌-◌, ◌<◌, Bool, true, false, cond, not}
 use Rattle.std.proofs.Common.{◌||◌, ◌&&◌, ◌==◌, List, [], ◌∷◌, length, map, filter, refl, sym}
-use Rattle.std.proofs.Common.{ap, ap₂, ◌∙◌, arith, ltb-true, nat_lt, All}
+use Rattle.std.proofs.Common.{ap, ap₂, ◌∙◌, arith, ltb-true, All}
 use Rattle.std.specs.Prelude.{sum, count_by, flat_map, Contains, IsTrue, slice_index_or}
-use Rattle.std.specs.List.{list_any, list_all, range_with_len}
+use Rattle.std.specs.List.{list_any, range_with_len}
 use Rattle.std.proofs.lemmas.Bool.{false≢true, eqb-true, eq-eqb}
 use Rattle.std.proofs.lemmas.List.Concat.{length-flat_map}
 use Rattle.std.proofs.lemmas.List.Elements.{All-head, All-tail, Contains-get_or}
@@ -16,10 +16,11 @@ use Rattle.sv_lattice.specs.Maps.{MapRows, row_of}
 use Rattle.sv_lattice.specs.Tables.{flow_test}
 use Rattle.sv_flat.specs.Design.{SignalForm, FlatDesign}
 use Rattle.sv_flat.specs.Values.{signal_of}
-use Rattle.sv_flat.specs.Soundness.{is_one_to, label_sound, signal_sound, map_sound, process_sound}
-use Rattle.sv_flat.specs.Soundness.{invariant_sound, sound}
+use Rattle.sv_flat.specs.Soundness.{is_one_to, label_sound, signal_sound}
+use Rattle.sv_flat.specs.Soundness.{sound}
 use Rattle.sv_flat.specs.Sets.{those}
-use Rattle.sv_flat.proofs.Depths.{first_of, second_of, from_all}
+use Rattle.sv_flat.proofs.Depths.{second_of, from_all}
+use Rattle.sv_rules.proofs.Sound.{all_signals}
 use Rattle.sv_encoding.specs.Labels.{row_points, keys_of}
 use Rattle.sv_encoding.specs.Sizes.{point_size, label_points}
 use Rattle.sv_encoding.specs.Sizes.{label_of_signal, stay_count}
@@ -88,17 +89,8 @@ module _ (design : FlatDesign) where
   pub label_is_sound : IsTrue (sound design) → (signal : SignalForm) →
       Contains design.signals signal → IsTrue (label_sound design signal.label)
   label_is_sound h signal at =
-      let few = nat_lt (length design.signals) 4294967295 in
-      let named = length design.points == length design.lattice in
-      let maps = list_all (map_sound design) design.maps in
-      let signals = list_all (signal_sound design) design.signals in
-      let processes = list_all (process_sound design) design.processes in
-      let invariants = list_all (invariant_sound design) design.invariants in
-      let all = second_of (few && named && maps) signals
-      (first_of (few && named && maps && signals) processes
-      (first_of (few && named && maps && signals && processes) invariants h)) in
       second_of (is_one_to 64 signal.width) (label_sound design signal.label)
-      (from_all (signal_sound design) design.signals signal all at)
+      (from_all (signal_sound design) design.signals signal (all_signals design h) at)
 
   -- the points that a sound label may be
   points_are : (label : Label) → IsTrue (label_sound design label) →

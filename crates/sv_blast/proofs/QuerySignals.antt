@@ -1,9 +1,10 @@
 -- The signals of an obligation are signals of the design.
-use Rattle.std.proofs.Common.{ℕ, ◌<◌, length, get_or, All, arith}
+use Rattle.std.proofs.Common.{ℕ, ◌<◌, List, length, get_or, All, arith}
 use Rattle.std.specs.Prelude.{IsTrue}
 use Rattle.std.proofs.lemmas.List.Elements.{Contains-get_or}
 use Rattle.sv_flat.specs.declared.designs.Flat.{Flat}
 use Rattle.sv_flat.specs.Admission.{IsAdmitted}
+use Rattle.sv_flat.specs.Sets.{holds as is_held}
 use Rattle.sv_flat.specs.Soundness.{sound}
 use Rattle.sv_flat.specs.Views.{design_of}
 use Rattle.sv_flat.proofs.LeastSets.{holds-from_Contains}
@@ -32,17 +33,18 @@ module _ (flat : Flat) (is_sound : IsTrue (sound (design_of flat)))
   goal_known o (holds e frame) is = tt
   goal_known o (selector s) is = seen_known s is.0
 
+  cone_known : (cone : List ℕ) →
+      ((s : ℕ) → IsTrue (is_held cone s) → Seen (design_of flat) is_sound admitted s) →
+      All (λ s. s < length flat.signals.items) cone
+  cone_known cone seen k d inside =
+      seen_known (get_or cone k d) (seen (get_or cone k d)
+      (holds-from_Contains cone (get_or cone k d) (Contains-get_or cone k d inside)))
+
   module _ (o : Obligation) (query : IsQueryOf (design_of flat) o) where
     pub now_known : All (λ s. s < length flat.signals.items) (now_cone (design_of flat) o)
-    now_known k d inside =
-        let cone = now_cone (design_of flat) o in
-        seen_known (get_or cone k d)
-        (now_seen (design_of flat) is_sound admitted o query (get_or cone k d)
-        (holds-from_Contains cone (get_or cone k d) (Contains-get_or cone k d inside)))
+    now_known = cone_known (now_cone (design_of flat) o)
+        (now_seen (design_of flat) is_sound admitted o query)
 
     pub next_known : All (λ s. s < length flat.signals.items) (next_cone (design_of flat) o)
-    next_known k d inside =
-        let cone = next_cone (design_of flat) o in
-        seen_known (get_or cone k d)
-        (next_seen (design_of flat) is_sound admitted o query (get_or cone k d)
-        (holds-from_Contains cone (get_or cone k d) (Contains-get_or cone k d inside)))
+    next_known = cone_known (next_cone (design_of flat) o)
+        (next_seen (design_of flat) is_sound admitted o query)

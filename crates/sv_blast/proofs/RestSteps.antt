@@ -146,20 +146,22 @@ module _ (encoder : Encoder) (made : Framed) (begun : IsBegun encoder made)
         all_up made.gates.variables gates.variables literals (omega (arith, same, last, more))
         (all_within made.gates.variables literals is)
 
-    pub facts_inside : (n : ℕ) (gates : Formula) (fails : ℤ) →
-        after_violation design o ≡ (gates, fails) → (literals : List ℤ) →
-        literals ≡ literals_of (take n made.truths.items) → All (IsLiteral gates.variables) literals
-    facts_inside n gates fails v literals e =
-        up gates fails v literals
-        (subst (IsWord made.gates.variables)
-        (take-map (λ (t : Truth). t.literal) n made.truths.items ∙ sym e)
-        (word_take made.gates.variables n (literals_of made.truths.items) inside))
+    -- no literal of a list of that many is, nor of one that stands for it
+    abbrev AreInside : List ℤ → Type 0
+    AreInside seen = (gates : Formula) (fails : ℤ) → after_violation design o ≡ (gates, fails) →
+        (literals : List ℤ) → literals ≡ seen → All (IsLiteral gates.variables) literals
 
-    pub conditions_inside : (n : ℕ) (gates : Formula) (fails : ℤ) →
-        after_violation design o ≡ (gates, fails) → (literals : List ℤ) →
-        literals ≡ literals_of (drop n made.truths.items) → All (IsLiteral gates.variables) literals
-    conditions_inside n gates fails v literals e =
-        up gates fails v literals
-        (subst (IsWord made.gates.variables)
-        (drop-map (λ (t : Truth). t.literal) n made.truths.items ∙ sym e)
-        (word_drop made.gates.variables n (literals_of made.truths.items) inside))
+    part_inside : {part seen : List ℤ} → part ≡ seen → IsWord made.gates.variables part →
+        AreInside seen
+    part_inside same is gates fails v literals e =
+        up gates fails v literals (subst (IsWord made.gates.variables) (same ∙ sym e) is)
+
+    pub facts_inside : (n : ℕ) → AreInside (literals_of (take n made.truths.items))
+    facts_inside n =
+        part_inside (take-map (λ (t : Truth). t.literal) n made.truths.items)
+        (word_take made.gates.variables n (literals_of made.truths.items) inside)
+
+    pub conditions_inside : (n : ℕ) → AreInside (literals_of (drop n made.truths.items))
+    conditions_inside n =
+        part_inside (drop-map (λ (t : Truth). t.literal) n made.truths.items)
+        (word_drop made.gates.variables n (literals_of made.truths.items) inside)

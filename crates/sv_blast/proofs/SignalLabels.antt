@@ -1,6 +1,7 @@
 -- The labels of signals one after the other, and where their words and points stand.
 use Rattle.std.proofs.Common.{◌≡◌, ℕ, zero, suc, ◌≤◌, ◌<◌, List, [], ◌∷◌, ◌++◌, map, length}
-use Rattle.std.proofs.Common.{refl, sym, ap, ◌∙◌, subst, arith, append_assoc, Option, Some, None, get_or, ℤ, ltb-true}
+use Rattle.std.proofs.Common.{refl, sym, ap, ◌∙◌, subst, arith, Option, Some, None, get_or, ℤ}
+use Rattle.std.proofs.Common.{ltb-true}
 use Rattle.std.specs.Prelude.{All, Contains, IsTrue}
 use Rattle.std.proofs.lemmas.List.{append-nil, length-map, get_or-map}
 use Rattle.std.proofs.lemmas.List.Elements.{All-push, All-weaker, All-tail, All-nil, All-cons}
@@ -23,7 +24,7 @@ use Rattle.sv_gates.specs.Formulas.{Formula, IsLiteral}
 use Rattle.sv_gates.specs.Extending.{Begins}
 use Rattle.sv_gates.proofs.ExtendingLaws.{begins_none, begins_trans}
 use Rattle.sv_circuits.specs.Circuits.{IsWord}
-use Rattle.sv_circuits.proofs.WordKeeps.{word_join, word_up}
+use Rattle.sv_circuits.proofs.WordKeeps.{step_behind, word_join, word_up}
 use Rattle.sv_encoding.specs.Cones.{label_selectors}
 use Rattle.sv_encoding.specs.Expressions.{Words}
 use Rattle.sv_encoding.specs.Labels.{PointLiteral, LabelForm, selector_word, row_points}
@@ -191,12 +192,8 @@ module _ (design : FlatDesign) (words : Words) where
       ≡ behind (front ++ label ∷ []) (signal_labels design words more later)
   labels_step ss more front s label now later es e =
       ap (λ z. behind front (signal_labels design words z now)) es
-      ∙ ap (λ (z : Formula × LabelForm). behind front (
-        (signal_labels design words more z.0).0,
-        z.1 ∷ (signal_labels design words more z.0).1,
-      )) e
-      ∙ ap (λ z. ((signal_labels design words more later).0, z))
-      (sym (append_assoc front (label ∷ []) (signal_labels design words more later).1))
+      ∙ step_behind front (λ z. z) (λ f. signal_labels design words more f)
+      (signal_label design words s now) later label e
 
   pub labels_more : (whole : Formula × List LabelForm) (ss more : List ℕ) (old now later : Formula)
       (labels : List LabelForm) (s : ℕ) (label : LabelForm) →

@@ -30,6 +30,7 @@ use Rattle.sv_obl.specs.MarkedBodies.{AllSettled, IsMarkedFor}
 use Rattle.sv_obl.specs.BodySlices.{sliced, in_sequence, SameParts, first_body, driven_body}
 use Rattle.sv_obl.proofs.MadeFacts.{combinational_driver, register_driver}
 use Rattle.sv_obl.proofs.OneDriver.{no_driver, one_driver_at}
+use Rattle.sv_obl.proofs.SliceFacts.{same_parts_have}
 use Rattle.sv_gates.specs.Formulas.{Formula}
 use Rattle.sv_gates.specs.Gates.{false_literal, mux_gate}
 use Rattle.sv_circuits.specs.Words.{Word, bitwise_word}
@@ -70,41 +71,13 @@ module _ (signals : List SignalForm) (words : Words) (s : ℕ) where
       ∙ sequence_word b nothing w f
 
 module _ (signals : List SignalForm) (n : ℕ) (words : Words) where
-  abbrev Ready : FlatStatement → Type 0
-  Ready a = AreReady signals n words a
-
-  sequence_ready : (a rest : FlatStatement) → Ready a → Ready rest → Ready (in_sequence a rest)
-  sequence_ready nothing rest ready more = more
-  sequence_ready (after x y) rest ready more =
-      sequence_ready x (in_sequence y rest) ready.0 (sequence_ready y rest ready.1 more)
-  sequence_ready (assign pieces place blocking right) rest ready more = (ready, more)
-  sequence_ready (branch place condition x y) rest ready more = (
-    (
-      ready.0,
-      (sequence_ready x nothing ready.1.0 tt, sequence_ready y nothing ready.1.1 tt),
-    ),
-    more,
-  )
-
-  ready_apart : (a rest : FlatStatement) → Ready (in_sequence a rest) → Ready a × Ready rest
-  ready_apart nothing rest ready = (tt, ready)
-  ready_apart (after x y) rest ready =
-      let p = ready_apart x (in_sequence y rest) ready in
-      let q = ready_apart y rest p.1 in
-      ((p.0, q.0), q.1)
-  ready_apart (assign pieces place blocking right) rest ready = ready
-  ready_apart (branch place condition x y) rest ready = (
-    (
-      ready.0.0,
-      ((ready_apart x nothing ready.0.1.0).0, (ready_apart y nothing ready.0.1.1).0),
-    ),
-    ready.1,
-  )
-
   pub same_parts_ready : (a b : FlatStatement) → SameParts a b → AreReady signals n words b →
       AreReady signals n words a
-  same_parts_ready a b same ready =
-      (ready_apart a nothing (subst Ready (sym same) (sequence_ready b nothing ready tt))).0
+  same_parts_ready =
+      same_parts_have (AreReady signals n words) tt (λ a b one two. (one, two))
+      (λ a b ready. (ready.0, ready.1))
+      (λ place condition a b first second ready. (ready.0, (first ready.1.0, second ready.1.1)))
+      (λ place condition a b first second ready. (ready.0, (first ready.1.0, second ready.1.1)))
 
 -- ---- more variables
 
@@ -253,26 +226,21 @@ module _ (design : FlatDesign) (is : IsDesign design) (s : ℕ)
     pub kind : is_clocked process.kind ≡ is_register design s
     pub alone : drivers (processes_of design) s ≡ process ∷ []
 
+  has_driver : (p : ProcessForm) → Contains (processes_of design) p → IsTrue (assigns p.body s) →
+      is_clocked p.kind ≡ is_register design s → drivers (processes_of design) s ≡ p ∷ [] →
+      HasDriver
+  has_driver p at own kind alone =
+      record { process = p; at = at; own = own; kind = kind; alone = alone }
+
   pub driver : HasDriver
   driver = ⊎_elim
       (λ register.
       let found = register_driver design is.is_sound is.is_admitted s register in
-      record {
-        process = found.0;
-        at = found.1;
-        own = found.3;
-        kind = found.2 ∙ sym register;
-        alone = found.4;
-      })
+      has_driver found.0 found.1 found.3 (found.2 ∙ sym register) found.4)
       (λ comb.
       let found = combinational_driver design is.is_sound is.is_admitted s comb in
-      record {
-        process = found.0;
-        at = found.1;
-        own = found.3;
-        kind = found.2 ∙ sym (parts_of design is.is_sound is.is_admitted s comb).2;
-        alone = found.4;
-      })
+      has_driver found.0 found.1 found.3
+      (found.2 ∙ sym (parts_of design is.is_sound is.is_admitted s comb).2) found.4)
       (or_cases (is_register design s) (is_combinational design s) driven)
 
   is_known : IsTrue (is_signal design.signals s)

@@ -1,31 +1,33 @@
 -- What a process without an earlier read takes for its target is what the target's slice takes.
-use Rattle.std.proofs.Common.{◌≡◌, ℕ, zero, suc, ◌+◌, ◌<◌, Bool, true, false, cond, ◌||◌, ◌&&◌, ◌==◌}
-use Rattle.std.proofs.Common.{List, [], ◌∷◌, length, refl, sym, ap, ap₂, subst, ◌∙◌, ⊎_elim}
+use Rattle.std.proofs.Common.{◌≡◌, ℕ, zero, suc, ◌+◌, ◌<◌, Bool, true, false, cond, ◌||◌}
+use Rattle.std.proofs.Common.{List, [], ◌∷◌, length, refl, sym, ap, ap₂, subst, ◌∙◌}
 use Rattle.std.proofs.Common.{arith, ltb-true, None}
 use Rattle.std.specs.Prelude.{Contains, IsTrue}
 use Rattle.std.specs.List.{list_any, list_all}
-use Rattle.std.proofs.lemmas.Bool.{false≢true}
-use Rattle.sv_system.proofs.Lists.{Contains-head, Contains-nil, Contains-cases}
+use Rattle.sv_system.proofs.Lists.{Contains-head}
 use Rattle.sv_flat.specs.Design.{SignalForm, TypedTree, FlatStatement, nothing, after, assign}
 use Rattle.sv_flat.specs.Design.{branch, ProcessForm, FlatDesign}
 use Rattle.sv_flat.specs.Values.{signal_width, expression_width}
 use Rattle.sv_flat.specs.Soundness.{is_signal, piece_fits, well_formed, statement_sound, sound}
 use Rattle.sv_flat.specs.Assigned.{assigns}
-use Rattle.sv_flat.specs.Readings.{Reading, no_bits}
+use Rattle.sv_flat.specs.Readings.{no_bits}
 use Rattle.sv_flat.specs.Processes.{is_block, drivers}
 use Rattle.sv_flat.specs.Clocks.{processes_of}
-use Rattle.sv_flat.specs.Reads.{wants, is_earlier, followed, process_readings}
+use Rattle.sv_flat.specs.Reads.{wants, followed}
 use Rattle.sv_flat.specs.Sets.{holds, those, with_all_brought, least_set}
 use Rattle.sv_flat.specs.Admission.{IsAdmitted}
-use Rattle.sv_flat.proofs.LeastSets.{from_some, least_set_least, Contains-from_holds, in_those}
+use Rattle.sv_flat.proofs.LeastSets.{Contains-from_holds, in_those}
 use Rattle.sv_flat.proofs.LeastSets.{holds-from_Contains, those_pass, Contains-from_filter}
 use Rattle.sv_flat.proofs.Depths.{first_of, second_of}
 use Rattle.sv_flat.proofs.AdmittedFacts.{body_is_sound}
+use Rattle.sv_rules.proofs.Sound.{branch_sound}
 use Rattle.sv_obl.specs.MarkedBodies.{AllSettled, IsMarkedFor}
-use Rattle.sv_obl.specs.BodySlices.{sliced, in_sequence, SameParts, first_body, driven_body}
+use Rattle.sv_obl.specs.BodySlices.{sliced, SameParts, first_body, driven_body}
 use Rattle.sv_obl.specs.Wanted.{with_copies, marked}
 use Rattle.sv_obl.proofs.MadeFacts.{follows_itself}
 use Rattle.sv_obl.proofs.PutFacts.{width_settled}
+use Rattle.sv_obl.proofs.SliceFacts.{same_parts_sized}
+use Rattle.sv_obl.proofs.TargetReads.{follows_alone}
 use Rattle.sv_obl.proofs.Unchanged.{marked_itself}
 use Rattle.sv_encoding.specs.Sizes.{expression_size, chain_size, truth_size, widths_of, statement_size}
 use Rattle.sv_encoding.specs.Sizes.{process_size, size_of_first, signal_size}
@@ -37,26 +39,12 @@ use Rattle.sv_blast.proofs.RenamedSizes.{size_same}
 -- ---- parts in a sequence
 
 module _ (signals : List SignalForm) (width : ℕ) where
-  sequence_size : (a rest : FlatStatement) →
-      slice_size signals width (in_sequence a rest)
-      ≡ slice_size signals width a + slice_size signals width rest
-  sequence_size nothing rest = omega arith
-  sequence_size (after first second) rest =
-      sequence_size first (in_sequence second rest) ∙ omega (arith, sequence_size second rest)
-  sequence_size (assign pieces place blocking right) rest = refl
-  sequence_size (branch place condition first second) rest =
-      omega (arith, sequence_size first nothing, sequence_size second nothing)
-
   -- statements with the same parts
   pub same_parts_size : (one other : FlatStatement) → SameParts one other →
       slice_size signals width one ≡ slice_size signals width other
-  same_parts_size one other same =
-      omega (
-        arith,
-        sequence_size one nothing,
-        sequence_size other nothing,
-        ap (slice_size signals width) same,
-      )
+  same_parts_size =
+      same_parts_sized (slice_size signals width) refl (λ a b. refl)
+      (λ place condition a b first second. omega (arith, first, second))
 
 -- ---- a statement for one target
 
@@ -95,27 +83,15 @@ module _ (signals : List SignalForm) (s : ℕ) where
       by true = size_same signals (with_copies signals) both_same right formed
       by false = refl
   sliced_size (branch place condition first second) h =
-      by (assigns (branch place condition first second) s)
+      let (formed, sound_first, sound_second) =
+      branch_sound signals place condition first second h in
+      by formed (assigns (branch place condition first second) s)
       (sliced_size first sound_first) (sliced_size second sound_second)
     where
-      front : IsTrue (well_formed signals condition && statement_sound signals first)
-      front = first_of (well_formed signals condition && statement_sound signals first)
-          (statement_sound signals second) h
-
-      sound_first : IsTrue (statement_sound signals first)
-      sound_first = second_of (well_formed signals condition) (statement_sound signals first) front
-
-      sound_second : IsTrue (statement_sound signals second)
-      sound_second = second_of (well_formed signals condition && statement_sound signals first)
-          (statement_sound signals second) h
-
-      formed : IsTrue (well_formed signals condition)
-      formed = first_of (well_formed signals condition) (statement_sound signals first) front
-
       width : ℕ
       width = signal_width signals s
 
-      by : (c : Bool) →
+      by : IsTrue (well_formed signals condition) → (c : Bool) →
           statement_size signals (s ∷ []) first ≡ slice_size signals width (sliced s first) →
           statement_size signals (s ∷ []) second ≡ slice_size signals width (sliced s second) →
           cond (c || false)
@@ -123,7 +99,7 @@ module _ (signals : List SignalForm) (s : ℕ) where
           + statement_size signals (s ∷ []) second + widths_of signals (cond c (s ∷ []) [])) 0
           ≡ slice_size signals width
           (cond c (branch place condition (sliced s first) (sliced s second)) nothing)
-      by true one two =
+      by formed true one two =
           omega (
             arith,
             condition_same condition formed,
@@ -131,7 +107,7 @@ module _ (signals : List SignalForm) (s : ℕ) where
             two,
             mapped_more (signal_width signals) s [],
           )
-      by false one two = refl
+      by formed false one two = refl
 
 -- ---- what is followed
 
@@ -155,21 +131,8 @@ module _ (design : FlatDesign) (is_sound : IsTrue (sound design)) (admitted : Is
     -- no value is an earlier one, so the signal alone is followed
     only_itself : (u : ℕ) → IsTrue (holds (followed design p s) u) → u ≡ s
     only_itself u held =
-        least_set_least (length design.signals) (wants design p) (s ∷ [])
-        (λ k k_at. ⊎_elim (λ same. subst (λ z. z < length design.signals) same known)
-        (λ later. absurd (Contains-nil k later)) (Contains-cases s [] k k_at))
-        (λ k. k ≡ s)
-        (λ k k_at. ⊎_elim (λ same. sym same) (λ later. absurd (Contains-nil k later))
-        (Contains-cases s [] k k_at))
-        (λ m k is brings low.
-        let found = from_some (λ (r : Reading).
-        is_earlier design p r && r.serves m && (r.name.signal == k))
-        (process_readings design p) brings in
-        let r = found.0 in
-        absurd (false≢true (sym (all_settled r found.1)
-        ∙ first_of (is_earlier design p r) (r.serves m)
-        (first_of (is_earlier design p r && r.serves m) (r.name.signal == k) found.2))))
-        u (Contains-from_holds (followed design p s) u held)
+        sym (follows_alone design p s known all_settled u
+        (Contains-from_holds (followed design p s) u held))
 
     pub followed_alone : followed design p s ≡ s ∷ []
     followed_alone =

@@ -14,11 +14,9 @@ use Rattle.sv_gates.proofs.ExtendingLaws.{begins_trans}
 use Rattle.sv_encoding.specs.Cones.{now_cone, next_cone}
 use Rattle.sv_encoding.specs.Encoding.{BitPlace, given_in, inputs_in, bit_places}
 use Rattle.sv_encoding.specs.Encoding.{path_units, with_units, encoding}
-use Rattle.sv_encoding_laws.proofs.Chain.{free3, p8, p9, p10}
+use Rattle.sv_encoding_laws.proofs.Chain.{free3, p6, p7, p8, p9, p10}
 use Rattle.sv_blast.specs.Steps.{after_given, after_settled, after_inputs, after_next, after_facts}
 use Rattle.sv_blast.specs.Steps.{after_conditions, after_target, after_reads, after_violation}
-use Rattle.sv_blast.proofs.LiteralFacts.{facts_more, conditions_more, target_more, reads_more}
-use Rattle.sv_blast.proofs.LiteralFacts.{violation_more}
 use Rattle.sv_blast.proofs.StepFacts.{registers_more, next_more}
 use Rattle.sv_blast.proofs.UnitClauses.{units_keep, units_begin}
 
@@ -67,11 +65,11 @@ module _ (flat : Flat) (checked : IsChecked (design_of flat)) (o : Obligation)
 
   pub next_within : (after_next design o).0.variables ≤ (encoding design o).variables
   next_within =
-      let a = facts_more flat checked o query in
-      let b = conditions_more flat checked o query in
-      let d = target_more flat checked o query in
-      let g = reads_more flat checked o query in
-      let h = violation_more flat checked o query in
+      let a = (p6 design checked o query).extends.begins.grows in
+      let b = (p7 design checked o query).extends.begins.grows in
+      let d = (p8 design checked o query).extends.begins.grows in
+      let g = (p9 design checked o query).extends.begins.grows in
+      let h = (p10 design checked o query).extends.begins.grows in
       omega (arith, last_same, a, b, d, g, h)
 
   pub settled_within : (after_settled design o).0.variables ≤ (encoding design o).variables
@@ -85,9 +83,9 @@ module _ (flat : Flat) (checked : IsChecked (design_of flat)) (o : Obligation)
   -- what the conditions take is no more than what all takes
   pub conditions_within : (after_conditions design o).0.variables ≤ (after_violation design o).0.variables
   conditions_within =
-      let d = target_more flat checked o query in
-      let g = reads_more flat checked o query in
-      let h = violation_more flat checked o query in
+      let d = (p8 design checked o query).extends.begins.grows in
+      let g = (p9 design checked o query).extends.begins.grows in
+      let h = (p10 design checked o query).extends.begins.grows in
       omega (arith, d, g, h)
 
   -- all that comes behind the conditions is added to their formula

@@ -2,6 +2,7 @@
 use Rattle.std.proofs.Common.{◌≡◌, ℕ, zero, suc, ◌+◌, ◌-◌, ◌*◌, ◌/◌, ◌%◌, ◌^◌, ◌<◌, min, max, Bool}
 use Rattle.std.proofs.Common.{true, false, not, ◌&&◌, ◌||◌, List, [], ◌∷◌, map, replicate}
 use Rattle.std.proofs.Common.{length, refl, sym, ap, ap₂, ◌∙◌, subst, arith}
+use Rattle.std.specs.Int.{bit_at}
 use Rattle.std.specs.Prelude.{bit_and, bit_or, bit_xor}
 use Rattle.std.proofs.Math.Nat.{add-mul-mod_self_right, mod-eq_of_lt, pow-suc}
 use Rattle.std.proofs.lemmas.Nat.{and_shr, or_shr, xor_shr}
@@ -138,11 +139,11 @@ joined_length op (x ∷ a) (y ∷ b) e = ap suc (joined_length op a b (omega (ar
 from_half : (n low rest : ℕ) → n % 2 ≡ low → n / 2 ≡ rest → low + 2 * rest ≡ n
 from_half n low rest e f = omega (arith, e, f)
 
-half_of : (b : Bool) (n : ℕ) → (truth b + 2 * n) / 2 ≡ n
+pub half_of : (b : Bool) (n : ℕ) → (truth b + 2 * n) / 2 ≡ n
 half_of true n = omega arith
 half_of false n = omega arith
 
-low_of : (b : Bool) (n : ℕ) → (truth b + 2 * n) % 2 ≡ truth b
+pub low_of : (b : Bool) (n : ℕ) → (truth b + 2 * n) % 2 ≡ truth b
 low_of true n = omega arith
 low_of false n = omega arith
 
@@ -164,57 +165,44 @@ truth_differ true false = refl
 truth_differ false true = refl
 truth_differ false false = refl
 
-pub and_number : (a b : List Bool) → length a ≡ length b →
-    number (joined_bits ◌&&◌ a b) ≡ bit_and (number a) (number b)
-and_number [] [] e = refl
-and_number [] (y ∷ b) e = absurd (omega (arith, e))
-and_number (x ∷ a) [] e = absurd (omega (arith, e))
-and_number (x ∷ a) (y ∷ b) e =
+-- a number of bits joined one by one, where the whole has each bit from bits and each half from
+-- halves
+joined_number : (op : Bool → Bool → Bool) (whole join : ℕ → ℕ → ℕ)
+    → ((x y : Bool) → truth (op x y) ≡ join (truth x) (truth y))
+    → ((m n : ℕ) → bit_at (whole m n) 0 ≡ join (bit_at m 0) (bit_at n 0))
+    → ((m n : ℕ) → whole m n / 2 ≡ whole (m / 2) (n / 2))
+    → whole 0 0 ≡ 0 → (a b : List Bool) → length a ≡ length b
+    → number (joined_bits op a b) ≡ whole (number a) (number b)
+joined_number op whole join truths bits halves none [] [] e = sym none
+joined_number op whole join truths bits halves none [] (y ∷ b) e = absurd (omega (arith, e))
+joined_number op whole join truths bits halves none (x ∷ a) [] e = absurd (omega (arith, e))
+joined_number op whole join truths bits halves none (x ∷ a) (y ∷ b) e =
     let m = number (x ∷ a) in
     let n = number (y ∷ b) in
-    let low : bit_and m n % 2 ≡ truth (x && y) =
-    sym (bit_at_lowest (bit_and m n)) ∙ bit_at_and m n 0
-    ∙ ap₂ min (bit_at_lowest m ∙ low_of x (number a)) (bit_at_lowest n ∙ low_of y (number b))
-    ∙ sym (truth_and x y) in
-    let half : bit_and m n / 2 ≡ bit_and (number a) (number b) =
-    and_shr m n 1 ∙ ap₂ bit_and (half_of x (number a)) (half_of y (number b)) in
-    ap (λ r. truth (x && y) + 2 * r) (and_number a b (omega (arith, e)))
-    ∙ from_half (bit_and m n) (truth (x && y)) (bit_and (number a) (number b)) low half
+    let low : whole m n % 2 ≡ truth (op x y) =
+    sym (bit_at_lowest (whole m n)) ∙ bits m n
+    ∙ ap₂ join (bit_at_lowest m ∙ low_of x (number a)) (bit_at_lowest n ∙ low_of y (number b))
+    ∙ sym (truths x y) in
+    let half : whole m n / 2 ≡ whole (number a) (number b) =
+    halves m n ∙ ap₂ whole (half_of x (number a)) (half_of y (number b)) in
+    ap (λ r. truth (op x y) + 2 * r)
+    (joined_number op whole join truths bits halves none a b (omega (arith, e)))
+    ∙ from_half (whole m n) (truth (op x y)) (whole (number a) (number b)) low half
+
+pub and_number : (a b : List Bool) → length a ≡ length b →
+    number (joined_bits ◌&&◌ a b) ≡ bit_and (number a) (number b)
+and_number = joined_number ◌&&◌ bit_and min truth_and (λ m n. bit_at_and m n 0)
+    (λ m n. and_shr m n 1) refl
 
 pub or_number : (a b : List Bool) → length a ≡ length b →
     number (joined_bits ◌||◌ a b) ≡ bit_or (number a) (number b)
-or_number [] [] e = refl
-or_number [] (y ∷ b) e = absurd (omega (arith, e))
-or_number (x ∷ a) [] e = absurd (omega (arith, e))
-or_number (x ∷ a) (y ∷ b) e =
-    let m = number (x ∷ a) in
-    let n = number (y ∷ b) in
-    let low : bit_or m n % 2 ≡ truth (x || y) =
-    sym (bit_at_lowest (bit_or m n)) ∙ bit_at_or m n 0
-    ∙ ap₂ max (bit_at_lowest m ∙ low_of x (number a)) (bit_at_lowest n ∙ low_of y (number b))
-    ∙ sym (truth_or x y) in
-    let half : bit_or m n / 2 ≡ bit_or (number a) (number b) =
-    or_shr m n 1 ∙ ap₂ bit_or (half_of x (number a)) (half_of y (number b)) in
-    ap (λ r. truth (x || y) + 2 * r) (or_number a b (omega (arith, e)))
-    ∙ from_half (bit_or m n) (truth (x || y)) (bit_or (number a) (number b)) low half
+or_number = joined_number ◌||◌ bit_or max truth_or (λ m n. bit_at_or m n 0)
+    (λ m n. or_shr m n 1) refl
 
 pub xor_number : (a b : List Bool) → length a ≡ length b →
     number (joined_bits differ a b) ≡ bit_xor (number a) (number b)
-xor_number [] [] e = refl
-xor_number [] (y ∷ b) e = absurd (omega (arith, e))
-xor_number (x ∷ a) [] e = absurd (omega (arith, e))
-xor_number (x ∷ a) (y ∷ b) e =
-    let m = number (x ∷ a) in
-    let n = number (y ∷ b) in
-    let low : bit_xor m n % 2 ≡ truth (differ x y) =
-    sym (bit_at_lowest (bit_xor m n)) ∙ bit_at_xor m n 0
-    ∙ ap₂ (λ p q. (p + q) % 2) (bit_at_lowest m ∙ low_of x (number a))
-    (bit_at_lowest n ∙ low_of y (number b))
-    ∙ sym (truth_differ x y) in
-    let half : bit_xor m n / 2 ≡ bit_xor (number a) (number b) =
-    xor_shr m n 1 ∙ ap₂ bit_xor (half_of x (number a)) (half_of y (number b)) in
-    ap (λ r. truth (differ x y) + 2 * r) (xor_number a b (omega (arith, e)))
-    ∙ from_half (bit_xor m n) (truth (differ x y)) (bit_xor (number a) (number b)) low half
+xor_number = joined_number differ bit_xor (λ k l. (k + l) % 2) truth_differ
+    (λ m n. bit_at_xor m n 0) (λ m n. xor_shr m n 1) refl
 
 same_is_not : (a b : List Bool) → joined_bits same a b ≡ map not (joined_bits differ a b)
 same_is_not [] b = refl

@@ -79,28 +79,32 @@ pub literal_bits : (word : Word) (values : ℕ → Bool) →
 literal_bits [] values = refl
 literal_bits (l ∷ word) values = ap (λ bs. literal_true values l ∷ bs) (literal_bits word values)
 
+-- what is made with a value has an equal one
+says_as : {A B : Type 0} (old : Formula) (made : Formula × A) (Inside : ℕ → A → Type 0)
+    (read : (ℕ → Bool) → A → B) (value other : (ℕ → Bool) → B) →
+    ((values : ℕ → Bool) → value values ≡ other values) →
+    Makes old made Inside (λ values x. read values x ≡ value values) →
+    Makes old made Inside (λ values x. read values x ≡ other values)
+says_as old made Inside read value other same p = record {
+  extends = p.extends;
+  within = p.within;
+  says = λ values e. p.says values e ∙ same values;
+}
+
 -- a piece that gives a value gives an equal one
 pub bit_as : (n : ℕ) (make : BitMaker) (value other : (ℕ → Bool) → Bool) →
     ((values : ℕ → Bool) → value values ≡ other values) → GivesBit n make value →
     GivesBit n make other
 bit_as n make value other same gives old h base =
-    let p = gives old h base in
-    record {
-      extends = p.extends;
-      within = p.within;
-      says = λ values e. p.says values e ∙ same values;
-    }
+    says_as old (make old) IsLiteral (λ values l. literal_true values l) value other same
+    (gives old h base)
 
 pub word_as : (n : ℕ) (make : WordMaker) (value other : (ℕ → Bool) → List Bool) →
     ((values : ℕ → Bool) → value values ≡ other values) → GivesWord n make value →
     GivesWord n make other
 word_as n make value other same gives old h base =
-    let p = gives old h base in
-    record {
-      extends = p.extends;
-      within = p.within;
-      says = λ values e. p.says values e ∙ same values;
-    }
+    says_as old (make old) IsWord (λ values word. bits_of values word) value other same
+    (gives old h base)
 
 -- ---- chains of a word's bits
 

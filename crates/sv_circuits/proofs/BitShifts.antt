@@ -87,6 +87,10 @@ down_number by bs =
 power_of : (i : ℕ) (c : Bool) (n : ℕ) → 2 ^ i * (truth c + 2 * n) ≡ 2 ^ i * truth c + 2 ^ suc i * n
 power_of i c n = omega (arith, ap (λ p. p * n) (pow-suc 2 i))
 
+-- a false bit of the amount moves nothing
+not_moved : (i n : ℕ) → 2 ^ suc i * n ≡ 2 ^ i * (truth false + 2 * n)
+not_moved i n = omega (arith, power_of i false n)
+
 pub shifted_length : (move : ℕ → List Bool → List Bool) →
     ((by : ℕ) (bs : List Bool) → length (move by bs) ≡ length bs) → (i : ℕ) (cs bs : List Bool) →
     length (shifted_bits move i cs bs) ≡ length bs
@@ -122,13 +126,10 @@ shifted_up_number i (true ∷ cs) bs =
     ∙ mul-mod_first (number bs * 2 ^ by) (2 ^ q) (2 ^ n)
     ∙ ap (λ m. m % 2 ^ n) (grouped ∙ ap (λ j. number bs * 2 ^ j) far)
 shifted_up_number i (false ∷ cs) bs =
-    let by = 2 ^ i in
-    let far : 2 ^ suc i * number cs ≡ by * (truth false + 2 * number cs) =
-    omega (arith, power_of i false (number cs)) in
     ap (λ xs. number (shifted_bits (up_bits false) (suc i) cs xs))
-    (chosen_second (up_bits false by bs) bs (up_length false by bs))
+    (chosen_second (up_bits false (2 ^ i) bs) bs (up_length false (2 ^ i) bs))
     ∙ shifted_up_number (suc i) cs bs
-    ∙ ap (λ j. number bs * 2 ^ j % 2 ^ length bs) far
+    ∙ ap (λ j. number bs * 2 ^ j % 2 ^ length bs) (not_moved i (number cs))
 
 pub shifted_down_number : (i : ℕ) (cs bs : List Bool) →
     number (shifted_bits (down_bits false) i cs bs) ≡ number bs / 2 ^ (2 ^ i * number cs)
@@ -148,13 +149,10 @@ shifted_down_number i (true ∷ cs) bs =
     ∙ shr-shr (number bs) by q
     ∙ ap (λ j. number bs / 2 ^ j) far
 shifted_down_number i (false ∷ cs) bs =
-    let by = 2 ^ i in
-    let far : 2 ^ suc i * number cs ≡ by * (truth false + 2 * number cs) =
-    omega (arith, power_of i false (number cs)) in
     ap (λ xs. number (shifted_bits (down_bits false) (suc i) cs xs))
-    (chosen_second (down_bits false by bs) bs (down_length false by bs))
+    (chosen_second (down_bits false (2 ^ i) bs) bs (down_length false (2 ^ i) bs))
     ∙ shifted_down_number (suc i) cs bs
-    ∙ ap (λ j. number bs / 2 ^ j) far
+    ∙ ap (λ j. number bs / 2 ^ j) (not_moved i (number cs))
 
 -- ---- true bits that fill: all is turned
 

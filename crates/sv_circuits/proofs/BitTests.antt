@@ -1,10 +1,10 @@
 -- What tests of bits say of the numbers that they stand for.
-use Rattle.std.proofs.Common.{◌≡◌, ℕ, zero, suc, ◌+◌, ◌-◌, ◌*◌, ◌/◌, ◌%◌, ◌^◌, ◌<◌, ◌≤◌, Bool, true}
+use Rattle.std.proofs.Common.{◌≡◌, ℕ, zero, suc, ◌+◌, ◌-◌, ◌*◌, ◌/◌, ◌%◌, ◌^◌, ◌<◌, Bool, true}
 use Rattle.std.proofs.Common.{false, not, ◌&&◌, ◌||◌, ◌==◌, nat_lt, List, [], ◌∷◌, fold}
 use Rattle.std.proofs.Common.{length, refl, sym, ap, ◌∙◌, arith, if◌then◌else◌, ltb-true}
 use Rattle.std.proofs.Math.Nat.{pow-suc}
 use Rattle.std.proofs.lemmas.Nat.{pow_pos}
-use Rattle.std.proofs.lemmas.Bool.{lt-ltb, le-ltb, ltb-false, eqb-true, eq-eqb, ne_eqb}
+use Rattle.std.proofs.lemmas.Bool.{lt-ltb, eqb-true, eq-eqb, ne_eqb}
 use Rattle.sv_num.specs.Vectors.{truth, is_true}
 use Rattle.sv_circuits.proofs.BitPieces.{joined_bits}
 use Rattle.sv_circuits.proofs.Comparisons.{same, equal_bits, less_bits}
@@ -14,27 +14,19 @@ use Rattle.sv_circuits.proofs.BitNumbers.{number, truth_low}
 
 -- ---- tests that tell the same
 
+pub alike : (a b : Bool) → (a ≡ true → b ≡ true) → (b ≡ true → a ≡ true) → a ≡ b
+alike true b there back = sym (there refl)
+alike false true there back = back refl
+alike false false there back = refl
+
 -- two tests of numbers that hold of the same numbers
 pub same_order : (m n p q : ℕ) → (m < n → p < q) → (p < q → m < n) → nat_lt m n ≡ nat_lt p q
-same_order m n p q there back = by_case (nat_lt m n) refl
-  where
-    by_case : (t : Bool) → nat_lt m n ≡ t → nat_lt m n ≡ nat_lt p q
-    by_case true e = e ∙ sym (lt-ltb p q (there (ltb-true m n e)))
-    by_case false e = e ∙ sym (le-ltb p q (by_other (nat_lt p q) refl))
-      where
-        by_other : (t : Bool) → nat_lt p q ≡ t → q ≤ p
-        by_other true f = absurd (omega (arith, back (ltb-true p q f), ltb-false m n e))
-        by_other false f = ltb-false p q f
+same_order m n p q there back = alike (nat_lt m n) (nat_lt p q)
+    (λ e. lt-ltb p q (there (ltb-true m n e))) (λ e. lt-ltb m n (back (ltb-true p q e)))
 
 pub same_equal : (m n p q : ℕ) → (m ≡ n → p ≡ q) → (p ≡ q → m ≡ n) → (m == n) ≡ (p == q)
-same_equal m n p q there back = by_case (m == n) refl
-  where
-    by_case : (t : Bool) → (m == n) ≡ t → (m == n) ≡ (p == q)
-    by_case true e = e ∙ sym (eq-eqb p q (there (eqb-true m n e)))
-    by_case false e = e ∙ sym (ne_eqb p q (λ f. bool_apart (sym (eq-eqb m n (back f)) ∙ e)))
-      where
-        bool_apart : true ≡ false → ⊥
-        bool_apart h = absurd (omega (arith, ap truth h))
+same_equal m n p q there back = alike (m == n) (p == q)
+    (λ e. eq-eqb p q (there (eqb-true m n e))) (λ e. eq-eqb m n (back (eqb-true p q e)))
 
 -- ---- chains
 

@@ -1,13 +1,14 @@
 -- A word of new variables, as a loop makes it.
-use Rattle.std.proofs.Common.{◌≡◌, ℕ, zero, suc, ◌+◌, ◌-◌, ◌≤◌, ◌<◌, ℤ, [], ◌∷◌, ◌++◌, sym, ap, ◌∙◌, refl}
-use Rattle.std.proofs.Common.{subst, arith, append_assoc}
+use Rattle.std.proofs.Common.{◌≡◌, ℕ, zero, suc, ◌+◌, ◌-◌, ◌≤◌, ◌<◌, ℤ, [], ◌∷◌, ◌++◌, sym, ap, ◌∙◌}
+use Rattle.std.proofs.Common.{refl}
+use Rattle.std.proofs.Common.{subst, arith}
 use Rattle.std.proofs.lemmas.List.{append-nil}
 use Rattle.sv_gates.specs.Extending.{Begins}
 use Rattle.sv_gates.proofs.ExtendingLaws.{begins_trans}
 use Rattle.sv_gates.specs.Formulas.{Formula}
 use Rattle.sv_gates.specs.Gates.{fresh_variable}
 use Rattle.sv_circuits.specs.Words.{Word, fresh_word}
-use Rattle.sv_circuits.proofs.WordKeeps.{onto, word_up}
+use Rattle.sv_circuits.proofs.WordKeeps.{onto, step_behind, word_up}
 use Rattle.sv_circuits.proofs.LoopSteps.{LoopAt}
 
 pub fresh_grows : (width : ℕ) (f : Formula) → f.variables ≤ ((fresh_word width f).0).variables
@@ -28,12 +29,8 @@ pub fresh_step : (width k : ℕ) (front : Word) (g : ℤ) (now later : Formula) 
 fresh_step width k front g now later h e =
     let one : width - k ≡ suc (width - (k + 1)) = omega arith in
     ap (λ z. onto front (fresh_word z now)) one
-    ∙ ap (λ (z : Formula × ℤ). onto front (
-      (fresh_word (width - (k + 1)) z.0).0,
-      z.1 ∷ (fresh_word (width - (k + 1)) z.0).1,
-    )) e
-    ∙ ap (λ z. ((fresh_word (width - (k + 1)) later).0, z))
-    (sym (append_assoc front (g ∷ []) (fresh_word (width - (k + 1)) later).1))
+    ∙ step_behind front (λ z. z) (λ f. fresh_word (width - (k + 1)) f) (fresh_variable now) later g
+    e
 
 pub fresh_full : (width k : ℕ) (front : Word) (now : Formula) (most : ℕ) → k < width →
     now.variables ≡ most → most < ((onto front (fresh_word (width - k) now)).0).variables

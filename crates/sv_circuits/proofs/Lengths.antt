@@ -52,7 +52,7 @@ pub each_length : (makes : List BitMaker) (old : Formula) → length (made_in_tu
 each_length [] old = refl
 each_length (make ∷ makes) old = ap suc (each_length makes (make old).0)
 
-zip_length : (gate : ℤ → ℤ → BitMaker) (a b : Word) → length a ≡ length b →
+pub zip_length : (gate : ℤ → ℤ → BitMaker) (a b : Word) → length a ≡ length b →
     length (map (λ (bits : ℤ × ℤ). gate bits.0 bits.1) (zip a b)) ≡ length a
 zip_length gate [] [] e = refl
 zip_length gate [] (y ∷ b) e = refl

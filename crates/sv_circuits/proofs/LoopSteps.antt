@@ -1,7 +1,7 @@
 -- Loops that make gates bit by bit: what is to be made, what is left of it, and what is in hand.
 use Rattle.std.proofs.Common.{◌≡◌, ℕ, ◌≤◌, ◌<◌, ℤ, [], ◌∷◌, ◌++◌, map, refl, sym, ap, ◌∙◌}
 use Rattle.std.proofs.Common.{suc}
-use Rattle.std.proofs.Common.{subst, arith, append_assoc, ◌⊎◌, ⊎_elim}
+use Rattle.std.proofs.Common.{subst, arith, ◌⊎◌, ⊎_elim}
 use Rattle.std.proofs.lemmas.List.{append-nil}
 use Rattle.sv_gates.specs.Formulas.{Formula, IsLiteral}
 use Rattle.sv_gates.specs.Gates.{xor_gate, mux_gate}
@@ -13,7 +13,7 @@ use Rattle.sv_circuits.specs.Words.{Word, BitMaker, ready_bit, bitwise_word, cha
 use Rattle.sv_circuits.specs.Operators.{less_from}
 use Rattle.sv_circuits.specs.Circuits.{IsWord}
 use Rattle.sv_circuits.specs.BitGates.{gate_of}
-use Rattle.sv_circuits.proofs.WordKeeps.{onto, word_up, word_push}
+use Rattle.sv_circuits.proofs.WordKeeps.{onto, step_behind, word_up, word_push}
 
 -- the whole is what is left from the present formula on; the words that are left, the word that is
 -- made and the literals in hand are of the present variables
@@ -135,12 +135,7 @@ pub bits_step : (gate : ℤ → ℤ → BitMaker) (xs ys more rest front : Word)
 bits_step gate xs ys more rest front a b g now later ea eb e =
     ap (λ z. onto front (bitwise_word gate z ys now)) ea
     ∙ ap (λ z. onto front (bitwise_word gate (a ∷ more) z now)) eb
-    ∙ ap (λ (z : Formula × ℤ). onto front (
-      (bitwise_word gate more rest z.0).0,
-      z.1 ∷ (bitwise_word gate more rest z.0).1,
-    )) e
-    ∙ ap (λ z. ((bitwise_word gate more rest later).0, z))
-    (sym (append_assoc front (g ∷ []) (bitwise_word gate more rest later).1))
+    ∙ step_behind front (λ z. z) (λ f. bitwise_word gate more rest f) (gate a b now) later g e
 
 pub bits_full : (gate : ℤ → ℤ → BitMaker) (xs ys more rest front : Word) (a b : ℤ)
     (now : Formula) (most : ℕ) → Takes gate → xs ≡ a ∷ more → ys ≡ b ∷ rest →

@@ -74,6 +74,19 @@ one : (n : ℕ) (make : BitMaker) (value : (ℕ → Bool) → Bool) → GivesBit
     GivesWord n (one_bit make) (λ values. value values ∷ [])
 one n make value gives = one_bit_gives n make value gives
 
+-- a word of one bit that a piece gives, and one of its negation
+module _ (make : BitMaker) (value : (ℕ → Bool) → Bool) (old : Formula) (base : IsBase old)
+    (gives : GivesBit old.variables make value) where
+  bit_makes :
+      Makes old (one_bit make old) IsWord (λ values word. bits_of values word ≡ value values ∷ [])
+  bit_makes = one old.variables make value gives old (omega arith) base
+
+  negated_makes : Makes old (one_bit (negation make) old) IsWord
+      (λ values word. bits_of values word ≡ not (value values) ∷ [])
+  negated_makes =
+      one old.variables (negation make) (λ values. not (value values))
+      (negation_gives old.variables make value gives) old (omega arith) base
+
 pub unary_makes : (op : UnOp) (a : Word) (old : Formula) → IsBase old → IsWord old.variables a →
     Makes old (unary_word op a old) IsWord
     (λ values word. bits_of values word ≡ unary_bits op (bits_of values a))
@@ -89,36 +102,29 @@ unary_makes Minus a old base is =
           (sym (bits_length values a));
     }
 unary_makes LogicNot a old base is =
-    one old.variables (negation (not_zero_bit a)) (λ values. not (some_bit (bits_of values a)))
-    (negation_gives old.variables (not_zero_bit a) (λ values. some_bit (bits_of values a))
-    (some_gives old.variables a is)) old (omega arith) base
+    negated_makes (not_zero_bit a) (λ values. some_bit (bits_of values a)) old base
+    (some_gives old.variables a is)
 unary_makes Invert a old base is =
     known (inverted_word a) (λ values. map not (bits_of values a)) old base
     (inverted_is old.variables a is) (λ values. inverted_bits old.variables values a is)
 unary_makes AllOf a old base is =
-    one old.variables (and_chain (map ready_bit a)) (λ values. all_bits (bits_of values a))
-    (all_gives old.variables a is) old (omega arith) base
+    bit_makes (and_chain (map ready_bit a)) (λ values. all_bits (bits_of values a)) old base
+    (all_gives old.variables a is)
 unary_makes Nand a old base is =
-    one old.variables (negation (and_chain (map ready_bit a)))
-    (λ values. not (all_bits (bits_of values a)))
-    (negation_gives old.variables (and_chain (map ready_bit a)) (λ values. all_bits (bits_of values a))
-    (all_gives old.variables a is)) old (omega arith) base
+    negated_makes (and_chain (map ready_bit a)) (λ values. all_bits (bits_of values a)) old base
+    (all_gives old.variables a is)
 unary_makes SomeOf a old base is =
-    one old.variables (or_chain (map ready_bit a)) (λ values. some_bit (bits_of values a))
-    (some_gives old.variables a is) old (omega arith) base
+    bit_makes (or_chain (map ready_bit a)) (λ values. some_bit (bits_of values a)) old base
+    (some_gives old.variables a is)
 unary_makes Nor a old base is =
-    one old.variables (negation (or_chain (map ready_bit a)))
-    (λ values. not (some_bit (bits_of values a)))
-    (negation_gives old.variables (or_chain (map ready_bit a)) (λ values. some_bit (bits_of values a))
-    (some_gives old.variables a is)) old (omega arith) base
+    negated_makes (or_chain (map ready_bit a)) (λ values. some_bit (bits_of values a)) old base
+    (some_gives old.variables a is)
 unary_makes OddOf a old base is =
-    one old.variables (xor_chain (map ready_bit a)) (λ values. odd_bits (bits_of values a))
-    (odd_gives old.variables a is) old (omega arith) base
+    bit_makes (xor_chain (map ready_bit a)) (λ values. odd_bits (bits_of values a)) old base
+    (odd_gives old.variables a is)
 unary_makes EvenOf a old base is =
-    one old.variables (negation (xor_chain (map ready_bit a)))
-    (λ values. not (odd_bits (bits_of values a)))
-    (negation_gives old.variables (xor_chain (map ready_bit a)) (λ values. odd_bits (bits_of values a))
-    (odd_gives old.variables a is)) old (omega arith) base
+    negated_makes (xor_chain (map ready_bit a)) (λ values. odd_bits (bits_of values a)) old base
+    (odd_gives old.variables a is)
 
 -- ---- binary operators
 

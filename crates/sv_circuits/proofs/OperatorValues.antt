@@ -6,7 +6,7 @@ use Rattle.std.specs.Prelude.{slice_index_or, count_ones, int_lt}
 use Rattle.std.specs.Int.{int_shr}
 use Rattle.std.specs.Int.Count.{ones_step}
 use Rattle.std.proofs.Math.Nat.{pow-suc}
-use Rattle.std.proofs.lemmas.Bool.{le-leb, lt-leb, leb-true, leb-false}
+use Rattle.std.proofs.lemmas.Bool.{le-leb, leb-true}
 use Rattle.std.proofs.lemmas.Nat.{ones_le_self}
 use Rattle.std.proofs.lemmas.Bool.{false≢true}
 use Rattle.sv_num.specs.declared.operators.UnOp.{UnOp}
@@ -31,8 +31,8 @@ use Rattle.sv_circuits.proofs.OperatorBits.{unary_bits, binary_bits, all_bits, s
 use Rattle.sv_circuits.proofs.OperatorBits.{top_bit, fill_bit, less_than_bits}
 use Rattle.sv_circuits.proofs.BitNumbers.{number, number_low, truth_low, not_number, minus_number}
 use Rattle.sv_circuits.proofs.BitNumbers.{sum_number, difference_number, and_number, or_number}
-use Rattle.sv_circuits.proofs.BitNumbers.{xor_number, xnor_number}
-use Rattle.sv_circuits.proofs.BitTests.{all_number, some_number, equal_number}
+use Rattle.sv_circuits.proofs.BitNumbers.{xor_number, xnor_number, half_of, low_of}
+use Rattle.sv_circuits.proofs.BitTests.{alike, all_number, some_number, equal_number}
 use Rattle.sv_circuits.proofs.BitMoves.{product_number}
 use Rattle.sv_circuits.proofs.BitShifts.{shifted_up_number, shifted_down_number, shifted_sign_number}
 use Rattle.sv_circuits.proofs.BitOrder.{less_than_number, at_most}
@@ -42,14 +42,6 @@ one_number true = refl
 one_number false = refl
 
 -- ---- parity
-
-half_of : (b : Bool) (n : ℕ) → (truth b + 2 * n) / 2 ≡ n
-half_of true n = omega arith
-half_of false n = omega arith
-
-low_of : (b : Bool) (n : ℕ) → (truth b + 2 * n) % 2 ≡ truth b
-low_of true n = omega arith
-low_of false n = omega arith
 
 ones_of : (b : Bool) (bs : List Bool) →
     count_ones (number (b ∷ bs)) ≡ truth b + count_ones (number bs)
@@ -118,15 +110,8 @@ one_top true = refl
 one_top false = refl
 
 leb_same : (p v q w : ℕ) → (p ≤ v → q ≤ w) → (q ≤ w → p ≤ v) → leb p v ≡ leb q w
-leb_same p v q w there back = by_case (leb p v) refl
-  where
-    by_case : (t : Bool) → leb p v ≡ t → leb p v ≡ leb q w
-    by_case true e = e ∙ sym (le-leb q w (there (leb-true p v e)))
-    by_case false e = e ∙ sym (lt-leb q w (by_other (leb q w) refl))
-      where
-        by_other : (t : Bool) → leb q w ≡ t → w < q
-        by_other true f = absurd (omega (arith, back (leb-true q w f), leb-false p v e))
-        by_other false f = leb-false q w f
+leb_same p v q w there back = alike (leb p v) (leb q w)
+    (λ e. le-leb q w (there (leb-true p v e))) (λ e. le-leb p v (back (leb-true q w e)))
 
 pub top_number : (bs : List Bool) → 1 ≤ length bs →
     top_bit bs ≡ leb (2 ^ (length bs - 1)) (number bs)

@@ -1,6 +1,6 @@
 -- Rows of a product and their sum, as loops make them.
 use Rattle.std.proofs.Common.{◌≡◌, ℕ, suc, ◌-◌, ◌≤◌, ◌<◌, ℤ, List, [], ◌∷◌, ◌++◌, map, length, take}
-use Rattle.std.proofs.Common.{sym, ap, ◌∙◌, subst, arith, append_assoc}
+use Rattle.std.proofs.Common.{sym, ap, ◌∙◌, subst, arith}
 use Rattle.std.proofs.lemmas.List.{append-nil}
 use Rattle.sv_gates.specs.Extending.{Begins}
 use Rattle.sv_gates.proofs.ExtendingLaws.{begins_trans}
@@ -11,7 +11,7 @@ use Rattle.sv_circuits.specs.Words.{Word, made_in_turn}
 use Rattle.sv_circuits.specs.Circuits.{IsWord}
 use Rattle.sv_circuits.specs.Rows.{AreWords}
 use Rattle.sv_circuits.specs.Operators.{sum_word, product_row, product_rows, total_from, total_word, product_word}
-use Rattle.sv_circuits.proofs.WordKeeps.{onto, word_up}
+use Rattle.sv_circuits.proofs.WordKeeps.{onto, step_behind, word_up}
 use Rattle.sv_circuits.proofs.SumSteps.{sum_grows}
 
 -- each bit of a word and one literal
@@ -28,9 +28,7 @@ pub masked_step : (b : ℤ) (xs more front : Word) (a g : ℤ) (now later : Form
     onto front (masked b xs now) ≡ onto (front ++ g ∷ []) (masked b more later)
 masked_step b xs more front a g now later ex e =
     ap (λ z. onto front (masked b z now)) ex
-    ∙ ap (λ (z : Formula × ℤ). onto front ((masked b more z.0).0, z.1 ∷ (masked b more z.0).1)) e
-    ∙ ap (λ z. ((masked b more later).0, z))
-    (sym (append_assoc front (g ∷ []) (masked b more later).1))
+    ∙ step_behind front (λ z. z) (λ f. masked b more f) (and_gate a b now) later g e
 
 pub masked_full : (b : ℤ) (xs more front : Word) (a : ℤ) (now : Formula) (most : ℕ) →
     xs ≡ a ∷ more → now.variables ≡ most →
@@ -93,12 +91,8 @@ rows_more whole old now later a bs more rows row b at eb e up is =
             (product_rows a (length rows) z now).0,
             rows ++ (product_rows a (length rows) z now).1,
           )) eb
-          ∙ ap (λ (z : Formula × Word). (
-            (product_rows a (suc (length rows)) more z.0).0,
-            rows ++ z.1 ∷ (product_rows a (suc (length rows)) more z.0).1,
-          )) e
-          ∙ ap (λ z. ((product_rows a (suc (length rows)) more later).0, z))
-          (sym (append_assoc rows (row ∷ []) (product_rows a (suc (length rows)) more later).1))
+          ∙ step_behind rows (λ z. z) (λ f. product_rows a (suc (length rows)) more f)
+          (product_row a (length rows) b now) later row e
           ∙ ap (λ z. (
             (product_rows a z more later).0,
             (rows ++ row ∷ []) ++ (product_rows a z more later).1,

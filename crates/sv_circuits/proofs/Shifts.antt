@@ -166,21 +166,22 @@ shifted_makes move move_bits n is_move moves i (c ∷ cs) word old h base is_amo
     (e.0 ∙ ap (λ bs. joined_bits (chosen_bit (literal_true values c)) bs (bits_of values word))
     (moves values (2 ^ i) word)))
 
-pub shifted_up_makes : (fill : ℤ) (word amount : Word) (old : Formula) → IsBase old →
+-- a word is shifted by such moves as these bits are
+abbrev pub Shifts : (move : ℤ → ℕ → Word → Word) →
+    (move_bits : Bool → ℕ → List Bool → List Bool) → Type 0
+Shifts move move_bits = (fill : ℤ) (word amount : Word) (old : Formula) → IsBase old →
     IsLiteral old.variables fill → IsWord old.variables word → IsWord old.variables amount →
-    Makes old (shifted_word (moved_up fill) word amount old) IsWord
-    (λ values result. bits_of values result ≡ shifted_bits (up_bits (literal_true values fill)) 0
+    Makes old (shifted_word (move fill) word amount old) IsWord
+    (λ values result. bits_of values result ≡ shifted_bits (move_bits (literal_true values fill)) 0
     (bits_of values amount) (bits_of values word))
+
+pub shifted_up_makes : Shifts moved_up up_bits
 shifted_up_makes fill word amount old base is_fill is is_amount =
     shifted_makes (moved_up fill) (λ values. up_bits (literal_true values fill)) old.variables
     (λ m by w h is. up_is m fill by w (literal_more old.variables m fill h is_fill) is)
     (λ values by w. up_bits_are values fill by w) 0 amount word old (omega arith) base is_amount is
 
-pub shifted_down_makes : (fill : ℤ) (word amount : Word) (old : Formula) → IsBase old →
-    IsLiteral old.variables fill → IsWord old.variables word → IsWord old.variables amount →
-    Makes old (shifted_word (moved_down fill) word amount old) IsWord
-    (λ values result. bits_of values result ≡ shifted_bits (down_bits (literal_true values fill)) 0
-    (bits_of values amount) (bits_of values word))
+pub shifted_down_makes : Shifts moved_down down_bits
 shifted_down_makes fill word amount old base is_fill is is_amount =
     shifted_makes (moved_down fill) (λ values. down_bits (literal_true values fill)) old.variables
     (λ m by w h is. down_is m fill by w (literal_more old.variables m fill h is_fill) is)

@@ -1,9 +1,9 @@
 -- Words as loops make them, literal by literal.
 use Rattle.std.proofs.Common.{◌≡◌, ℕ, ◌≤◌, ℤ, [], ◌∷◌, ◌++◌, length, refl, subst, arith}
-use Rattle.std.proofs.Common.{◌⊎◌, ⊎_elim, inl, inr}
+use Rattle.std.proofs.Common.{◌⊎◌, ⊎_elim, inl, inr, List}
 use Rattle.std.specs.Prelude.{neg_ℤ, replicate}
 use Rattle.std.proofs.Common.{zero, suc, ◌+◌, ◌-◌, ◌<◌, min, take, drop, map, ap, sym, ◌∙◌, get_or}
-use Rattle.std.proofs.lemmas.List.{drop_more}
+use Rattle.std.proofs.lemmas.List.{drop_more, append_assoc}
 use Rattle.std.proofs.lemmas.Int.{ints}
 use Rattle.sv_circuits.specs.Words.{literal_at}
 use Rattle.sv_circuits.specs.Operators.{sign_fill, ordered_word}
@@ -16,6 +16,15 @@ use Rattle.sv_circuits.specs.Circuits.{IsWord}
 -- what is made, behind a front that is in hand
 abbrev pub onto : Word → Formula × Word → Formula × Word
 onto front made = (made.0, front ++ made.1)
+
+-- what is made with one more in front, behind what is in hand, is made behind both
+pub step_behind : {X Y : Type 0} (front : List X) (item : Y → X) (rest : Formula → Formula × List X)
+    (made : Formula × Y) (later : Formula) (y : Y) → made ≡ (later, y) →
+    ((rest made.0).0, front ++ item made.1 ∷ (rest made.0).1)
+    ≡ ((rest later).0, (front ++ item y ∷ []) ++ (rest later).1)
+step_behind {X} {Y} front item rest made later y e =
+    ap (λ (z : Formula × Y). ((rest z.0).0, front ++ item z.1 ∷ (rest z.0).1)) e
+    ∙ ap (λ z. ((rest later).0, z)) (sym (append_assoc front (item y ∷ []) (rest later).1))
 
 pub literal_up : (m n : ℕ) (l : ℤ) → m ≤ n → IsLiteral m l → IsLiteral n l
 literal_up m n l h is = (is.0, omega (arith, is.1))

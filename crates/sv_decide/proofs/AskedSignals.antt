@@ -30,25 +30,27 @@ unmapped P f xs all k d inside =
     subst P (get_or-map f xs k d (f d) inside)
     (all k (f d) (omega (arith, inside, length-map xs f)))
 
+-- also where the list is in hand by another name
+kept_forms : {X Y : Type 0} (P : Y → Type 0) (form : X → Y) (xs ys : List X) → xs ≡ ys →
+    All P (map form ys) → All (λ x. P (form x)) xs
+kept_forms P form xs ys same all =
+    subst (λ zs. All (λ x. P (form x)) zs) (sym same) (unmapped P form ys all)
+
 module _ (flat : Flat) (query : Query)
     (is : IsQueryOf (design_of flat) (obligation_of query)) where
   -- the expressions of facts and conditions
   pub facts_formed : (facts : List FExpr) → facts ≡ query.facts.items →
       All (λ (fact : FExpr). IsTrue (well_formed (design_of flat).signals (typed_tree fact))) facts
   facts_formed facts same k d inside =
-      let formed = subst (λ (fs : List FExpr).
-      All (λ (fact : FExpr). IsExpressionOf (design_of flat) (typed_tree fact)) fs) (sym same)
-      (unmapped (IsExpressionOf (design_of flat)) typed_tree query.facts.items is.facts) in
-      (formed k d inside).formed
+      (kept_forms (IsExpressionOf (design_of flat)) typed_tree facts query.facts.items same is.facts
+      k d inside).formed
 
   pub path_formed : (path : List Step) → path ≡ query.path.items →
       All (λ (step : Step).
       IsTrue (well_formed (design_of flat).signals (typed_tree step.cond))) path
   path_formed path same k d inside =
-      let formed = subst (λ (steps : List Step).
-      All (λ (step : Step). IsStepOf (design_of flat) (step_form step)) steps) (sym same)
-      (unmapped (IsStepOf (design_of flat)) step_form query.path.items is.path) in
-      (formed k d inside).formed
+      (kept_forms (IsStepOf (design_of flat)) step_form path query.path.items same is.path k d
+      inside).formed
 
   -- the signals that are read, and that of the goal
   pub reads_known : (reads : List SigId) → reads ≡ query.reads.items →

@@ -22,8 +22,9 @@ use Rattle.sv_clause.proofs.Merging.{unsigned_abs-neg}
 use Rattle.sv_clause.proofs.Standing.{cases_int, found_by, any_from}
 use Rattle.sv_clause.proofs.Truth.{derived_true, not_both_true}
 use Rattle.sv_gates.specs.Formulas.{IsWithin}
+use Rattle.sv_solve.proofs.Counting.{digit, number_of, are_ternary, HaveOneSign, same_signs}
 use Rattle.sv_solve.proofs.Counting.{any_place}
-use Rattle.sv_solve.proofs.Ternary.{AreTernary, number, number-below, same_digits, zero_digits}
+use Rattle.sv_solve.proofs.Ternary.{number-below, zero_digits}
 
 -- ---- what is derived speaks of the same variables
 
@@ -99,43 +100,8 @@ stands_before (s ∷ steps) (suc i) (suc j) step lt e =
 abbrev Consistent : List ℤ → Type 0
 Consistent literals = (l : ℤ) → stands l literals ≡ true → stands (neg_ℤ l) literals ≡ false
 
--- whether a variable is true, false or open
-digit : List ℤ → ℕ → ℕ
-digit literals v = cond (stands (pos v) literals) 0 (cond (stands (neg_ℤ (pos v)) literals) 1 2)
-
--- literals of some variables, as a number
-abbrev number_of : ℕ → List ℤ → ℕ
-number_of n literals = number (digit literals) n
-
-small_cond : (p q : Bool) → cond p 0 (cond q 1 2) ≤ 2
-small_cond true q = omega arith
-small_cond false true = omega arith
-small_cond false false = omega arith
-
-are_ternary : (literals : List ℤ) → AreTernary (digit literals)
-unfolding digit
-are_ternary literals v = small_cond (stands (pos v) literals) (stands (neg_ℤ (pos v)) literals)
-
-same_conds : (p q r s : Bool) → (p ≡ true → q ≡ false) → (r ≡ true → s ≡ false)
-    → ◌≡◌ {A = ℕ} (cond p 0 (cond q 1 2)) (cond r 0 (cond s 1 2)) → (p ≡ r) × (q ≡ s)
-same_conds true q true s n m e = (refl, n refl ∙ sym (m refl))
-same_conds true q false true n m e = absurd (omega arith)
-same_conds true q false false n m e = absurd (omega arith)
-same_conds false true true s n m e = absurd (omega arith)
-same_conds false false true s n m e = absurd (omega arith)
-same_conds false true false true n m e = (refl, refl)
-same_conds false true false false n m e = absurd (omega arith)
-same_conds false false false true n m e = absurd (omega arith)
-same_conds false false false false n m e = (refl, refl)
-
-same_signs : (n : ℕ) (c d : List ℤ) → Consistent c → Consistent d
-    → number_of n c ≡ number_of n d → (v : ℕ) → 0 < v → v ≤ n
-    → (stands (pos v) c ≡ stands (pos v) d) × (stands (neg_ℤ (pos v)) c ≡ stands (neg_ℤ (pos v)) d)
-unfolding digit
-same_signs n c d hc hd e v low high =
-    same_conds (stands (pos v) c) (stands (neg_ℤ (pos v)) c) (stands (pos v) d)
-    (stands (neg_ℤ (pos v)) d) (hc (pos v)) (hd (pos v))
-    (same_digits (digit c) (digit d) n (are_ternary c) (are_ternary d) e v low high)
+one_signed : (c : List ℤ) → Consistent c → HaveOneSign c
+one_signed c h l e f = false≢true (sym (h l e) ∙ f)
 
 zero_absent : (c : List ℤ) → Consistent c → stands (pos 0) c ≡ false
 zero_absent c h = false_from_ne_true (stands (pos 0) c) (λ e. false≢true (sym (h (pos 0) e) ∙ e))
@@ -143,8 +109,10 @@ zero_absent c h = false_from_ne_true (stands (pos 0) c) (λ e. false≢true (sym
 same_stands : (n : ℕ) (c d : List ℤ) → Consistent c → Consistent d
     → number_of n c ≡ number_of n d → (l : ℤ) → unsigned_abs l ≤ n → stands l c ≡ stands l d
 same_stands n c d hc hd e (pos zero) h = zero_absent c hc ∙ sym (zero_absent d hd)
-same_stands n c d hc hd e (pos (suc k)) h = (same_signs n c d hc hd e (suc k) (omega arith) h).0
-same_stands n c d hc hd e (negsuc k) h = (same_signs n c d hc hd e (suc k) (omega arith) h).1
+same_stands n c d hc hd e (pos (suc k)) h =
+    (same_signs n c d (one_signed c hc) (one_signed d hd) e (suc k) (omega arith) h).0
+same_stands n c d hc hd e (negsuc k) h =
+    (same_signs n c d (one_signed c hc) (one_signed d hd) e (suc k) (omega arith) h).1
 
 zero_cond : (p q : Bool) → ◌≡◌ {A = ℕ} (cond p 0 (cond q 1 2)) 0 → p ≡ true
 zero_cond true q e = refl

@@ -1,6 +1,6 @@
 -- How many variables operators and encodings take, by computation, and that the sizes tell it.
 use Rattle.std.proofs.Common.{◌≡◌, ℕ, Bool, true, false, [], ◌∷◌, refl}
-use Rattle.std.specs.Prelude.{◌+◌, ◌==◌, ◌&&◌}
+use Rattle.std.specs.Prelude.{◌+◌, ◌==◌, ◌&&◌, map}
 use Rattle.std.specs.List.{list_all, range_with_len}
 use Rattle.sv_num.specs.declared.operators.UnOp.{UnOp}
 use Rattle.sv_num.specs.declared.operators.UnOp.TheVariants as unop
@@ -27,26 +27,11 @@ count op is_signed left right =
 pub product : count binop.Mul false 32 32 ≡ 5553
 product = refl
 
-pub sum : count binop.Add false 32 32 ≡ 225
-sum = refl
-
-pub difference : count binop.Sub true 32 32 ≡ 225
-difference = refl
-
-pub less : count binop.Lt true 32 32 ≡ 129
-less = refl
-
-pub equality : count binop.Eq false 32 32 ≡ 128
-equality = refl
-
-pub conjunction : count binop.And false 32 32 ≡ 97
-conjunction = refl
-
-pub shift : count binop.SignShr true 32 32 ≡ 1089
-shift = refl
-
-pub both_not_zero : count binop.LogicAnd false 32 32 ≡ 128
-both_not_zero = refl
+pub other_counts : map (λ (made : BinOp × Bool). count made.0 made.1 32 32)
+    ((binop.Add, false) ∷ (binop.Sub, true) ∷ (binop.Lt, true) ∷ (binop.Eq, false)
+    ∷ (binop.And, false) ∷ (binop.SignShr, true) ∷ (binop.LogicAnd, false) ∷ [])
+    ≡ 225 ∷ 225 ∷ 129 ∷ 128 ∷ 97 ∷ 1089 ∷ 128 ∷ []
+other_counts = refl
 
 -- ---- the sizes that are told
 

@@ -22,7 +22,7 @@ use Rattle.sv_flat.proofs.LeastSets.{Contains-from_holds, Contains-from_filter}
 use Rattle.sv_flat.proofs.SameRuns.{none_found}
 use Rattle.sv_obl.specs.MadeValues.{put_followed, made_on_the_way}
 use Rattle.sv_obl.specs.Wanted.{with_copies, copy_of}
-use Rattle.sv_obl.proofs.PathLists.{cond_true, cond_false}
+use Rattle.sv_obl.proofs.PathLists.{cond_true, cond_false, none_of}
 use Rattle.sv_obl.proofs.PutFacts.{width_copy}
 use Rattle.sv_clause.specs.Literals.{literal_true}
 use Rattle.sv_gates.specs.Formulas.{Formula, meets, IsLiteral}
@@ -41,30 +41,29 @@ use Rattle.sv_encoding.specs.Bodies.{with_word, assigns_some, with_piece_word, c
 use Rattle.sv_encoding.specs.Bodies.{words_after}
 use Rattle.sv_encoding.specs.Valuations.{spelled_environment}
 use Rattle.sv_encoding.specs.BothWays.{HaveBits}
-use Rattle.sv_encoding_laws.proofs.ExpressionLaws.{Named, expression_makes, truth_makes}
+use Rattle.sv_encoding_laws.proofs.ExpressionLaws.{Named, expression_makes}
 use Rattle.sv_encoding_laws.proofs.NamedValues.{named_value, named_as}
 use Rattle.sv_encoding_laws.proofs.Steps.{HasWidth, Spells, Has, MakesWord, MakesBit, width_more}
-use Rattle.sv_encoding_laws.proofs.Steps.{choice_step}
+use Rattle.sv_encoding_laws.proofs.Steps.{choice_step, not_zero_step}
+
+-- what no element changes, a fold does not
+pub folded_leaves : {V X : Type 0} (change : (ℕ → V) → X → ℕ → V) (t : ℕ) (xs : List X)
+    (now : ℕ → V) → ((x : X) → Contains xs x → (before : ℕ → V) → change before x t ≡ before t)
+    → fold change now xs t ≡ now t
+folded_leaves change t [] now each = refl
+folded_leaves change t (x ∷ xs) now each =
+    folded_leaves change t xs (change now x) (λ y at. each y (Contains-later x xs y at))
+    ∙ each x (Contains-head x xs) now
 
 -- ---- tests of lists
 
 some_left : {X : Type 0} (f g : X → Bool) (xs : List X) →
     IsFalse (list_any (λ x. f x || g x) xs) → IsFalse (list_any f xs)
-some_left f g [] h = h
-some_left f g (x ∷ xs) h =
-    none_found (list_any f (x ∷ xs)) (λ some.
-    let found = from_some f (x ∷ xs) some in
-    false≢true (sym h ∙ some_from (λ x. f x || g x) (x ∷ xs) found.0 found.1
-    (or_left (f found.0) (g found.0) found.2)))
+some_left f g xs h = none_of f (λ x. f x || g x) xs (λ x. or_left (f x) (g x)) h
 
 some_right : {X : Type 0} (f g : X → Bool) (xs : List X) →
     IsFalse (list_any (λ x. f x || g x) xs) → IsFalse (list_any g xs)
-some_right f g [] h = h
-some_right f g (x ∷ xs) h =
-    none_found (list_any g (x ∷ xs)) (λ some.
-    let found = from_some g (x ∷ xs) some in
-    false≢true (sym h ∙ some_from (λ x. f x || g x) (x ∷ xs) found.0 found.1
-    (or_right (f found.0) (g found.0) found.2)))
+some_right f g xs h = none_of g (λ x. f x || g x) xs (λ x. or_right (f x) (g x)) h
 
 module _ (signals : List SignalForm) (bits : HaveBits (with_copies signals)) (followed : List ℕ)
     (G : ℕ → Type 0) (copies : (s : ℕ) → IsTrue (holds followed s) → G (copy_of signals s)) where
@@ -139,19 +138,9 @@ module _ (signals : List SignalForm) (bits : HaveBits (with_copies signals)) (fo
       Holding old ws now →
       MakesBit old (is_true_bit both ws e old) (λ values. is_true (value both (now values) e))
   truth_step e fits old base ws stand now holding =
-      let made = is_true_bit both ws e old in
-      let p = truth_makes both bits ws old.variables e fits.formed
-      (named_as G (λ t. HasWidth (signal_width both t) old.variables (ws t)) stand e fits.named) old
-      (omega arith) base in
-      record {
-        extends = p.extends;
-        within = p.within;
-        says = λ values met.
-            p.says values met
-            ∙ ap is_true (named_value both (spelled_environment values ws) (now values) e
-            (named_as G (λ t. spelled_environment values ws t ≡ now values t)
-            (holding values (meets-begins old made.0 values p.extends.begins met)) e fits.named));
-      }
+      not_zero_step old (expression_word both ws e old) (expression_width e)
+      (λ values. value both (now values) e) base
+      (expression_step e fits old base ws stand now holding)
 
   -- ---- pieces
 
@@ -397,26 +386,18 @@ module _ (signals : List SignalForm) (bits : HaveBits (with_copies signals)) (fo
   IsLeftBy body t =
       (s : ℕ) → IsTrue (holds followed s) → IsTrue (assigns body s) → copy_of signals s ≡ t → ⊥
 
-  pieces_leave : (v t : ℕ) (pieces : List PieceForm) (now : Environment ℕ) →
-      ((p : PieceForm) → Contains pieces p → IsTrue (holds followed p.signal) →
-      copy_of signals p.signal ≡ t → ⊥) →
-      fold (put_followed signals followed v) now pieces t ≡ now t
-  pieces_leave v t [] now apart = refl
-  pieces_leave v t (p ∷ pieces) now apart =
-      pieces_leave v t pieces (put_followed signals followed v now p)
-      (λ q at. apart q (Contains-later p pieces q at))
-      ∙ by (holds followed p.signal) refl
+  piece_leaves : (v t : ℕ) (p : PieceForm) (now : Environment ℕ) →
+      (IsTrue (holds followed p.signal) → copy_of signals p.signal ≡ t → ⊥) →
+      put_followed signals followed v now p t ≡ now t
+  piece_leaves v t p now apart = by (copy_of signals p.signal) apart (holds followed p.signal) refl
     where
-      copy : ℕ
-      copy = copy_of signals p.signal
-
-      by : (c : Bool) → holds followed p.signal ≡ c →
+      by : (copy : ℕ) → (IsTrue (holds followed p.signal) → copy ≡ t → ⊥) → (c : Bool) →
+          holds followed p.signal ≡ c →
           cond c (put ◌==◌ copy (with_piece signals p v (now copy)) now) now t ≡ now t
-      by true held =
+      by copy apart true held =
           cond_false (copy == t) (with_piece signals p v (now copy)) (now t)
-          (none_found (copy == t) (λ same.
-          apart p (Contains-head p pieces) held (eqb-true copy t same)))
-      by false none = refl
+          (none_found (copy == t) (λ same. apart held (eqb-true copy t same)))
+      by copy apart false none = refl
 
   arms_leave : (c : Bool) (f g : Environment ℕ) (t k : ℕ) → f t ≡ k → g t ≡ k → cond c f g t ≡ k
   arms_leave true f g t k one two = one
@@ -431,9 +412,10 @@ module _ (signals : List SignalForm) (bits : HaveBits (with_copies signals)) (fo
       ∙ leaves_one first now t
       (λ s held own. left s held (or_left (assigns first s) (assigns second s) own))
   leaves_one (assign pieces place blocking right) now t left =
-      pieces_leave (value both now right) t pieces now (λ p at held.
+      folded_leaves (put_followed signals followed (value both now right)) t pieces now
+      (λ p at before. piece_leaves (value both now right) t p before (λ held.
       left p.signal held (some_from (λ (q : PieceForm). q.signal == p.signal) pieces p at
-      (eq-eqb p.signal p.signal refl)))
+      (eq-eqb p.signal p.signal refl))))
   leaves_one (branch place condition first second) now t left =
       arms_leave (is_true (value both now condition)) (made_on_the_way signals followed first now)
       (made_on_the_way signals followed second now) t (now t)

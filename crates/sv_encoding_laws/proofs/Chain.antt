@@ -55,7 +55,8 @@ use Rattle.sv_encoding_laws.proofs.GivenWords.{words_are_free}
 use Rattle.sv_encoding_laws.proofs.LabelWords.{literals_more, label_says_point, labels_say_points}
 use Rattle.sv_encoding_laws.proofs.NamedValues.{named_from_reads}
 use Rattle.sv_encoding_laws.proofs.QueryCones.{now_is_cone, next_is_cone, now_starts, next_starts}
-use Rattle.sv_encoding_laws.proofs.QueryCones.{in_flat_map, condition_is, read_signal_known}
+use Rattle.sv_obl.proofs.PathLists.{in_flat_map}
+use Rattle.sv_encoding_laws.proofs.QueryCones.{condition_is, read_signal_known}
 use Rattle.sv_encoding_laws.proofs.Settling.{words_spell_settled_values, words_spell_next_values}
 use Rattle.sv_encoding_laws.proofs.Steps.{HasWidth}
 use Rattle.sv_encoding_laws.proofs.TruthWords.{Counts, AllCount, AreLiterals, AreTruths, truths_say}
@@ -140,12 +141,17 @@ module _ (design : FlatDesign) (checked : IsChecked design) (o : Obligation)
       (in_those (length design.signals) (is_read_for design s) t
       (read_below design is_sound checked.admitted s t read.2) read.2)))
 
+  pub read_word : (t : ℕ) → IsReadThere design (registers_in design later) t →
+      IsWordOf design t (s3.0).variables (s2.1 t)
+  read_word t read =
+      word_more_of t (s2.0).variables (s3.0).variables (s2.1 t) free3.begins.grows
+      (p2.within t (read_inside t read))
+
   pub p4 : SpellsNext design later s2.1 s3.0 s4
       × LeaveOthers (registers_in design later) s3.1 s4.1
   p4 =
       words_spell_next_values design later s2.1 s3.1 s3.0 is_sound checked.admitted free3.base
-      (λ t read. word_more_of t (s2.0).variables (s3.0).variables (s2.1 t) free3.begins.grows
-      (p2.within t (read_inside t read)))
+      read_word
 
   pub base4 : IsBase s4.0
   base4 = base_more s3.0 s4.0 free3.base p4.0.extends
@@ -171,16 +177,20 @@ module _ (design : FlatDesign) (checked : IsChecked design) (o : Obligation)
       (or_cases (is_top_input design t) (is_register design t) from.0))
       (either_way (holds (registers_in design later) t))
 
-  pub p5 : SpellsSettled design later s4.1 s4.0 s5
-  p5 =
-      words_spell_settled_values design later s4.1 s4.0 is_sound checked.admitted
-      (next_is_cone design is_sound checked.admitted o query) base4
-      (λ t held. ⊎_elim
+  pub later_word : (t : ℕ) → IsTrue (holds (given_in design later) t) →
+      IsWordOf design t (s4.0).variables (s4.1 t)
+  later_word t held =
+      ⊎_elim
       (λ register. p4.0.within t register)
       (λ input. subst (IsWordOf design t (s4.0).variables) (sym (p4.1 t input.0))
       (word_more_of t (s3.0).variables (s4.0).variables (s3.1 t) p4.0.extends.begins.grows
       (free3.words t input.1).inside))
-      (later_given t held))
+      (later_given t held)
+
+  pub p5 : SpellsSettled design later s4.1 s4.0 s5
+  p5 =
+      words_spell_settled_values design later s4.1 s4.0 is_sound checked.admitted
+      (next_is_cone design is_sound checked.admitted o query) base4 later_word
 
   pub base5 : IsBase s5.0
   base5 = base_more s4.0 s5.0 base4 p5.extends
@@ -222,15 +232,26 @@ module _ (design : FlatDesign) (checked : IsChecked design) (o : Obligation)
         all_count G all es (λ x at. each x (Contains-later e es x at)) inside,
       )
 
-  pub named_inside : (t : ℕ) → Contains (named_in design (conditions_of o)) t → InCone t
-  named_inside t at =
+  -- what the conditions name, the labels of reads select by and the goal asks starts the cone
+  at_start : (t : ℕ) → Contains (named_in design (conditions_of o)
+      ++ flat_map (label_selectors design) o.reads ++ asked_now design o.goal) t → InCone t
+  at_start t at =
       let names = named_in design (conditions_of o) in
       let labels = flat_map (label_selectors design) o.reads in
-      let asked = asked_now design o.goal in
-      let registers = flat_map (reads_for design) (registers_in design later) in
       now_starts design is_sound checked.admitted o query t
-      (Contains-left (names ++ labels ++ asked) registers t
-      (Contains-left (names ++ labels) asked t (Contains-left names labels t at)))
+      (Contains-left (names ++ labels ++ asked_now design o.goal)
+      (flat_map (reads_for design) (registers_in design later)) t at)
+
+  starts_inside : (t : ℕ) → Contains (named_in design (conditions_of o)
+      ++ flat_map (label_selectors design) o.reads) t → InCone t
+  starts_inside t at =
+      at_start t (Contains-left (named_in design (conditions_of o)
+      ++ flat_map (label_selectors design) o.reads) (asked_now design o.goal) t at)
+
+  pub named_inside : (t : ℕ) → Contains (named_in design (conditions_of o)) t → InCone t
+  named_inside t at =
+      starts_inside t (Contains-left (named_in design (conditions_of o))
+      (flat_map (label_selectors design) o.reads) t at)
 
   abbrev pub conditions : List TypedTree
   conditions = map (λ (step : StepForm). step.condition) o.path
@@ -313,23 +334,13 @@ module _ (design : FlatDesign) (checked : IsChecked design) (o : Obligation)
 
   pub asked_inside : (t : ℕ) → Contains (asked_now design o.goal) t → InCone t
   asked_inside t at =
-      let names = named_in design (conditions_of o) in
-      let labels = flat_map (label_selectors design) o.reads in
-      let asked = asked_now design o.goal in
-      let registers = flat_map (reads_for design) (registers_in design later) in
-      now_starts design is_sound checked.admitted o query t
-      (Contains-left (names ++ labels ++ asked) registers t
-      (Contains-right (names ++ labels) asked t at))
+      at_start t (Contains-right (named_in design (conditions_of o)
+      ++ flat_map (label_selectors design) o.reads) (asked_now design o.goal) t at)
 
   pub labels_inside : (t : ℕ) → Contains (selectors_for design o.reads) t → InCone t
   labels_inside t at =
-      let names = named_in design (conditions_of o) in
-      let labels = flat_map (label_selectors design) o.reads in
-      let asked = asked_now design o.goal in
-      let registers = flat_map (reads_for design) (registers_in design later) in
-      now_starts design is_sound checked.admitted o query t
-      (Contains-left (names ++ labels ++ asked) registers t
-      (Contains-left (names ++ labels) asked t (Contains-right names labels t at)))
+      starts_inside t (Contains-right (named_in design (conditions_of o))
+      (flat_map (label_selectors design) o.reads) t at)
 
   pub now_word : (n : ℕ) → (s2.0).variables ≤ n → (t : ℕ) → InCone t → IsWordOf design t n (s2.1 t)
   now_word n h t held = word_more_of t (s2.0).variables n (s2.1 t) h (p2.within t held)

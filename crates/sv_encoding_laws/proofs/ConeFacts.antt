@@ -45,23 +45,35 @@ module _ (design : FlatDesign) (is_sound : IsTrue (sound design)) (admitted : Is
       (second_of (is_signal design.signals s)
       (not (is_top_input design s || is_register design s || is_clock design s)) comb)))
 
-  seen_in : (m k : ℕ) → IsTrue (list_any (λ p. reads_settled design p (followed design p m) k)
-      (drivers (processes_of design) m)) → k < length design.signals → Seen k
-  seen_in m k read low =
+  -- what is read for a signal is in a reading of a process
+  read_in : (m k : ℕ) → IsTrue (list_any (λ p. reads_settled design p (followed design p m) k)
+      (drivers (processes_of design) m)) → (p : ProcessForm) × Contains (processes_of design) p
+      × (r : Reading) × Contains (process_readings design p) r × IsTrue (r.name.signal == k)
+  read_in m k read =
       let found = from_some (λ p. reads_settled design p (followed design p m) k)
       (drivers (processes_of design) m) read in
       let p = found.0 in
-      let at = (Contains-from_filter (λ (q : ProcessForm). assigns q.body m)
-      (processes_of design) p found.1).1 in
       let one = from_some (λ (r : Reading). not (is_earlier design p r)
       && list_any r.serves (followed design p m) && (r.name.signal == k))
       (process_readings design p) found.2 in
-      let r = one.0 in
-      let named = second_of (not (is_earlier design p r) && list_any r.serves (followed design p m))
-      (r.name.signal == k) one.2 in
+      let r = one.0 in (
+        p,
+        (Contains-from_filter (λ (q : ProcessForm). assigns q.body m) (processes_of design) p
+            found.1).1,
+        r,
+        one.1,
+        second_of (not (is_earlier design p r) && list_any r.serves (followed design p m))
+            (r.name.signal == k) one.2,
+      )
+
+  seen_in : (m k : ℕ) → IsTrue (list_any (λ p. reads_settled design p (followed design p m) k)
+      (drivers (processes_of design) m)) → k < length design.signals → Seen k
+  seen_in m k read low =
+      let one = read_in m k read in
       in_those (length design.signals) (λ s. not (is_clock design s)) k low
-      (ap not (reads_no_clock design is_sound admitted p k at
-      (some_from (λ (x : Reading). x.name.signal == k) (process_readings design p) r one.1 named)))
+      (ap not (reads_no_clock design is_sound admitted one.0 k one.1
+      (some_from (λ (x : Reading). x.name.signal == k) (process_readings design one.0) one.2 one.3
+      one.4)))
 
   -- what is read for a combinational signal is no clock
   brought_seen : (m k : ℕ) → IsTrue (brings_reads design m k) → k < length design.signals → Seen k
@@ -87,21 +99,12 @@ module _ (design : FlatDesign) (is_sound : IsTrue (sound design)) (admitted : Is
       (ltb-true s (length design.signals) (assigned_is_signal design.signals driver.0.body
       (body_is_sound design is_sound admitted driver.0 driver.1) s driver.3)))
       (λ read.
-      let found = from_some (λ p. reads_settled design p (followed design p s) t)
-      (drivers (processes_of design) s) read in
-      let p = found.0 in
-      let at = (Contains-from_filter (λ (q : ProcessForm). assigns q.body s)
-      (processes_of design) p found.1).1 in
-      let one = from_some (λ (r : Reading). not (is_earlier design p r)
-      && list_any r.serves (followed design p s) && (r.name.signal == t))
-      (process_readings design p) found.2 in
-      let r = one.0 in
-      let named = second_of (not (is_earlier design p r) && list_any r.serves (followed design p s))
-      (r.name.signal == t) one.2 in
-      subst (λ k. k < length design.signals) (eqb-true r.name.signal t named)
+      let one = read_in s t read in
+      let r = one.2 in
+      subst (λ k. k < length design.signals) (eqb-true r.name.signal t one.4)
       (ltb-true r.name.signal (length design.signals)
-      (readings_signals design.signals p.body no_bits no_bits
-      (body_is_sound design is_sound admitted p at) r one.1)))
+      (readings_signals design.signals one.0.body no_bits no_bits
+      (body_is_sound design is_sound admitted one.0 one.1) r one.3)))
       (or_cases (is_register design s && (s == t))
       (list_any (λ p. reads_settled design p (followed design p s) t)
       (drivers (processes_of design) s)) reads)

@@ -3,95 +3,44 @@
 use Rattle.std.proofs.Common.{◌≡◌, ℕ, ◌+◌, ◌-◌, Bool, true, false, not, ◌==◌, ℤ, List, [], ◌∷◌}
 use Rattle.std.proofs.Common.{◌++◌, map, filter, length, Some, refl, sym, ap, ap₂, subst, ◌∙◌}
 use Rattle.std.proofs.Common.{arith, sum}
-use Rattle.std.specs.Prelude.{IsTrue, flat_map, slice_get, cond, suc, sum_by}
+use Rattle.std.specs.Prelude.{IsTrue, flat_map, slice_get, sum_by}
 use Rattle.std.proofs.lemmas.Bool.{eqb-true, false≢true}
-use Rattle.std.proofs.lemmas.List.{length-append, length-map, nil_from_length}
+use Rattle.std.proofs.lemmas.List.{length-append, nil_from_length}
 use Rattle.std.proofs.lemmas.List.Sums.{fold-append, sum_by-cons, sum-map}
-use Rattle.sv_lattice.specs.declared.labels.Label.{Label}
-use Rattle.sv_lattice.specs.declared.labels.Label.TheVariants.{Point as Declared, Table}
-use Rattle.sv_lattice.specs.Maps.{MapRows}
-use Rattle.sv_lattice.specs.Labels.{map_of}
 use Rattle.sv_lattice.specs.Tables.{flow_test}
 use Rattle.sv_flat.specs.Design.{FlatDesign}
 use Rattle.sv_obl.specs.Obligations.{GoalForm, flow, holds as must_hold, selector}
 use Rattle.sv_gates.specs.Formulas.{Formula}
-use Rattle.sv_gates.specs.Gates.{start, true_literal, false_literal, with_unit, and_gate}
+use Rattle.sv_gates.specs.Gates.{start, true_literal, false_literal, with_unit}
 use Rattle.sv_gates.specs.NormalForms.{put, ascending, with_clause}
 use Rattle.sv_gates.specs.Extending.{Begins}
 use Rattle.sv_gates.proofs.ExtendingLaws.{begins_none, begins_trans, front_and_rest}
 use Rattle.sv_gates.proofs.GateLaws.{unit_begins}
-use Rattle.sv_circuits.specs.Words.{Word, BitMaker, or_chain}
+use Rattle.sv_circuits.specs.Words.{BitMaker, or_chain}
 use Rattle.sv_encoding.specs.Expressions.{Words}
-use Rattle.sv_encoding.specs.Labels.{PointLiteral, LabelForm, row_points, point_bit}
-use Rattle.sv_encoding.specs.Labels.{point_literals, selector_word, label_literals, signal_label}
+use Rattle.sv_encoding.specs.Labels.{LabelForm}
+use Rattle.sv_encoding.specs.Labels.{signal_label}
 use Rattle.sv_encoding.specs.Labels.{signal_labels, stay_bits, some_stays_bit}
 use Rattle.sv_encoding.specs.Encoding.{target_label, read_labels, violation, path_units, words_in}
 use Rattle.sv_encoding.specs.Sizes.{label_points, label_of_signal, stay_count, stays_size}
 use Rattle.sv_encoding.specs.BothWays.{always_goes, LabelsAloneDecide}
 use Rattle.sv_encoding_laws.proofs.Chain.{s1, s2, s3, s5, s6, s7, s8, s9, s10, free1, p2, free3}
 use Rattle.sv_encoding_laws.proofs.Chain.{after_three}
+use Rattle.sv_encoding_laws.proofs.LabelCounts.{points_of, label_points_are, stays_length}
 use Rattle.sv_encoding_laws.proofs.Units.{add_units}
 
--- ---- points of labels
-
-abbrev points_in : LabelForm → List ℕ
-points_in label = map (λ (l : PointLiteral). l.point) label
-
-literals_keep : (rows : MapRows) (word : Word) (ps : List ℕ) (formula : Formula) →
-    points_in (point_literals rows word ps formula).1 ≡ ps
-literals_keep rows word [] formula = refl
-literals_keep rows word (p ∷ ps) formula =
-    ap (λ rest. p ∷ rest) (literals_keep rows word ps (point_bit rows word p formula).0)
-
 module _ (design : FlatDesign) where
-  -- the points of a label's literals are those that the label may be
-  label_keeps : (words : Words) (label : Label) (formula : Formula) →
-      points_in (label_literals design words label formula).1 ≡ label_points design label
-  label_keeps words (Declared point) formula = refl
-  label_keeps words (Table table first second) formula =
-      let rows = map_of design.maps table in
-      literals_keep rows (selector_word words first second) (row_points design rows) formula
-
   -- ---- pairs of points
 
   abbrev stays : (p q : ℕ) → Bool
   stays p q = not (flow_test design.lattice p q)
 
-  abbrev stays_from : PointLiteral → PointLiteral → Bool
-  stays_from l m = stays l.point m.point
-
-  filtered_as : (l : PointLiteral) (target : LabelForm) →
-      length (filter (stays_from l) target)
-      ≡ length (filter (stays l.point) (points_in target))
-  filtered_as l [] = refl
-  filtered_as l (m ∷ target) =
-      by (stays_from l m) (filter (stays_from l) target)
-      (filter (stays l.point) (points_in target)) (filtered_as l target)
-    where
-      by : (b : Bool) (some : LabelForm) (points : List ℕ) → length some ≡ length points →
-          length (cond b (m ∷ some) some) ≡ length (cond b (m.point ∷ points) points)
-      by true some points same = ap suc same
-      by false some points same = same
-
   -- the pairs of points of two labels of which the first does not flow to the second
   abbrev pairs : (label target : List ℕ) → ℕ
   pairs label target = length (flat_map (λ p. filter (stays p) target) label)
 
-  bits_count : (label target : LabelForm) →
-      length (stay_bits design label target) ≡ pairs (points_in label) (points_in target)
-  bits_count [] target = refl
-  bits_count (l ∷ label) target =
-      let here = filter (stays_from l) target in
-      length-append (map (λ (m : PointLiteral). and_gate l.literal m.literal) here)
-      (stay_bits design label target)
-      ∙ ap₂ ◌+◌
-      (length-map here (λ (m : PointLiteral). and_gate l.literal m.literal) ∙ filtered_as l target)
-      (bits_count label target)
-      ∙ sym (length-append (filter (stays l.point) (points_in target))
-      (flat_map (λ p. filter (stays p) (points_in target)) (points_in label)))
-
   labels_count : (words : Words) (s : ℕ) (target : LabelForm) →
-      points_in target ≡ label_points design (label_of_signal design s) → (reads : List ℕ)
+      points_of target ≡ label_points design (label_of_signal design s) → (reads : List ℕ)
       (formula : Formula) →
       length (flat_map (λ label. stay_bits design label target)
       (signal_labels design words reads formula).1)
@@ -103,8 +52,8 @@ module _ (design : FlatDesign) where
       length-append (stay_bits design first.1 target)
       (flat_map (λ label. stay_bits design label target) rest.1)
       ∙ ap₂ ◌+◌
-      (bits_count first.1 target
-      ∙ ap₂ pairs (label_keeps words (label_of_signal design t) formula) same)
+      (stays_length design first.1 target
+      ∙ ap₂ pairs (label_points_are design words (label_of_signal design t) formula) same)
       (labels_count words s target same reads first.0)
       ∙ sym (sum_by-cons (λ t. stay_count design (label_of_signal design t)
       (label_of_signal design s)) t reads)
@@ -115,7 +64,7 @@ module _ (design : FlatDesign) where
 
   -- no pair, so the chain is the literal that is always false
   none_stays : (words : Words) (s : ℕ) (target : LabelForm) →
-      points_in target ≡ label_points design (label_of_signal design s) → (reads : List ℕ)
+      points_of target ≡ label_points design (label_of_signal design s) → (reads : List ℕ)
       (formula later : Formula) → IsTrue (stays_size design reads s == 0) →
       (some_stays_bit design (signal_labels design words reads formula).1 target later).1
       ≡ false_literal
@@ -137,11 +86,12 @@ module _ (design : FlatDesign) where
       ≡ false_literal
   never_fails now next reads (flow s frame) seven eight nine goes =
       none_stays now s (target_label design now next (flow s frame) seven).1
-      (label_keeps (words_in frame now next) (label_of_signal design s) seven) reads eight nine goes
+      (label_points_are design (words_in frame now next) (label_of_signal design s) seven) reads
+      eight nine goes
   never_fails now next reads (must_hold x frame) seven eight nine goes = absurd (false≢true goes)
   never_fails now next reads (selector s) seven eight nine goes =
       none_stays now s (signal_label design now s seven).1
-      (label_keeps now (label_of_signal design s) seven) reads eight nine goes
+      (label_points_are design now (label_of_signal design s) seven) reads eight nine goes
 
 -- ---- the first clause and the last one
 

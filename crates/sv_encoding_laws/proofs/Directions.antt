@@ -1,7 +1,9 @@
 -- Both ways: values that meet the clauses of an obligation spell a valuation that falsifies it, and
 -- every valuation that falsifies it is carried by such values.
-use Rattle.std.proofs.Common.{◌≡◌, ℕ, ◌<◌, ◌≤◌, ◌^◌, Bool, true, false, ◌||◌, not, cond, List, [], ◌∷◌}
-use Rattle.std.proofs.Common.{◌++◌, map, length, refl, sym, ap, subst, ◌∙◌, ◌⊎◌, inl, inr, ⊎_elim, arith, ℤ}
+use Rattle.std.proofs.Common.{◌≡◌, ℕ, ◌<◌, ◌≤◌, ◌^◌, Bool, true, false, ◌||◌, not, cond, List, []}
+use Rattle.std.proofs.Common.{◌∷◌}
+use Rattle.std.proofs.Common.{◌++◌, map, length, refl, sym, ap, subst, ◌∙◌, ◌⊎◌, inl, inr, ⊎_elim}
+use Rattle.std.proofs.Common.{arith, ℤ}
 use Rattle.std.specs.Prelude.{Contains, IsTrue, IsFalse, All, neg_ℤ}
 use Rattle.std.specs.List.{list_any}
 use Rattle.std.proofs.lemmas.Bool.{false≢true, or_left, or_right}
@@ -302,34 +304,33 @@ module _ (design : FlatDesign) (checked : IsChecked design) (o : Obligation)
         (to_filter (λ s. is_top_input design s || is_register design s) (now_cone design o) s
         (from s both.0) both.1)).inside.1
 
+    kind_fits : (test : ℕ → Bool) (from : ℕ → ℕ) (list : List ℕ) (words : Words) →
+        ((s : ℕ) → from s ≡ spelled_or_zero values list words s) →
+        ((s : ℕ) → IsTrue (holds list s) → length (words s) ≡ signal_width design.signals s) →
+        KindFits test (flat_system design) from
+    kind_fits test from list words are width =
+        contained_all (λ s. IsTrue (test s) → from s < 2 ^ signal_width design.signals s)
+        (flat_system design).signals
+        (λ s seen kind. subst (λ k. k < 2 ^ signal_width design.signals s) (sym (are s))
+        (low list words s (width s)))
+
     registers_fit : KindFits (is_register design) (flat_system design) v.registers
     registers_fit =
-        contained_all (λ s. IsTrue (is_register design s) →
-        v.registers s < 2 ^ signal_width design.signals s) (flat_system design).signals
-        (λ s seen register. subst (λ k. k < 2 ^ signal_width design.signals s)
-        (sym (told.registers s))
-        (low (registers_in design (now_cone design o)) (s1 design checked o query).1 s
-        (given_width (is_register design)
-        (λ t is. or_right (is_top_input design t) (is_register design t) is) s)))
+        kind_fits (is_register design) v.registers (registers_in design (now_cone design o))
+        (s1 design checked o query).1 told.registers (given_width (is_register design)
+        (λ t is. or_right (is_top_input design t) (is_register design t) is))
 
     inputs_fit : KindFits (flat_system design).is_input (flat_system design) v.inputs
     inputs_fit =
-        contained_all (λ s. IsTrue ((flat_system design).is_input s) →
-        v.inputs s < 2 ^ signal_width design.signals s) (flat_system design).signals
-        (λ s seen input. subst (λ k. k < 2 ^ signal_width design.signals s)
-        (sym (told.inputs s))
-        (low (inputs_in design (now_cone design o)) (s1 design checked o query).1 s
-        (given_width (is_top_input design)
-        (λ t is. or_left (is_top_input design t) (is_register design t) is) s)))
+        kind_fits (flat_system design).is_input v.inputs (inputs_in design (now_cone design o))
+        (s1 design checked o query).1 told.inputs (given_width (is_top_input design)
+        (λ t is. or_left (is_top_input design t) (is_register design t) is))
 
     next_inputs_fit : KindFits (flat_system design).is_input (flat_system design) v.next_inputs
     next_inputs_fit =
-        contained_all (λ s. IsTrue ((flat_system design).is_input s) →
-        v.next_inputs s < 2 ^ signal_width design.signals s) (flat_system design).signals
-        (λ s seen input. subst (λ k. k < 2 ^ signal_width design.signals s)
-        (sym (told.next_inputs s))
-        (low (inputs_in design (next_cone design o)) (s3 design checked o query).1 s
-        (λ held. ((free3 design checked o query).words s held).inside.1)))
+        kind_fits (flat_system design).is_input v.next_inputs
+        (inputs_in design (next_cone design o)) (s3 design checked o query).1 told.next_inputs
+        (λ s held. ((free3 design checked o query).words s held).inside.1)
 
     abbrev ordered : Ordered (flat_system design)
     ordered = design_ordered design checked.is_sound checked.admitted

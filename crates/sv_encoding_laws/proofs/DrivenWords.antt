@@ -1,27 +1,26 @@
 -- The word that a process gives a signal spells what its body makes of the signal, by what it makes
 -- on its way of all that the signal follows (IEEE 1364-2005, clauses 6 and 9).
-use Rattle.std.proofs.Common.{◌≡◌, ℕ, zero, suc, ◌+◌, ◌*◌, ◌<◌, ◌≤◌, Bool, true, false, ◌||◌, ◌&&◌, ◌==◌}
-use Rattle.std.proofs.Common.{not, ◌-◌, nat_lt, nat_le, cond, List, ◌++◌, length, refl, sym, ap, ap₂}
+use Rattle.std.proofs.Common.{◌≡◌, ℕ, zero, suc, ◌+◌, ◌*◌, ◌<◌, ◌≤◌, Bool, true, false, ◌&&◌, ◌==◌}
+use Rattle.std.proofs.Common.{not, ◌-◌, nat_lt, nat_le, cond, List, length, refl, sym, ap, ap₂}
 use Rattle.std.proofs.Common.{subst, ◌∙◌, ◌⊎◌, inl, inr, ⊎_elim, arith, ltb-true, replicate}
 use Rattle.std.specs.Prelude.{Contains, IsTrue, IsFalse}
 use Rattle.std.specs.List.{list_any, list_all}
 use Rattle.std.proofs.lemmas.Bool.{false≢true, leb-true, leb-false, lt-ltb, eq-eqb}
 use Rattle.sv_num.specs.Vectors.{truth}
-use Rattle.sv_flat.specs.Design.{SignalForm, TypedTree, PieceForm, FlatStatement, nothing, after}
-use Rattle.sv_flat.specs.Design.{assign, branch, ProcessForm, FlatDesign}
+use Rattle.sv_flat.specs.Design.{SignalForm, TypedTree, PieceForm, FlatStatement}
+use Rattle.sv_flat.specs.Design.{ProcessForm, FlatDesign}
 use Rattle.sv_flat.specs.Values.{signal_width, expression_width}
 use Rattle.sv_flat.specs.Soundness.{is_signal, is_part_of, piece_fits, well_formed, statement_sound}
 use Rattle.sv_flat.specs.Soundness.{sound}
-use Rattle.sv_flat.specs.Assigned.{assigns, can_assign, always_assigns}
-use Rattle.sv_flat.specs.Readings.{BitSet, either, no_bits, Reading, readings_of}
+use Rattle.sv_flat.specs.Assigned.{assigns}
+use Rattle.sv_flat.specs.Readings.{BitSet, no_bits, Reading, readings_of}
 use Rattle.sv_flat.specs.Readings.{readings}
 use Rattle.sv_flat.specs.Processes.{is_clocked, is_block, is_register, drivers}
 use Rattle.sv_flat.specs.Clocks.{processes_of, is_clock_link}
 use Rattle.sv_flat.specs.Reads.{followed, is_read_for, process_readings, reads_settled}
 use Rattle.sv_flat.specs.Sets.{holds}
 use Rattle.sv_flat.specs.Admission.{IsAdmitted}
-use Rattle.sv_flat.proofs.Members.{Contains-left, Contains-right}
-use Rattle.sv_flat.proofs.LeastSets.{some_from, from_some, Contains-from_holds}
+use Rattle.sv_flat.proofs.LeastSets.{some_from, Contains-from_holds}
 use Rattle.sv_flat.proofs.LeastSets.{Contains-from_filter, either_way, holds-from_Contains}
 use Rattle.std.proofs.lemmas.Bool.{or_left}
 use Rattle.sv_flat.proofs.Depths.{first_of, second_of, from_all}
@@ -48,6 +47,7 @@ use Rattle.sv_encoding_laws.proofs.BodyWords.{words_make}
 use Rattle.sv_encoding_laws.proofs.BodyCounts.{body_grows}
 use Rattle.sv_encoding.specs.Sizes.{process_size}
 use Rattle.sv_encoding_laws.proofs.MarkedReads.{twice_long, same_width, ReadsCount, marked_fit}
+use Rattle.sv_encoding_laws.proofs.MarkedReads.{marked_body_fits}
 use Rattle.sv_encoding_laws.proofs.Renamed.{named_instead, formed_instead}
 use Rattle.sv_encoding_laws.proofs.Steps.{HasWidth, MakesWord}
 
@@ -159,69 +159,14 @@ module _ (design : FlatDesign) (is_sound : IsTrue (sound design)) (admitted : Is
         ltb-true piece.high n (second_of (nat_le piece.low piece.high) (nat_lt piece.high n) ends),
       )
 
-  -- marks change no target
-  marked_targets : (b : FlatStatement) (later : BitSet) (t : ℕ) →
-      assigns (marked signals (is_block p.kind) b later) t ≡ assigns b t
-  marked_targets nothing later t = refl
-  marked_targets (after first second) later t =
-      ap₂ ◌||◌ (marked_targets first (either (can_assign second) later) t)
-      (marked_targets second later t)
-  marked_targets (assign pieces place blocking right) later t = refl
-  marked_targets (branch place condition first second) later t =
-      ap₂ ◌||◌ (marked_targets first later t) (marked_targets second later t)
-
   marked_fits : (b : FlatStatement) (early later : BitSet) → IsTrue (statement_sound signals b) →
       Count (readings signals b early later) →
       BodyFits signals have_bits targets Counts copies (marked signals (is_block p.kind) b later)
-  marked_fits nothing early later right count = tt
-  marked_fits (after first second) early later right count =
-      let late = either (can_assign second) later in
-      let mid = either (always_assigns first) early in (
-        marked_fits first early late
-            (first_of (statement_sound signals first) (statement_sound signals second) right)
-            (λ r r_at. count r (Contains-left (readings signals first early late)
-            (readings signals second mid later) r r_at)),
-        marked_fits second mid later
-            (second_of (statement_sound signals first) (statement_sound signals second) right)
-            (λ r r_at. count r (Contains-right (readings signals first early late)
-            (readings signals second mid later) r r_at)),
-      )
-  marked_fits (assign pieces place blocking e) early later right count =
-      let whole = assign pieces place blocking e in
-      (λ some. let by = from_some (assigns whole) targets some in (
-        tree_fits e (assigns whole) early (either (can_assign whole) later)
-            (first_of (well_formed signals e) (list_all (piece_fits signals e) pieces) right)
-            by.0 by.1 by.2 count,
-        pieces_fit e pieces
-            (second_of (well_formed signals e) (list_all (piece_fits signals e) pieces) right),
-      ))
-  marked_fits (branch place condition first second) early later right count =
-      let whole = branch place condition first second in
-      let follows = either (can_assign whole) later in
-      let here = readings_of signals condition (assigns whole) early follows in
-      let in_first = readings signals first early later in
-      let in_second = readings signals second early later in
-      let front = first_of (well_formed signals condition && statement_sound signals first)
-      (statement_sound signals second) right in (
-        (λ some.
-            let by = from_some (assigns (marked signals (is_block p.kind) whole later)) targets
-            some in
-            tree_fits condition (assigns whole) early follows
-            (first_of (well_formed signals condition) (statement_sound signals first) front)
-            by.0 by.1 (sym (marked_targets whole later by.0) ∙ by.2)
-            (λ r r_at. count r (Contains-left (here ++ in_first) in_second r
-            (Contains-left here in_first r r_at)))),
-        (
-          marked_fits first early later
-              (second_of (well_formed signals condition) (statement_sound signals first) front)
-              (λ r r_at. count r (Contains-left (here ++ in_first) in_second r
-              (Contains-right here in_first r r_at))),
-          marked_fits second early later
-              (second_of (well_formed signals condition && statement_sound signals first)
-              (statement_sound signals second) right)
-              (λ r r_at. count r (Contains-right (here ++ in_first) in_second r r_at)),
-        ),
-      )
+  marked_fits =
+      marked_body_fits design p s (ExpressionFits signals have_bits targets Counts copies)
+      (BodyFits signals have_bits targets Counts copies) tree_fits tt (λ a b x y. (x, y))
+      (λ pieces place blocking e follows all tree some. (tree some, pieces_fit e pieces all))
+      (λ place condition a b tree x y. (tree, (x, y)))
 
   -- ---- where the process begins
 

@@ -80,6 +80,24 @@ abbrev mutual
   NamedParts P no_parts = Unit {0}
   NamedParts P (more_parts e es) = Named P e × NamedParts P es
 
+-- the parts of a conjunction of four, and of five
+pub four_parts : (a b c d : Bool) → IsTrue (a && b && c && d) →
+    IsTrue a × IsTrue b × IsTrue c × IsTrue d
+four_parts a b c d h =
+    let three = first_of (a && b && c) d h in
+    let two = first_of (a && b) c three in (
+      first_of a b two,
+      second_of a b two,
+      second_of (a && b) c three,
+      second_of (a && b && c) d h,
+    )
+
+pub five_parts : (a b c d e : Bool) → IsTrue (a && b && c && d && e) →
+    IsTrue a × IsTrue b × IsTrue c × IsTrue d × IsTrue e
+five_parts a b c d e h =
+    let (one, two, three, four) = four_parts a b c d (first_of (a && b && c && d) e h) in
+    (one, two, three, four, second_of (a && b && c && d) e h)
+
 -- ---- lengths
 
 pub same_type : (w : ℕ) (s : Bool) (e : TypedTree) → IsTrue (has_type w s e) → expression_width e ≡ w
@@ -345,14 +363,9 @@ module _ (signals : List SignalForm)
         (unary_step op (expression_signed e) old first (expression_width e)
         (λ values. value signals (spelled values) e) base p)
     node_makes (binary op a b) w signed some h named old small base =
-        let types = binary_typed (class_of op) w signed a b in
-        let whole = not (is_division op) in
-        let front = first_of (whole && types && well_formed signals a) (well_formed signals b) h in
-        let formed_b = second_of (whole && types && well_formed signals a) (well_formed signals b) h in
-        let formed_a = second_of (whole && types) (well_formed signals a) front in
-        let both = first_of (whole && types) (well_formed signals a) front in
-        let is_whole = first_of whole types both in
-        let is_typed = second_of whole types both in
+        let (is_whole, is_typed, formed_a, formed_b) =
+        four_parts (not (is_division op)) (binary_typed (class_of op) w signed a b)
+        (well_formed signals a) (well_formed signals b) h in
         let c = class_of op in
         let x = λ (values : ℕ → Bool). value signals (spelled values) a in
         let y = λ (values : ℕ → Bool). value signals (spelled values) b in
@@ -383,21 +396,13 @@ module _ (signals : List SignalForm)
               (x values) (y values);
         }
     node_makes (choice place c a b) w signed some h named old small base =
-        let ta = has_type w signed a in
-        let tb = has_type w signed b in
-        let fc = well_formed signals c in
-        let fa = well_formed signals a in
-        let fb = well_formed signals b in
-        let h1 = first_of (ta && tb && fc && fa) fb h in
-        let formed_b = second_of (ta && tb && fc && fa) fb h in
-        let h2 = first_of (ta && tb && fc) fa h1 in
-        let formed_a = second_of (ta && tb && fc) fa h1 in
-        let h3 = first_of (ta && tb) fc h2 in
-        let formed_c = second_of (ta && tb) fc h2 in
+        let (type_a, type_b, formed_c, formed_a, formed_b) =
+        five_parts (has_type w signed a) (has_type w signed b) (well_formed signals c)
+        (well_formed signals a) (well_formed signals b) h in
         let wide_a = eqb-true (expression_width a) w (first_of (expression_width a == w)
-        (beq (expression_signed a) signed) (first_of ta tb h3)) in
+        (beq (expression_signed a) signed) type_a) in
         let wide_b = eqb-true (expression_width b) w (first_of (expression_width b == w)
-        (beq (expression_signed b) signed) (second_of ta tb h3)) in
+        (beq (expression_signed b) signed) type_b) in
         let x = λ (values : ℕ → Bool). value signals (spelled values) a in
         let y = λ (values : ℕ → Bool). value signals (spelled values) b in
         let v = λ (values : ℕ → Bool). value signals (spelled values) c in

@@ -135,12 +135,7 @@ module _ (design : FlatDesign) (is_sound : IsTrue (sound design)) (admitted : Is
       IsStill (flat_system design) e → ((t : ℕ) → IsTrue (is_read_for design s t) →
       word_value values (words t) ≡ e t) → word_value values word ≡ e s)
   one_makes s comb words old base has =
-      let driver = combinational_driver design is_sound admitted s comb in
-      let p = driver.0 in
-      let at = driver.1 in
-      let unclocked = driver.2 in
-      let own = driver.3 in
-      let alone = driver.4 in
+      let (p, at, unclocked, own, alone) = combinational_driver design is_sound admitted s comb in
       let q = driven_makes design is_sound admitted p s at own words old base has in
       subst (λ made. Makes old made (HasWidth (signal_width design.signals s))
       (λ values word. (e : Environment ℕ) → Fits (flat_system design) e →
@@ -358,16 +353,12 @@ module _ (design : FlatDesign) (is_sound : IsTrue (sound design)) (admitted : Is
       (λ values word. (e : Environment ℕ) → ((t : ℕ) → IsTrue (is_read_for design s t) →
       word_value values (now t) ≡ e t) → word_value values word ≡ (flat_system design).next e s)
   next_makes s register now old base has =
-      let driver = register_driver design is_sound admitted s register in
-      let p = driver.0 in
-      let at = driver.1 in
-      let clock = driver.2 in
-      let own = driver.3 in
+      let (p, at, clock, own, alone) = register_driver design is_sound admitted s register in
       let q = driven_makes design is_sound admitted p s at own now old base has in
       subst (λ made. Makes old made (HasWidth (signal_width design.signals s))
       (λ values word. (e : Environment ℕ) → ((t : ℕ) → IsTrue (is_read_for design s t) →
       word_value values (now t) ≡ e t) → word_value values word ≡ (flat_system design).next e s))
-      (sym (driven_by now s p old driver.4))
+      (sym (driven_by now s p old alone))
       (record {
         extends = q.extends;
         within = q.within;

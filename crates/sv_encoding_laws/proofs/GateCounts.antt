@@ -15,7 +15,7 @@ use Rattle.sv_circuits.specs.Operators.{sum_word, add_bits, product_row, product
 use Rattle.sv_circuits.specs.Operators.{product_word, less_from, ordered_word, less_bit}
 use Rattle.sv_circuits.specs.Operators.{shifted_from, picked_from}
 use Rattle.sv_circuits.proofs.Lengths.{inverted_length, joined_length, sum_length, each_length}
-use Rattle.sv_circuits.proofs.Lengths.{per_bit_length, filled_length}
+use Rattle.sv_circuits.proofs.Lengths.{per_bit_length, filled_length, zip_length}
 
 -- over every formula a piece takes so many variables
 abbrev pub Takes : ℕ → BitMaker → Type 0
@@ -72,19 +72,12 @@ zip_takes gate one [] b = tt
 zip_takes gate one (x ∷ a) [] = tt
 zip_takes gate one (x ∷ a) (y ∷ b) = (one x y, zip_takes gate one a b)
 
-zip_size : (gate : ℤ → ℤ → BitMaker) (a b : Word) → length a ≡ length b →
-    length (map (λ (bits : ℤ × ℤ). gate bits.0 bits.1) (zip a b)) ≡ length a
-zip_size gate [] [] e = refl
-zip_size gate [] (y ∷ b) e = refl
-zip_size gate (x ∷ a) [] e = absurd (omega (arith, e))
-zip_size gate (x ∷ a) (y ∷ b) e = ap suc (zip_size gate a b (omega (arith, e)))
-
 pub bitwise_count : (gate : ℤ → ℤ → BitMaker) → ((a b : ℤ) → Takes 1 (gate a b)) → (a b : Word) →
     (old : Formula) → length a ≡ length b →
     (bitwise_word gate a b old).0.variables ≡ old.variables + length a
 bitwise_count gate one a b old e =
     in_turn_count 1 (map (λ (bits : ℤ × ℤ). gate bits.0 bits.1) (zip a b)) (zip_takes gate one a b) old
-    ∙ omega (arith, zip_size gate a b e)
+    ∙ omega (arith, zip_length gate a b e)
 
 fresh_takes : (n : ℕ) → EachTakes 1 (replicate n fresh_variable)
 fresh_takes zero = tt

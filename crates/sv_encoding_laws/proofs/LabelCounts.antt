@@ -66,7 +66,7 @@ points_count rows selector width e (p ∷ ps) old =
       mapped_more (λ q. point_size width (length (keys_of rows q))) p ps,
     )
 
-abbrev points_of : LabelForm → List ℕ
+abbrev pub points_of : LabelForm → List ℕ
 points_of label = map (λ (l : PointLiteral). l.point) label
 
 points_are : (rows : MapRows) (selector : Word) (ps : List ℕ) (old : Formula) →
@@ -105,7 +105,7 @@ module _ (design : FlatDesign) (words : Words) where
       ∙ ap₂ ◌+◌ (long second (Contains-later first (second ∷ []) second (Contains-head second [])))
       (long first (Contains-head first (second ∷ [])))) (row_points design rows) old
 
-  label_points_are : (label : Label) (old : Formula) →
+  pub label_points_are : (label : Label) (old : Formula) →
       points_of (label_literals design words label old).1 ≡ label_points design label
   label_points_are (Declared point) old = refl
   label_points_are (Table k first second) old =
@@ -188,7 +188,7 @@ pairs_length test p (q ∷ target) = by (test q.point) (pairs_length test p targ
     by true e = omega (arith, e)
     by false e = e
 
-stays_length : (design : FlatDesign) (label target : LabelForm) →
+pub stays_length : (design : FlatDesign) (label target : LabelForm) →
     length (stay_bits design label target)
     ≡ length (flat_map (λ p. filter (λ q. not (flow_test design.lattice p q)) (points_of target))
     (points_of label))

@@ -38,8 +38,9 @@ use Rattle.sv_encoding.specs.Expressions.{bit_at_number, indexed_bit, operand_wo
 use Rattle.sv_encoding.specs.Sizes.{unary_size, binary_size, operand_size, picked_size, index_size}
 use Rattle.sv_encoding.specs.Sizes.{expression_size, node_size, parts_size, truth_size}
 use Rattle.sv_encoding_laws.proofs.Steps.{operand_width}
-use Rattle.sv_encoding_laws.proofs.ExpressionLaws.{Named, NamedNode, NamedParts, sizes_of, same_type}
-use Rattle.sv_encoding_laws.proofs.ExpressionLaws.{formed_one}
+use Rattle.sv_encoding_laws.proofs.ExpressionLaws.{Named, NamedNode, NamedParts, sizes_of}
+use Rattle.sv_encoding_laws.proofs.ExpressionLaws.{same_type}
+use Rattle.sv_encoding_laws.proofs.ExpressionLaws.{formed_one, four_parts, five_parts}
 use Rattle.sv_encoding_laws.proofs.GateCounts.{and_count, or_count, xor_count, mux_count}
 use Rattle.sv_encoding_laws.proofs.GateCounts.{bitwise_count, ready_chain_count, equal_count}
 use Rattle.sv_encoding_laws.proofs.GateCounts.{sum_count, product_count, less_count, shifted_count}
@@ -245,14 +246,9 @@ module _ (signals : List SignalForm) (words : Words) where
         (expression_length signals words e old)
         ∙ omega arith
     node_count (binary op a b) w signed h named old =
-        let types = binary_typed (class_of op) w signed a b in
-        let whole = not (is_division op) in
-        let front = first_of (whole && types && well_formed signals a) (well_formed signals b) h in
-        let formed_b = second_of (whole && types && well_formed signals a) (well_formed signals b) h in
-        let formed_a = second_of (whole && types) (well_formed signals a) front in
-        let both = first_of (whole && types) (well_formed signals a) front in
-        let is_whole = first_of whole types both in
-        let is_typed = second_of whole types both in
+        let (is_whole, is_typed, formed_a, formed_b) =
+        four_parts (not (is_division op)) (binary_typed (class_of op) w signed a b)
+        (well_formed signals a) (well_formed signals b) h in
         let c = class_of op in
         let first = expression_word signals words a old in
         let left = operand_word c first.1 first.0 in
@@ -282,19 +278,11 @@ module _ (signals : List SignalForm) (words : Words) where
         u ∙ ap₂ (λ k l. right.0.variables + binary_size op k l) m n
         ∙ omega (arith, same, p, q, r, t)
     node_count (choice place c a b) w signed h named old =
-        let ta = has_type w signed a in
-        let tb = has_type w signed b in
-        let fc = well_formed signals c in
-        let fa = well_formed signals a in
-        let fb = well_formed signals b in
-        let h1 = first_of (ta && tb && fc && fa) fb h in
-        let formed_b = second_of (ta && tb && fc && fa) fb h in
-        let h2 = first_of (ta && tb && fc) fa h1 in
-        let formed_a = second_of (ta && tb && fc) fa h1 in
-        let h3 = first_of (ta && tb) fc h2 in
-        let formed_c = second_of (ta && tb) fc h2 in
-        let same_a = same_type w signed a (first_of ta tb h3) in
-        let same_b = same_type w signed b (second_of ta tb h3) in
+        let (type_a, type_b, formed_c, formed_a, formed_b) =
+        five_parts (has_type w signed a) (has_type w signed b) (well_formed signals c)
+        (well_formed signals a) (well_formed signals b) h in
+        let same_a = same_type w signed a type_a in
+        let same_b = same_type w signed b type_b in
         let condition = expression_word signals words c old in
         let bit = not_zero_bit condition.1 condition.0 in
         let first = expression_word signals words a bit.0 in

@@ -264,7 +264,7 @@ decoded_tells design cone later_cone given later values once later_once are late
 
 -- ---- cones
 
-range_from : (a n : ℕ) → EachOnce (range_with_len a n)
+pub range_from : (a n : ℕ) → EachOnce (range_with_len a n)
 range_from a n i j d less inside same =
     let below : j < n = subst (λ k. j < k) (length-range_with_len a n) inside in
     let first = get_or-range_with_len a n i d (omega (arith, less, below)) in

@@ -1,10 +1,9 @@
 -- The cones of a query begin with signals of the system.
-use Rattle.std.proofs.Common.{ℕ, List, [], ◌∷◌, ◌++◌, length, map, sym, subst}
+use Rattle.std.proofs.Common.{ℕ, List, [], ◌∷◌, ◌++◌, length, map, subst}
 use Rattle.std.proofs.Common.{⊎_elim, lt-ltb}
 use Rattle.std.specs.Prelude.{Contains, IsTrue, flat_map}
 use Rattle.std.specs.List.{list_any}
 use Rattle.sv_system.proofs.Lists.{Contains-nil, Contains-cases, Contains-from_map}
-use Rattle.sv_system.proofs.Lists.{Contains-head}
 use Rattle.sv_flat.specs.Design.{TypedTree, FlatDesign}
 use Rattle.sv_flat.specs.Soundness.{sound, is_signal}
 use Rattle.sv_flat.specs.Readings.{names_signal}
@@ -13,37 +12,20 @@ use Rattle.sv_flat.specs.Reads.{is_read_for, reads_for}
 use Rattle.sv_flat.specs.SignalLists.{system_signals}
 use Rattle.sv_flat.specs.Sets.{holds}
 use Rattle.sv_flat.specs.Admission.{IsAdmitted}
-use Rattle.sv_flat.proofs.Members.{Contains-left, Contains-right, Contains-either, all_contained}
+use Rattle.sv_flat.proofs.Members.{Contains-either, all_contained}
 use Rattle.sv_flat.proofs.LeastSets.{those_pass, those_below, from_some}
 use Rattle.sv_flat.proofs.LeastSets.{Contains-from_filter, holds-from_Contains}
-use Rattle.sv_system.proofs.Lists.{Contains-later}
 use Rattle.sv_flat.proofs.SelectorFacts.{selector_is_seen}
 use Rattle.sv_obl.specs.declared.frames.Frame.TheVariants.{Now, Next}
 use Rattle.sv_obl.specs.Paths.{StepForm}
 use Rattle.sv_obl.specs.Obligations.{GoalForm, flow, holds as must_hold, selector, Obligation}
 use Rattle.sv_obl.specs.DesignQueries.{IsExpressionOf, IsStepOf, IsGoalOf, IsQueryOf}
+use Rattle.sv_obl.proofs.PathLists.{from_flat_map}
 use Rattle.sv_encoding.specs.Cones.{label_selectors, named_in, asked_next, next_cone, asked_now}
 use Rattle.sv_encoding.specs.Cones.{conditions_of, registers_in, now_cone}
 use Rattle.sv_encoding.specs.BothWays.{IsCone}
 use Rattle.sv_encoding_laws.proofs.ConeFacts.{read_seen, is_cone, cone_seen, cone_starts}
 use Rattle.sv_encoding_laws.proofs.ConeFacts.{seen_below}
-
-pub in_flat_map : (f : ℕ → List ℕ) (xs : List ℕ) (x k : ℕ) → Contains xs x → Contains (f x) k →
-    Contains (flat_map f xs) k
-in_flat_map f [] x k at inside = absurd (Contains-nil x at)
-in_flat_map f (y ∷ xs) x k at inside = ⊎_elim
-    (λ e. Contains-left (f y) (flat_map f xs) k (subst (λ z. Contains (f z) k) (sym e) inside))
-    (λ later. Contains-right (f y) (flat_map f xs) k (in_flat_map f xs x k later inside))
-    (Contains-cases y xs x at)
-
-pub from_flat_map : (f : ℕ → List ℕ) (xs : List ℕ) (k : ℕ) → Contains (flat_map f xs) k →
-    (x : ℕ) × Contains xs x × Contains (f x) k
-from_flat_map f [] k at = absurd (Contains-nil k at)
-from_flat_map f (y ∷ xs) k at = ⊎_elim
-    (λ here. (y, Contains-head y xs, here))
-    (λ later. let found = from_flat_map f xs k later in
-    (found.0, Contains-later y xs found.0 found.1, found.2))
-    (Contains-either (f y) (flat_map f xs) k at)
 
 module _ (design : FlatDesign) (is_sound : IsTrue (sound design)) (admitted : IsAdmitted design)
     (o : Obligation) (query : IsQueryOf design o) where

@@ -1,6 +1,6 @@
 -- The size of an encoding that is told is the number of its variables.
-use Rattle.std.proofs.Common.{◌≡◌, ℕ, ◌+◌, ⊎_elim, List, [], ◌∷◌, ◌++◌, map, length, fold, refl, sym}
-use Rattle.std.proofs.Common.{◌∙◌, arith, subst, ℤ}
+use Rattle.std.proofs.Common.{◌≡◌, ℕ, ◌+◌, List, [], ◌∷◌, ◌++◌, map, length, fold, refl}
+use Rattle.std.proofs.Common.{◌∙◌, arith, ℤ}
 use Rattle.std.specs.Prelude.{Contains, sum}
 use Rattle.sv_system.proofs.Lists.{Contains-head}
 use Rattle.sv_flat.specs.Design.{TypedTree, FlatDesign}
@@ -12,17 +12,16 @@ use Rattle.sv_obl.specs.Noninterference.{IsChecked}
 use Rattle.sv_gates.specs.Formulas.{Formula}
 use Rattle.sv_gates.specs.Gates.{start, with_unit}
 use Rattle.sv_circuits.specs.Words.{fresh_word}
-use Rattle.sv_circuits.proofs.Pieces.{word_more}
 use Rattle.sv_encoding.specs.Expressions.{Words, is_true_bit}
 use Rattle.sv_encoding.specs.Bodies.{with_word}
 use Rattle.sv_encoding.specs.Cones.{asked_next, asked_now, registers_in}
 use Rattle.sv_encoding.specs.Encoding.{fresh_words, given_in, inputs_in, settled_in, words_in}
 use Rattle.sv_encoding.specs.Encoding.{truth_literals, target_label, violation, encoding, path_units}
-use Rattle.sv_encoding.specs.BothWays.{HaveBits, IsWordOf, SizeIsExact}
+use Rattle.sv_encoding.specs.BothWays.{HaveBits, SizeIsExact}
 use Rattle.sv_encoding.specs.Sizes.{widths_of, signals_size, truth_size, target_size}
 use Rattle.sv_encoding.specs.Sizes.{violation_size, label_size, label_of_signal, encoding_size}
 use Rattle.sv_encoding_laws.proofs.Chain.{cone, later, s1, s2, s3, s4, s5, s6, s7, s8, s9, s10}
-use Rattle.sv_encoding_laws.proofs.Chain.{free1, p2, free3, p4, base4, read_inside, later_given}
+use Rattle.sv_encoding_laws.proofs.Chain.{free1, free3, base4, read_word, later_word}
 use Rattle.sv_encoding_laws.proofs.Chain.{bits, InCone, InLater, counts, facts_count}
 use Rattle.sv_encoding_laws.proofs.Chain.{conditions_count, conditions, wide_now, wide_next}
 use Rattle.sv_encoding_laws.proofs.Chain.{asked_inside, labels_inside}
@@ -172,36 +171,18 @@ module _ (design : FlatDesign) (checked : IsChecked design) (o : Obligation)
       ≡ vars (s3 design checked o query).0
       + signals_size design (registers_in design (later design checked o query))
   c4 =
-      let free = free3 design checked o query in
-      let now = p2 design checked o query in
       next_words_count design (later design checked o query) (s2 design checked o query).1
       (s3 design checked o query).1 (s3 design checked o query).0 checked.is_sound checked.admitted
-      free.base
-      (λ t read. let is = now.within t (read_inside design checked o query t read) in (
-        word_more (s2 design checked o query).0.variables (s3 design checked o query).0.variables
-            ((s2 design checked o query).1 t) free.begins.grows is.0,
-        is.1,
-      ))
+      (free3 design checked o query).base (read_word design checked o query)
 
   c5 : vars (s5 design checked o query).0
       ≡ vars (s4 design checked o query).0
       + signals_size design (settled_in design (later design checked o query))
   c5 =
-      let free = free3 design checked o query in
-      let registers = p4 design checked o query in
-      let first = (s3 design checked o query).1 in
-      let m = (s3 design checked o query).0.variables in
-      let n = (s4 design checked o query).0.variables in
       settled_words_count design (later design checked o query) (s4 design checked o query).1
       (s4 design checked o query).0 checked.is_sound checked.admitted
       (next_is_cone design checked.is_sound checked.admitted o query)
-      (base4 design checked o query)
-      (λ t held. ⊎_elim
-      (λ register. registers.0.within t register)
-      (λ input. let is = (free.words t input.1).inside in
-      subst (IsWordOf design t n) (sym (registers.1 t input.0))
-      (word_more m n (first t) registers.0.extends.begins.grows is.0, is.1))
-      (later_given design checked o query t held))
+      (base4 design checked o query) (later_word design checked o query)
 
   c6 : vars (s6 design checked o query).0
       ≡ vars (s5 design checked o query).0 + sum (map (truth_size design.signals) o.facts)

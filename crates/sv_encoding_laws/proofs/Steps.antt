@@ -1,6 +1,7 @@
 -- Steps of an expression's word: words of some length that spell a value, one made after the other.
 use Rattle.std.proofs.Common.{◌≡◌, ℕ, zero, suc, ◌+◌, ◌*◌, ◌%◌, ◌^◌, ◌<◌, ◌≤◌, Bool, true, false}
-use Rattle.std.proofs.Common.{◌&&◌, ◌||◌, take, cond, ℤ, List, [], ◌∷◌, length, refl, sym, ap, ap₂, ◌∙◌}
+use Rattle.std.proofs.Common.{◌&&◌, ◌||◌, take, cond, ℤ, List, [], ◌∷◌, length, refl, sym, ap, ap₂}
+use Rattle.std.proofs.Common.{◌∙◌}
 use Rattle.std.proofs.Common.{subst, arith}
 use Rattle.std.specs.Prelude.{pos, negsuc, slice_index_or}
 use Rattle.std.specs.Int.{bit_at}
@@ -10,9 +11,7 @@ use Rattle.std.proofs.Math.Nat.{mod-eq_of_lt}
 use Rattle.std.proofs.Math.Pow.{pow_mono}
 use Rattle.sv_num.specs.declared.operators.UnOp.{UnOp}
 use Rattle.sv_num.specs.declared.operators.BinOp.{BinOp}
-use Rattle.sv_num.specs.declared.operators.BinOp.TheVariants.{Mul, Div, Rem, Add, Sub, Shl, Shr}
-use Rattle.sv_num.specs.declared.operators.BinOp.TheVariants.{SignShl, SignShr, Lt, Le, Gt, Ge, Eq}
-use Rattle.sv_num.specs.declared.operators.BinOp.TheVariants.{Ne, And, Xor, Xnor, Or, LogicAnd}
+use Rattle.sv_num.specs.declared.operators.BinOp.TheVariants.{LogicAnd}
 use Rattle.sv_num.specs.declared.operators.BinOp.TheVariants.{LogicOr}
 use Rattle.sv_num.specs.declared.operators.OpClass.{OpClass}
 use Rattle.sv_num.specs.declared.operators.OpClass.TheVariants.{Context, Compare, Logical, Shift}
@@ -105,23 +104,6 @@ below_power values size width word e h =
     subst (λ k. word_value values word < 2 ^ k) e (word_low values word) in
     omega (arith, more, low)
 
--- a word with false literals behind it
-pub resized : (old : Formula) (made : Formula × Word) (size width : ℕ) (value : (ℕ → Bool) → ℕ) →
-    IsBase old → size ≤ width → MakesWord old made size value →
-    MakesWord old (made.0, zero_filled width made.1) width value
-resized old made size width value base h p = record {
-  extends = p.extends;
-  within = record {
-    is = zero_filled_is (made.0).variables width made.1
-        (base_more old made.0 base p.extends).some p.within.is;
-    width = width_filled false_literal width made.1;
-  };
-  says = λ values e.
-      zero_filled_value values ((base_more old made.0 base p.extends).truth values e) width made.1
-      ∙ mod-eq_of_lt (below_power values size width made.1 p.within.width h)
-      ∙ p.says values e;
-}
-
 -- a word cut or filled to a width
 pub cut_to : (old : Formula) (made : Formula × Word) (size width : ℕ) (value : (ℕ → Bool) → ℕ) →
     IsBase old → MakesWord old made size value →
@@ -138,20 +120,40 @@ cut_to old made size width value base p = record {
       ∙ ap (λ v. v % 2 ^ width) (p.says values e);
 }
 
+-- a word with false literals behind it
+pub resized : (old : Formula) (made : Formula × Word) (size width : ℕ) (value : (ℕ → Bool) → ℕ) →
+    IsBase old → size ≤ width → MakesWord old made size value →
+    MakesWord old (made.0, zero_filled width made.1) width value
+resized old made size width value base h p =
+    let q = cut_to old made size width value base p in
+    record {
+      extends = q.extends;
+      within = q.within;
+      says = λ values e. q.says values e ∙ mod-eq_of_lt (subst (λ n. n < 2 ^ width)
+          (p.says values e) (below_power values size width made.1 p.within.width h));
+    }
+
+-- a bit as a word of its own
+bit_alone : (old : Formula) (made : Formula × ℤ) (value : (ℕ → Bool) → Bool) →
+    MakesBit old made value →
+    MakesWord old (made.0, made.1 ∷ []) 1 (λ values. truth (value values))
+bit_alone old made value p = record {
+  extends = p.extends;
+  within = record { is = (p.within, tt); width = refl };
+  says = λ values e. one (literal_true values made.1) ∙ ap truth (p.says values e);
+}
+  where
+    one : (b : Bool) → truth b + 2 * 0 ≡ truth b
+    one true = refl
+    one false = refl
+
 -- a bit as a word
 pub bit_word : (old : Formula) (made : Formula × ℤ) (width : ℕ) (value : (ℕ → Bool) → Bool) →
     IsBase old → 1 ≤ width → MakesBit old made value →
     MakesWord old (made.0, zero_filled width (made.1 ∷ [])) width (λ values. truth (value values))
 bit_word old made width value base h p =
-    resized old (made.0, made.1 ∷ []) 1 width (λ values. truth (value values)) base h (record {
-      extends = p.extends;
-      within = record { is = (p.within, tt); width = refl };
-      says = λ values e. one (literal_true values made.1) ∙ ap truth (p.says values e);
-    })
-  where
-    one : (b : Bool) → truth b + 2 * 0 ≡ truth b
-    one true = refl
-    one false = refl
+    resized old (made.0, made.1 ∷ []) 1 width (λ values. truth (value values)) base h
+    (bit_alone old made value p)
 
 -- ---- unary operators
 
@@ -220,17 +222,8 @@ operand_step Context old first size value base p = p
 operand_step Compare old first size value base p = p
 operand_step Shift old first size value base p = p
 operand_step Logical old first size value base p =
-    let q = not_zero_step old first size value base p in
-    let made = not_zero_bit first.1 first.0 in
-    record {
-      extends = q.extends;
-      within = record { is = (q.within, tt); width = refl };
-      says = λ values e. one (literal_true values made.1) ∙ ap truth (q.says values e);
-    }
-  where
-    one : (b : Bool) → truth b + 2 * 0 ≡ truth b
-    one true = refl
-    one false = refl
+    bit_alone old (not_zero_bit first.1 first.0) (λ values. is_true (value values))
+    (not_zero_step old first size value base p)
 
 -- ---- binary operators
 
@@ -241,29 +234,11 @@ truth_is false = refl
 pub operand_same : (op : BinOp) (n m : ℕ) (signed : Bool) (a b : ℕ) →
     binary_value op (operand_width (class_of op) n) signed (operand_value (class_of op) a)
     (operand_value (class_of op) b) ≡ binary_value op n signed a b
-operand_same Mul n m signed a b = refl
-operand_same Div n m signed a b = refl
-operand_same Rem n m signed a b = refl
-operand_same Add n m signed a b = refl
-operand_same Sub n m signed a b = refl
-operand_same Shl n m signed a b = refl
-operand_same Shr n m signed a b = refl
-operand_same SignShl n m signed a b = refl
-operand_same SignShr n m signed a b = refl
-operand_same Lt n m signed a b = refl
-operand_same Le n m signed a b = refl
-operand_same Gt n m signed a b = refl
-operand_same Ge n m signed a b = refl
-operand_same Eq n m signed a b = refl
-operand_same Ne n m signed a b = refl
-operand_same And n m signed a b = refl
-operand_same Xor n m signed a b = refl
-operand_same Xnor n m signed a b = refl
-operand_same Or n m signed a b = refl
 operand_same LogicAnd n m signed a b =
     ap₂ (λ x y. truth (x && y)) (truth_is (is_true a)) (truth_is (is_true b))
 operand_same LogicOr n m signed a b =
     ap₂ (λ x y. truth (x || y)) (truth_is (is_true a)) (truth_is (is_true b))
+operand_same op n m signed a b = refl
 
 -- the word of an operator, where the left operand is made first
 pub binary_step : (op : BinOp) (signed : Bool) (old : Formula) (left right : Formula × Word)

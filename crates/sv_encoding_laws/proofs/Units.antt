@@ -1,6 +1,6 @@
--- Unit clauses, and values that agree on the variables of a word.
-use Rattle.std.proofs.Common.{◌≡◌, ℕ, ◌*◌, ◌+◌, Bool, true, false, ◌&&◌, ◌||◌, ℤ, List, [], ◌∷◌}
-use Rattle.std.proofs.Common.{◌++◌, fold, refl, sym, ap₂, ◌∙◌}
+-- Unit clauses, and the formula they start from.
+use Rattle.std.proofs.Common.{◌≡◌, ℕ, ◌+◌, Bool, true, false, ◌&&◌, ◌||◌, ℤ, List, [], ◌∷◌}
+use Rattle.std.proofs.Common.{◌++◌, fold, refl, sym, ◌∙◌}
 use Rattle.std.specs.Prelude.{IsTrue, pos}
 use Rattle.std.proofs.Common.{arith}
 use Rattle.std.proofs.lemmas.List.Sums.{AllPass-from_list_all, list_all-from_AllPass}
@@ -8,14 +8,11 @@ use Rattle.sv_num.specs.Vectors.{truth}
 use Rattle.sv_clause.specs.Literals.{literal_true, clause_true, Satisfies}
 use Rattle.sv_gates.specs.Formulas.{Formula, meets, IsLiteral}
 use Rattle.sv_gates.specs.Gates.{start, with_unit}
-use Rattle.sv_gates.specs.Extending.{AgreeUpTo}
 use Rattle.sv_gates.proofs.ExtendingLaws.{start_closed}
 use Rattle.sv_gates.proofs.GateLaws.{unit_says}
-use Rattle.sv_gates.proofs.Valuations.{literal_agrees}
 use Rattle.sv_flat.proofs.Depths.{first_of, second_of}
 use Rattle.sv_flat.proofs.AdmittedFacts.{and_true}
-use Rattle.sv_circuits.specs.Words.{Word, word_value}
-use Rattle.sv_circuits.specs.Circuits.{IsWord, IsBase}
+use Rattle.sv_circuits.specs.Circuits.{IsBase}
 
 -- ---- the start
 
@@ -32,15 +29,6 @@ base_start = record {
 
 pub start_met : meets (λ n. true) start.clauses ≡ true
 start_met = refl
-
--- ---- words
-
-pub word_agrees : (n : ℕ) (one other : ℕ → Bool) (word : Word) → AgreeUpTo n one other →
-    IsWord n word → word_value one word ≡ word_value other word
-word_agrees n one other [] agree is = refl
-word_agrees n one other (literal ∷ word) agree is =
-    ap₂ (λ b v. truth b + 2 * v) (literal_agrees n one other literal agree is.0)
-    (word_agrees n one other word agree is.1)
 
 -- ---- unit clauses
 

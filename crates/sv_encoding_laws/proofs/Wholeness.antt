@@ -213,17 +213,23 @@ module _ (design : FlatDesign) (checked : IsChecked design) (o : Obligation)
         variable = omega (arith, variable.1, more);
       }
 
-  given_place : (place : BitPlace) → Contains given place → IsPlace design o last place
-  given_place place at =
-      let list = given_in design (now_cone design o) in
-      let found = from_list false (s1 design checked o query).1 list place at in
+  -- the place of a bit of the words of a list
+  list_place : (next : Bool) (list : List ℕ) (n : ℕ) (words : Words) → n ≤ last →
+      ((s : ℕ) → IsTrue (holds list s) → IsWordOf design s n (words s)) →
+      ((s : ℕ) → IsTrue (holds list s) → IsGiven design o next s) →
+      (place : BitPlace) → Contains (bit_places next words list) place → IsPlace design o last place
+  list_place next list n words more are are_given place at =
+      let found = from_list next words list place at in
       let s = found.0 in
       let held = holds-from_Contains list s found.1 in
+      a_place next s n (words s) place more (are s held) (are_given s held) found.2
+
+  given_is : (s : ℕ) → IsTrue (holds (given_in design (now_cone design o)) s) →
+      IsGiven design o false s
+  given_is s held =
       let both = from_filter design checked o query
       (λ s. is_top_input design s || is_register design s) (now_cone design o) s held in
-      let input = (flat_system design).is_input s in
-      a_place false s ((s1 design checked o query).0).variables ((s1 design checked o query).1 s)
-      place grows_from_one ((free1 design checked o query).words s held).inside (
+      let input = (flat_system design).is_input s in (
         ⊎_elim
             (λ top. or_right (is_register design s) input
             (is_input design checked o query s top (seen_now design checked o query s both.1)))
@@ -231,20 +237,27 @@ module _ (design : FlatDesign) (checked : IsChecked design) (o : Obligation)
             (or_cases (is_top_input design s) (is_register design s) both.0),
         both.1,
       )
-      found.2
+
+  later_is : (s : ℕ) → IsTrue (holds (inputs_in design (next_cone design o)) s) →
+      IsGiven design o true s
+  later_is s held =
+      let both = from_filter design checked o query (is_top_input design) (next_cone design o) s
+      held in (
+        is_input design checked o query s both.0 (seen_next design checked o query s both.1),
+        both.1,
+      )
+
+  given_place : (place : BitPlace) → Contains given place → IsPlace design o last place
+  given_place =
+      list_place false (given_in design (now_cone design o))
+      ((s1 design checked o query).0).variables (s1 design checked o query).1 grows_from_one
+      (λ s held. ((free1 design checked o query).words s held).inside) given_is
 
   later_place : (place : BitPlace) → Contains later place → IsPlace design o last place
-  later_place place at =
-      let list = inputs_in design (next_cone design o) in
-      let found = from_list true (s3 design checked o query).1 list place at in
-      let s = found.0 in
-      let held = holds-from_Contains list s found.1 in
-      let both = from_filter design checked o query (is_top_input design) (next_cone design o) s
-      held in
-      a_place true s ((s3 design checked o query).0).variables ((s3 design checked o query).1 s)
-      place grows ((free3 design checked o query).words s held).inside
-      (is_input design checked o query s both.0 (seen_next design checked o query s both.1), both.1)
-      found.2
+  later_place =
+      list_place true (inputs_in design (next_cone design o))
+      ((s3 design checked o query).0).variables (s3 design checked o query).1 grows
+      (λ s held. ((free3 design checked o query).words s held).inside) later_is
 
   -- every bit has a place
   find_place : (next : Bool) (words : Words) (ss : List ℕ) (s bit : ℕ) → IsTrue (holds ss s) →

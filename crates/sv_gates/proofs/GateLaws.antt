@@ -101,26 +101,33 @@ literal_negated n l is = (
 pub next_literal : (n : ℕ) → IsLiteral (suc n) (pos (suc n))
 next_literal n = (omega arith, omega arith)
 
+-- the variable that comes next, its negation, and two literals with theirs
+gate_literals : (n : ℕ) (a b : ℤ) → IsLiteral n a → IsLiteral n b →
+    IsLiteral (suc n) (pos (suc n)) × IsLiteral (suc n) (neg_ℤ (pos (suc n)))
+    × IsLiteral (suc n) a × IsLiteral (suc n) (neg_ℤ a)
+    × IsLiteral (suc n) b × IsLiteral (suc n) (neg_ℤ b)
+gate_literals n a b is_a is_b =
+    let g = next_literal n in
+    let x = literal_more n (suc n) a (omega arith) is_a in
+    let y = literal_more n (suc n) b (omega arith) is_b in (
+      g,
+      literal_negated (suc n) (pos (suc n)) g,
+      x,
+      literal_negated (suc n) a x,
+      y,
+      literal_negated (suc n) b y,
+    )
+
 pub and_literals : (n : ℕ) (a b : ℤ) → IsLiteral n a → IsLiteral n b →
     AllAreLiterals (suc n) (and_clauses a b (pos (suc n)))
 and_literals n a b is_a is_b =
-    let g = next_literal n in
-    let not_g = literal_negated (suc n) (pos (suc n)) g in
-    let x = literal_more n (suc n) a (omega arith) is_a in
-    let y = literal_more n (suc n) b (omega arith) is_b in
-    let not_x = literal_negated (suc n) a x in
-    let not_y = literal_negated (suc n) b y in
+    let (g, not_g, x, not_x, y, not_y) = gate_literals n a b is_a is_b in
     ((not_g, (x, tt)), ((not_g, (y, tt)), ((g, (not_x, (not_y, tt))), tt)))
 
 pub xor_literals : (n : ℕ) (a b : ℤ) → IsLiteral n a → IsLiteral n b →
     AllAreLiterals (suc n) (xor_clauses a b (pos (suc n)))
 xor_literals n a b is_a is_b =
-    let g = next_literal n in
-    let not_g = literal_negated (suc n) (pos (suc n)) g in
-    let x = literal_more n (suc n) a (omega arith) is_a in
-    let y = literal_more n (suc n) b (omega arith) is_b in
-    let not_x = literal_negated (suc n) a x in
-    let not_y = literal_negated (suc n) b y in (
+    let (g, not_g, x, not_x, y, not_y) = gate_literals n a b is_a is_b in (
       (not_g, (x, (y, tt))),
       ((not_g, (not_x, (not_y, tt))), ((g, (not_x, (y, tt))), ((g, (x, (not_y, tt))), tt))),
     )
@@ -128,14 +135,9 @@ xor_literals n a b is_a is_b =
 pub mux_literals : (n : ℕ) (c a b : ℤ) → IsLiteral n c → IsLiteral n a → IsLiteral n b →
     AllAreLiterals (suc n) (mux_clauses c a b (pos (suc n)))
 mux_literals n c a b is_c is_a is_b =
-    let g = next_literal n in
-    let not_g = literal_negated (suc n) (pos (suc n)) g in
+    let (g, not_g, x, not_x, y, not_y) = gate_literals n a b is_a is_b in
     let z = literal_more n (suc n) c (omega arith) is_c in
-    let x = literal_more n (suc n) a (omega arith) is_a in
-    let y = literal_more n (suc n) b (omega arith) is_b in
-    let not_z = literal_negated (suc n) c z in
-    let not_x = literal_negated (suc n) a x in
-    let not_y = literal_negated (suc n) b y in (
+    let not_z = literal_negated (suc n) c z in (
       (not_g, (not_z, (x, tt))),
       ((not_g, (z, (y, tt))), ((g, (not_z, (not_x, tt))), ((g, (z, (not_y, tt))), tt))),
     )

@@ -12,8 +12,8 @@ use Rattle.sv_clause.specs.declared.logs.Log.{Log}
 use Rattle.sv_flat.specs.Design.{FlatDesign}
 use Rattle.sv_obl.specs.Obligations.{Obligation, obligations}
 use Rattle.sv_proof.specs.Certificate.{IsWritableLog, plain_logs}
-use Rattle.sv_encoding.specs.Deciding.{Fits, IsRefutedBy, IsSpentBy, IsPassed}
-use Rattle.sv_judge.specs.Verdicts.{IsProvedFor}
+use Rattle.sv_encoding.specs.Deciding.{Fits, IsTooLarge, IsRefutedBy, IsSpentBy, IsPassed}
+use Rattle.sv_judge.specs.Verdicts.{IsProvedFor, EndsTooLarge}
 use Rattle.sv_judge.specs.Progress.{first_obligations, IsSpared, IsStanding, AreKept}
 use Rattle.sv_judge.specs.Progress.{HasDone}
 use Rattle.sv_judge.specs.declared.progress.Progress.{Progress}
@@ -184,6 +184,18 @@ valid_done design budget o old new is done =
     valid_at design budget old.count o is old new done refl
 
 -- ---- what ends a check
+
+-- an obligation that is too large ends a check that passed those before
+pub ends_large : (design : FlatDesign) (budget : ℕ) (o : Obligation) (old : Progress)
+    → slice_get (obligations [] design) old.count ≡ Some o → HasDone design budget old
+    → IsTooLarge design o → EndsTooLarge design budget (old.count + 1)
+ends_large design budget o old is done large = record {
+  before = old.count;
+  obligation = o;
+  numbered = record { counted = refl; among = is };
+  earlier = done.passed;
+  large = large;
+}
 
 one_less : (n : ℕ) → n + 1 - 1 ≡ n
 one_less n = omega arith

@@ -121,33 +121,32 @@ module _ (design : FlatDesign) (number : ℕ) where
 -- ---- what `verify` says of each answer
 
 module _ (design : FlatDesign) (bytes : List ℕ) (number : ℕ) where
+  -- what it says of an acceptance, of the number there, of a fault and of a size
+  verdict_parts : (r : Result Verified AllocError) → IfOk r (IsVerdict design bytes number)
+      → IfOk r (WhereVerified (λ _. IsVerified design bytes))
+      × IfOk r (WhereVerified (λ n. n ≡ number))
+      × IfOk r (WhereFault (IsFaultLine design bytes))
+      × IfOk r (WhereLarge (IsTooLargeToVerify design bytes))
+  verdict_parts (Ok (Accepted n)) is = (is.0, is.1, tt, tt)
+  verdict_parts (Ok (Fault line)) is = (tt, tt, is, tt)
+  verdict_parts (Ok (TooLarge n)) is = (tt, tt, tt, is)
+  verdict_parts (Err e) is = (tt, tt, tt, tt)
+
   pub accepted_of : (r : Result Verified AllocError) → IfOk r (IsVerdict design bytes number)
       → IfOk r (WhereVerified (λ _. IsVerified design bytes))
-  accepted_of (Ok (Accepted n)) is = is.0
-  accepted_of (Ok (Fault line)) is = tt
-  accepted_of (Ok (TooLarge n)) is = tt
-  accepted_of (Err e) is = tt
+  accepted_of r is = (verdict_parts r is).0
 
   pub count_of : (r : Result Verified AllocError) → IfOk r (IsVerdict design bytes number)
       → IfOk r (WhereVerified (λ n. n ≡ number))
-  count_of (Ok (Accepted n)) is = is.1
-  count_of (Ok (Fault line)) is = tt
-  count_of (Ok (TooLarge n)) is = tt
-  count_of (Err e) is = tt
+  count_of r is = (verdict_parts r is).1
 
   pub fault_of : (r : Result Verified AllocError) → IfOk r (IsVerdict design bytes number)
       → IfOk r (WhereFault (IsFaultLine design bytes))
-  fault_of (Ok (Accepted n)) is = tt
-  fault_of (Ok (Fault line)) is = is
-  fault_of (Ok (TooLarge n)) is = tt
-  fault_of (Err e) is = tt
+  fault_of r is = (verdict_parts r is).2
 
   pub large_of : (r : Result Verified AllocError) → IfOk r (IsVerdict design bytes number)
       → IfOk r (WhereLarge (IsTooLargeToVerify design bytes))
-  large_of (Ok (Accepted n)) is = tt
-  large_of (Ok (Fault line)) is = tt
-  large_of (Ok (TooLarge n)) is = is
-  large_of (Err e) is = tt
+  large_of r is = (verdict_parts r is).3
 
 -- ---- logs as they lie in memory
 

@@ -3,7 +3,9 @@ use Rattle.std.proofs.Common.{◌≡◌, ℕ, ◌+◌, ◌<◌, ◌≤◌, ◌++
 use Rattle.std.proofs.Common.{sym, ◌∙◌, ap, subst, arith, append-nil, length-append}
 use Rattle.std.specs.Prelude.{slice_get, option_map, All}
 use Rattle.std.proofs.lemmas.Option.{slice_get_within, slice_get-map}
+use Rattle.sv_flat.specs.declared.designs.Flat.{Flat}
 use Rattle.sv_flat.specs.Design.{FlatDesign}
+use Rattle.sv_flat.specs.Views.{design_of, signal_form}
 use Rattle.sv_flat.specs.Processes.{signal_numbers}
 use Rattle.sv_obl.specs.DesignQueries.{IsQueryOf, IsPlaced}
 use Rattle.sv_paths.specs.ListParts.{IsAt, ArePathsOf, obligations_before, obligations_from}
@@ -21,6 +23,14 @@ use Rattle.sv_judge.proofs.Lists.{get_behind, get_first}
 
 two_sums : {a b c d : ℕ} → a ≡ c → b ≡ d → a + b ≡ c + d
 two_sums first second = omega arith
+
+-- the place behind all signals of a design
+pub known_at : (flat : Flat) (listing : Listing)
+    → IsAt (design_of flat) (length flat.signals.items) listing
+    → IsAt (design_of flat) (length (design_of flat).signals) listing
+known_at flat listing =
+    subst (λ n. IsAt (design_of flat) n listing)
+    (sym (length_mapped signal_form flat.signals.items))
 
 module _ (design : FlatDesign) where
   -- the obligations of a part behind others

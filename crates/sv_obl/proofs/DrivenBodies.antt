@@ -22,7 +22,7 @@ use Rattle.sv_obl.specs.declared.body_slices.Bodies.{Bodies}
 use Rattle.sv_obl.specs.declared.marked.Marked.{Marked}
 use Rattle.sv_obl.specs.MarkedBodies.{IsMarkedBody, IsMarkedFor, HasCopies, AreBodiesOf}
 use Rattle.sv_obl.proofs.OneDriver.{no_driver, one_driver_at}
-use Rattle.sv_obl.proofs.FormLists.{length_mapped}
+use Rattle.sv_obl.proofs.FormLists.{signal_known}
 
 marked_at : (signals : List SignalForm) (ps : List ProcessForm) (xs : List (Option Marked)) (k : ℕ)
     (p : ProcessForm) (x : Option Marked) → AllZip (IsMarkedBody signals) ps xs → k < length xs
@@ -67,8 +67,7 @@ module _ (flat : Flat) (is : IsDesign (design_of flat)) (s : ℕ)
   design = design_of flat
 
   is_known : IsTrue (is_signal design.signals s)
-  is_known = lt-ltb s (length design.signals)
-      (subst (λ n. s < n) (sym (length_mapped signal_form flat.signals.items)) known)
+  is_known = signal_known flat s known
 
   pub inside_marked : k < length bodies
   inside_marked =

@@ -1,13 +1,11 @@
 -- A target by its number in the design, and its slice of the process that drives it, whose body is
 -- given indexed.
-use Rattle.std.proofs.Common.{◌≡◌, ℕ, ◌<◌, List, length, get_or, Some, None, sym, ap, subst}
-use Rattle.std.proofs.Common.{◌∙◌, lt-ltb}
-use Rattle.std.specs.Prelude.{IsTrue}
+use Rattle.std.proofs.Common.{◌≡◌, ℕ, ◌<◌, List, length, get_or, Some, None, sym, ap}
+use Rattle.std.proofs.Common.{◌∙◌}
 use Rattle.sv_flat.specs.Clocks.{processes_of}
 use Rattle.sv_flat.specs.Design.{ProcessForm, FlatStatement, nothing, FlatDesign}
 use Rattle.sv_flat.specs.SignalLists.{driver_of}
-use Rattle.sv_flat.specs.Soundness.{is_signal}
-use Rattle.sv_flat.specs.Views.{design_of, signal_form}
+use Rattle.sv_flat.specs.Views.{design_of}
 use Rattle.sv_flat.specs.declared.designs.Flat.{Flat}
 use Rattle.sv_design.specs.Designs.{IsDesign}
 use Rattle.sv_obl.specs.declared.indexed.Indexed.{Indexed}
@@ -18,22 +16,17 @@ use Rattle.sv_obl.specs.declared.body_slices.BodySlice.{BodySlice}
 use Rattle.sv_obl.specs.IndexedBodies.{looked_up, AreIndexed}
 use Rattle.sv_obl.proofs.IndexedFacts.{indexed_of_driver, inside_bodies}
 use Rattle.sv_obl.proofs.OneDriver.{no_process, found_again, no_driver, one_driver_at}
-use Rattle.sv_obl.proofs.FormLists.{length_mapped}
+use Rattle.sv_obl.proofs.FormLists.{signal_known}
 
 module _ (flat : Flat) (is : IsDesign (design_of flat)) (s : ℕ)
     (known : s < length flat.signals.items) where
   abbrev design : FlatDesign
   design = design_of flat
 
-  inside : s < length design.signals
-  inside = subst (λ n. s < n) (sym (length_mapped signal_form flat.signals.items)) known
-
-  is_known : IsTrue (is_signal design.signals s)
-  is_known = lt-ltb s (length design.signals) inside
-
   undriven_body : driver_of design s ≡ None → driven_body design s ≡ nothing
   undriven_body none =
-      ap first_body (no_driver design is.is_sound is.is_admitted s is_known none)
+      ap first_body
+      (no_driver design is.is_sound is.is_admitted s (signal_known flat s known) none)
 
   pub undriven_slice : driver_of design s ≡ None
       → SameParts nothing (sliced s (driven_body design s))

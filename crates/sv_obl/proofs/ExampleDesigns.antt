@@ -10,7 +10,7 @@ use Rattle.sv_flat.specs.declared.signals.SigKind.TheVariants.{TopInput, Output,
 use Rattle.sv_flat.specs.Design.{SignalForm, TypedTree, typed, read, choice}
 use Rattle.sv_flat.specs.Design.{nothing, assign, branch, continuous}
 use Rattle.sv_flat.specs.Design.{clocked, ProcessForm, FlatDesign}
-use Rattle.sv_flat.proofs.Forms.{at, part, named, sequence, process}
+use Rattle.sv_flat.proofs.Forms.{at, declares, part, named, sequence, process}
 
 -- the points L and H
 abbrev pub low : Label
@@ -37,15 +37,7 @@ maps =
     ∷ []
 
 abbrev pub signal : List ℕ → ℕ → SigKind → Label → SignalForm
-signal name width kind label =
-    record {
-      name = name;
-      width = width;
-      signed = false;
-      kind = kind;
-      label = label;
-      place = at 1 1;
-    }
+signal name width kind label = record (declares name width kind (at 1 1)) { label = label }
 
 abbrev pub design : List SignalForm → List ProcessForm → FlatDesign
 design signals processes = record {

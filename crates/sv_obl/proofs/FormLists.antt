@@ -1,11 +1,16 @@
 -- The elements of a list by their places, and their plain forms.
 use Rattle.std.proofs.Common.{◌≡◌, ℕ, zero, suc, ◌+◌, ◌<◌, List, [], ◌∷◌, ◌++◌, length}
 use Rattle.std.proofs.Common.{map, take, get_or, All, Some, refl, sym, ap, subst, ◌∙◌, arith}
-use Rattle.std.specs.Prelude.{Contains, slice_get}
-use Rattle.std.proofs.lemmas.List.{take_more}
+use Rattle.std.proofs.Common.{lt-ltb, add-one}
+use Rattle.std.proofs.Math.Seq.{take-suc}
+use Rattle.std.specs.Prelude.{Contains, slice_get, IsTrue}
+use Rattle.std.proofs.lemmas.List.{take_more, map-append}
 use Rattle.std.proofs.lemmas.List.Elements.{Contains-get_or, All-get_or, All-head, All-tail}
 use Rattle.std.proofs.lemmas.Option.{slice_get_within, get_or_from_slice_get}
 use Rattle.sv_system.proofs.Lists.{Contains-map}
+use Rattle.sv_flat.specs.Soundness.{is_signal}
+use Rattle.sv_flat.specs.Views.{design_of, signal_form}
+use Rattle.sv_flat.specs.declared.designs.Flat.{Flat}
 
 -- what holds of all holds of the one at a place
 pub get_all : {A : Type 0} (P : A → Type 0) (xs : List A) (k : ℕ) (x : A) → All P xs
@@ -30,6 +35,25 @@ form_there form xs i x inside is =
 pub length_mapped : {X Y : Type 0} (f : X → Y) (xs : List X) → length (map f xs) ≡ length xs
 length_mapped f [] = refl
 length_mapped f (x ∷ xs) = ap suc (length_mapped f xs)
+
+-- the plain forms up to the next place
+pub forms_more : {F X : Type 0} (form : X → F) (xs : List X) (i : ℕ) (x : X) → i < length xs
+    → x ≡ get_or xs i x → map form (take (i + 1) xs) ≡ map form (take i xs) ++ form x ∷ []
+forms_more form xs i x inside is =
+    ap (λ k. map form (take k xs)) (add-one i)
+    ∙ ap (map form) (take-suc xs i x inside)
+    ∙ map-append form (take i xs) (get_or xs i x ∷ [])
+    ∙ ap (λ z. map form (take i xs) ++ form z ∷ []) (sym is)
+
+-- a place in a design's vector of signals is the number of a signal
+pub signal_inside : (flat : Flat) (s : ℕ) → s < length flat.signals.items →
+    s < length (design_of flat).signals
+signal_inside flat s known =
+    subst (λ n. s < n) (sym (length_mapped signal_form flat.signals.items)) known
+
+pub signal_known : (flat : Flat) (s : ℕ) → s < length flat.signals.items →
+    IsTrue (is_signal (design_of flat).signals s)
+signal_known flat s known = lt-ltb s (length (design_of flat).signals) (signal_inside flat s known)
 
 mapped_at : {X Y : Type 0} (f : X → Y) (xs : List X) (k : ℕ) (x : X) →
     get_or (map f xs) k (f x) ≡ f (get_or xs k x)

@@ -8,8 +8,8 @@ use Rattle.sv_system.specs.System.{Environment, Fits, IsStill, Settled, Noninter
 use Rattle.sv_system.specs.Facts.{IsCombinational, Guarded}
 use Rattle.sv_system.proofs.Lists.{Contains-nil, Contains-head, Contains-map, Contains-filter}
 use Rattle.sv_system.proofs.Noninterference.{noninterference}
-use Rattle.sv_flat.specs.Design.{TypedTree, ProcessKind, continuous, port_in, port_out}
-use Rattle.sv_flat.specs.Design.{combinational, clocked, release, ProcessForm, FlatDesign}
+use Rattle.sv_flat.specs.Design.{TypedTree}
+use Rattle.sv_flat.specs.Design.{ProcessForm, FlatDesign}
 use Rattle.sv_flat.specs.Values.{signal_of, signal_width, value}
 use Rattle.sv_flat.specs.Soundness.{is_signal, sound}
 use Rattle.sv_flat.specs.Assigned.{assigns}
@@ -26,6 +26,7 @@ use Rattle.sv_flat.proofs.SameRuns.{none_found}
 use Rattle.sv_flat.proofs.AdmittedFacts.{and_true, some_is_some, is_process, body_is_sound}
 use Rattle.sv_flat.proofs.AdmittedFacts.{assigned_is_signal, drives, extra_at}
 use Rattle.sv_flat.proofs.AdmittedFacts.{targets_are_combinational, combinational_is_driven}
+use Rattle.sv_flat.proofs.AdmittedFacts.{clocked_is_no_port}
 use Rattle.sv_flat.proofs.FlatScheduled.{parts_of, of_system}
 use Rattle.sv_obl.specs.declared.frames.Frame.{Frame}
 use Rattle.sv_obl.specs.declared.frames.Frame.TheVariants.{Now, Next}
@@ -36,6 +37,7 @@ use Rattle.sv_obl.specs.Obligations.{path_obligation, target_obligations, select
 use Rattle.sv_obl.specs.Obligations.{selector_obligations, obligations}
 use Rattle.sv_obl.specs.PathValues.{is_true_in, Holds}
 use Rattle.sv_obl.specs.Validity.{Valuation, MeetsFacts, IsInFrame, IsValid, AllValid}
+use Rattle.sv_obl.specs.Validity.{Falsifies, GoalFails, goal_frame}
 use Rattle.sv_obl.specs.Noninterference.{IsChecked, NoninterferentUnder}
 use Rattle.sv_flat.proofs.Members.{all_contained, contained_all}
 use Rattle.sv_obl.proofs.PathLists.{same_truth, cond_true, cond_false}
@@ -49,18 +51,16 @@ use Rattle.sv_flat.proofs.SelectorFacts.{label_selected, selector_is_seen, alway
 use Rattle.sv_obl.proofs.LatticeFacts.{flows_on}
 use Rattle.sv_obl.proofs.Watched.{watched, rests, meets_facts, trace_there}
 
+-- an environment that fits and is still is what its own values settle to
+pub settles_itself : (design : FlatDesign) (e : Environment ℕ) → Fits (flat_system design) e →
+    IsStill (flat_system design) e → Settled (flat_system design) e e e
+settles_itself design e fits still =
+    record { registers = λ s h. refl; inputs_are = λ s h. refl; fits = fits; still = still }
+
 -- what is not false is true
 otherwise : (b : Bool) → (IsFalse b → ⊥) → IsTrue b
 otherwise true no_case = refl
 otherwise false no_case = absurd (no_case refl)
-
-clocked_is_no_port : (k : ProcessKind) → IsTrue (is_clocked k) → IsFalse (is_port_in k)
-clocked_is_no_port (clocked clock) h = refl
-clocked_is_no_port continuous h = refl
-clocked_is_no_port port_in h = absurd (false≢true h)
-clocked_is_no_port port_out h = refl
-clocked_is_no_port combinational h = refl
-clocked_is_no_port (release point) h = refl
 
 none_is_first : (ps : List ProcessForm) (p : ProcessForm) → Contains ps p →
     slice_get ps 0 ≡ None → ⊥
@@ -97,6 +97,18 @@ module _ (facts : List TypedTree) (design : FlatDesign) (checked : IsChecked des
     is_path : Contains (paths design.signals s process.kind process.body) path
     holds : IsTrue (steps_hold design.signals e path.steps)
 
+  taken : (e : Environment ℕ) (s : ℕ) (p : ProcessForm) → Contains (processes_of design) p →
+      IsTrue (assigns p.body s) → (q : Path) → Contains (paths design.signals s p.kind p.body) q →
+      IsTrue (steps_hold design.signals e q.steps) → Taken e s
+  taken e s p is_process assigned q is_path holds = record {
+    process = p;
+    is_process = is_process;
+    assigned = assigned;
+    path = q;
+    is_path = is_path;
+    holds = holds;
+  }
+
   -- its reads are used
   used : (e : Environment ℕ) (s : ℕ) (k : Taken e s) (t : ℕ) → Contains (reads_of design k.path) t →
       Contains (uses e s) t
@@ -121,14 +133,7 @@ module _ (facts : List TypedTree) (design : FlatDesign) (checked : IsChecked des
       let two = from_flat_map (reads_of design) (held_paths e s p) t one.2 in
       let held = Contains-from_filter (λ (q : Path).
       steps_hold design.signals e q.steps) (paths design.signals s p.kind p.body) two.0 two.1 in (
-        record {
-          process = p;
-          is_process = driver.1;
-          assigned = driver.0;
-          path = two.0;
-          is_path = held.1;
-          holds = held.0;
-        },
+        taken e s p driver.1 driver.0 two.0 held.1 held.0,
         two.2,
       )
 
@@ -241,14 +246,7 @@ module _ (facts : List TypedTree) (design : FlatDesign) (checked : IsChecked des
       let p = driver.0 in
       let found = some_value_path design is_sound admitted p (unclocked_process p driver.1 driver.2)
       e fits still s driver.3 in
-      record {
-        process = p;
-        is_process = driver.1;
-        assigned = driver.3;
-        path = found.0;
-        is_path = found.1;
-        holds = found.2;
-      }
+      taken e s p driver.1 driver.3 found.0 found.1 found.2
 
   combinational_value : (e f : Environment ℕ) (s : ℕ) → IsCombinational (flat_system design) s
       → Fits (flat_system design) e
@@ -271,14 +269,7 @@ module _ (facts : List TypedTree) (design : FlatDesign) (checked : IsChecked des
       let p = driver.0 in
       let clock = register_clocked p s register driver.1 driver.2 in
       let found = some_next_path design is_sound admitted p s driver.1 clock driver.2 e in
-      record {
-        process = p;
-        is_process = driver.1;
-        assigned = driver.2;
-        path = found.0;
-        is_path = found.1;
-        holds = found.2;
-      }
+      taken e s p driver.1 driver.2 found.0 found.1 found.2
 
   register_value : (e f : Environment ℕ) (s : ℕ) → IsTrue (is_register design s)
       → e s < 2 ^ signal_width design.signals s
@@ -314,10 +305,19 @@ module _ (facts : List TypedTree) (design : FlatDesign) (checked : IsChecked des
   abbrev this_cycle : Environment ℕ → Environment ℕ → Valuation
   this_cycle e f = record { registers = e; inputs = e; next_inputs = f }
 
-  settles_itself : (e : Environment ℕ) → Fits (flat_system design) e →
-      IsStill (flat_system design) e → Settled (flat_system design) e e e
-  settles_itself e fits still =
-      record { registers = λ s h. refl; inputs_are = λ s h. refl; fits = fits; still = still }
+  falsified : (o : Obligation) (e f : Environment ℕ) → Fits (flat_system design) e →
+      IsStill (flat_system design) e → IsInFrame design (this_cycle e f) e (goal_frame o.goal) f →
+      MeetsFacts design o.facts e → Holds design.signals e o.path →
+      GoalFails design o.reads e f o.goal → Falsifies design (this_cycle e f) o
+  falsified o e f fits still frame met path fails = record {
+    now = e;
+    there = f;
+    settled = settles_itself design e fits still;
+    in_frame = frame;
+    facts = met;
+    path = path;
+    fails = fails;
+  }
 
   path_true : (e : Environment ℕ) (s : ℕ) (k : Taken e s)
       → Holds design.signals e k.path.steps
@@ -355,15 +355,8 @@ module _ (facts : List TypedTree) (design : FlatDesign) (checked : IsChecked des
         → Contains (reads_of design k.path) t → IsTrue (flows_between t e s f)
     read_flows e f s t k fits still met frame at = otherwise (flows_between t e s f) (λ stays.
         is_valid (path_obligation facts design k.process s k.path) (among_obligations e s k)
-        (this_cycle e f) (record {
-          now = e;
-          there = f;
-          settled = settles_itself e fits still;
-          in_frame = frame;
-          facts = met;
-          path = path_true e s k;
-          fails = (t, at, stays);
-        }))
+        (this_cycle e f) (falsified (path_obligation facts design k.process s k.path) e f fits still
+        frame met (path_true e s k) (t, at, stays)))
 
     use_flows : (e : Environment ℕ) (s t : ℕ) → IsCombinational (flat_system design) s
         → Fits (flat_system design) e
@@ -424,18 +417,10 @@ module _ (facts : List TypedTree) (design : FlatDesign) (checked : IsChecked des
         (Contains-map (selector_obligation facts s)
         (filter (λ u. not (always_flows design s u)) selectors) t
         (Contains-filter (λ u. not (always_flows design s u)) selectors t at (ap not sometimes)))))
-        (this_cycle e e) (record {
-          now = e;
-          there = e;
-          settled = settles_itself e fits still;
-          in_frame = refl;
-          facts = met;
-          path =
-              contained_all (λ (step : StepForm).
-              is_true_in design.signals e step.condition ≡ step.truth) [] (λ step none.
-              absurd (Contains-nil step none));
-          fails = (t, Contains-head t [], stays);
-        })))
+        (this_cycle e e) (falsified o e e fits still refl met
+        (contained_all (λ (step : StepForm).
+        is_true_in design.signals e step.condition ≡ step.truth) [] (λ step none.
+        absurd (Contains-nil step none))) (t, Contains-head t [], stays))))
         (either_way (always_flows design s t))
 
     -- ---- the facts of the law

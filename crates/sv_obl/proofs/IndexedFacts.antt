@@ -46,6 +46,7 @@ use Rattle.sv_obl.specs.IndexedStatements.{ends_in, with_number, numbered, GoesF
 use Rattle.sv_obl.specs.IndexedStatements.{IsMarked, AreMarked, Same, IsMadeOf, whole_of, SoFar}
 use Rattle.sv_obl.specs.IndexedStatements.{Covers}
 use Rattle.sv_obl.specs.Views.{piece_forms}
+use Rattle.sv_obl.proofs.FormLists.{forms_more}
 use Rattle.sv_obl.proofs.SliceChains.{none_ends, no_slices, more_slices, taken_as_one}
 use Rattle.sv_obl.proofs.SliceFacts.{slice_is_empty, stays, same_slice_routes}
 
@@ -822,16 +823,9 @@ pub next_indexed : (ps : List Process) (i : ℕ) (p : Process) (old new : List I
     → AreIndexed (map process_form (take (i + 1) ps)) new
 next_indexed ps i p old new x inside is so made items =
     subst (AreIndexed (map process_form (take (i + 1) ps))) (sym items)
-    (subst (λ fs. AreIndexed fs (old ++ x ∷ [])) (sym forms)
+    (subst (λ fs. AreIndexed fs (old ++ x ∷ [])) (sym (forms_more process_form ps i p inside is))
     (one_more_indexed (map process_form (take i ps)) old (process_form p) x so
     (made_indexed (flat_statement p.body) x made)))
-  where
-    forms : map process_form (take (i + 1) ps)
-        ≡ map process_form (take i ps) ++ process_form p ∷ []
-    forms = ap (λ k. map process_form (take k ps)) (add-one i)
-        ∙ ap (map process_form) (take-suc ps i p inside)
-        ∙ map-append process_form (take i ps) (get_or ps i p ∷ [])
-        ∙ ap (λ z. map process_form (take i ps) ++ process_form z ∷ []) (sym is)
 
 -- ---- targets
 

@@ -1,10 +1,8 @@
 -- Bodies of processes, marked one after the other.
 use Rattle.std.proofs.Common.{◌≡◌, ℕ, ◌+◌, ◌<◌, Bool, false, ◌&&◌, List, [], ◌∷◌}
 use Rattle.std.proofs.Common.{◌++◌, length, map, take, get_or, Option, Some, None, sym, ap}
-use Rattle.std.proofs.Common.{subst, ◌∙◌, true, add-one}
+use Rattle.std.proofs.Common.{subst, ◌∙◌, true}
 use Rattle.std.specs.List.{AllZip}
-use Rattle.std.proofs.Math.Seq.{take-suc}
-use Rattle.std.proofs.lemmas.List.{map-append}
 use Rattle.sv_flat.specs.declared.designs.Process.{Process}
 use Rattle.sv_flat.specs.Design.{SignalForm, FlatStatement, ProcessForm}
 use Rattle.sv_flat.specs.Processes.{is_block}
@@ -17,6 +15,7 @@ use Rattle.sv_obl.specs.declared.marked.Marked.{Marked}
 use Rattle.sv_obl.specs.Marked.{has_copy}
 use Rattle.sv_obl.specs.MarkedBodies.{marked_statement, IsMarkedOf, IsMarkedBody}
 use Rattle.sv_obl.specs.Wanted.{marked as marked_as}
+use Rattle.sv_obl.proofs.FormLists.{forms_more}
 use Rattle.sv_obl.proofs.SameCopies.{same_copies}
 use Rattle.sv_obl.proofs.Unmarked.{none_earlier}
 
@@ -64,12 +63,6 @@ pub next_body : (signals : List SignalForm) (ps : List Process) (i : ℕ) (p : P
     → AllZip (IsMarkedBody signals) (map process_form (take (i + 1) ps)) new
 next_body signals ps i p old new x inside is so made items =
     subst (AllZip (IsMarkedBody signals) (map process_form (take (i + 1) ps))) (sym items)
-    (subst (λ fs. AllZip (IsMarkedBody signals) fs (old ++ x ∷ [])) (sym forms)
+    (subst (λ fs. AllZip (IsMarkedBody signals) fs (old ++ x ∷ []))
+    (sym (forms_more process_form ps i p inside is))
     (one_more (IsMarkedBody signals) (map process_form (take i ps)) old (process_form p) x so made))
-  where
-    forms : map process_form (take (i + 1) ps)
-        ≡ map process_form (take i ps) ++ process_form p ∷ []
-    forms = ap (λ k. map process_form (take k ps)) (add-one i)
-        ∙ ap (map process_form) (take-suc ps i p inside)
-        ∙ map-append process_form (take i ps) (get_or ps i p ∷ [])
-        ∙ ap (λ z. map process_form (take i ps) ++ process_form z ∷ []) (sym is)

@@ -51,7 +51,7 @@ held_signals : (pieces : List PieceForm) (s : ℕ)
 held_signals [] s = refl
 held_signals (piece ∷ pieces) s = ap (λ b. (piece.signal == s) || b) (held_signals pieces s)
 
-set_holds : (targets : BTreeSet ℕ) (s : ℕ) → contains nat_cmp targets s ≡ holds targets.keys s
+pub set_holds : (targets : BTreeSet ℕ) (s : ℕ) → contains nat_cmp targets s ≡ holds targets.keys s
 set_holds targets s = same_answer (contains nat_cmp targets s) (holds targets.keys s)
     (λ h. holds-from_Contains targets.keys s
     ((btree_set_contains_iff nat_cmp_total exact_unsigned targets s).0 h))

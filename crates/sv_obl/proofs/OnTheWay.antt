@@ -1,6 +1,6 @@
 -- What the statement in which earlier reads are wanted makes of the copies of what is followed:
 -- what a run leaves in their signals; and that it makes it from what is read for them alone.
-use Rattle.std.proofs.Common.{◌≡◌, ℕ, ◌<◌, Bool, true, false, cond, ◌&&◌, ◌==◌, List, [], ◌∷◌, ◌++◌}
+use Rattle.std.proofs.Common.{◌≡◌, ℕ, ◌<◌, Bool, true, false, cond, ◌==◌, List, [], ◌∷◌, ◌++◌}
 use Rattle.std.proofs.Common.{fold, length, ⊎_elim, refl, sym, ap, ap₂, subst, ◌∙◌, arith}
 use Rattle.std.specs.Prelude.{Contains, IsTrue, IsFalse}
 use Rattle.std.specs.List.{list_all}
@@ -23,6 +23,7 @@ use Rattle.sv_flat.proofs.SameRuns.{or_none_left, or_none_right, none_found, put
 use Rattle.sv_obl.specs.MadeValues.{after_piece, put_followed, made_on_the_way}
 use Rattle.sv_obl.specs.Paths.{pieces_of}
 use Rattle.sv_obl.specs.Wanted.{with_copies, copy_of, is_copy, original, marked_tree, marked}
+use Rattle.sv_rules.proofs.Sound.{branch_sound}
 use Rattle.sv_obl.proofs.PathLists.{cond_true, cond_false, none_kept}
 use Rattle.sv_obl.proofs.PathNames.{Fine, AllServe, marked_fine}
 use Rattle.sv_obl.proofs.PathRuns.{Held, marked_held}
@@ -206,19 +207,14 @@ module _ (signals : List SignalForm) (in_block : Bool) (target : ℕ) (Served : 
     abbrev in_second : List Reading
     in_second = readings signals second early later
 
-    front : IsTrue (well_formed signals condition && statement_sound signals first)
-    front = first_of (well_formed signals condition && statement_sound signals first)
-        (statement_sound signals second) sound
-
     formed : IsTrue (well_formed signals condition)
-    formed = first_of (well_formed signals condition) (statement_sound signals first) front
+    formed = (branch_sound signals place condition first second sound).0
 
     first_sound : IsTrue (statement_sound signals first)
-    first_sound = second_of (well_formed signals condition) (statement_sound signals first) front
+    first_sound = (branch_sound signals place condition first second sound).1
 
     second_sound : IsTrue (statement_sound signals second)
-    second_sound = second_of (well_formed signals condition && statement_sound signals first)
-        (statement_sound signals second) sound
+    second_sound = (branch_sound signals place condition first second sound).2
 
     first_served : Serve in_first
     first_served r at = serve r (Contains-left (read_here ++ in_first) in_second r

@@ -1,14 +1,15 @@
 -- Small facts on lists and tests.
 use Rattle.std.proofs.Common.{◌≡◌, Bool, true, false, cond, ◌&&◌, List, [], ◌∷◌, ◌++◌, ◌⊎◌, inl}
-use Rattle.std.proofs.Common.{inr, ⊎_elim, refl, sym, ap, ap₂, subst, ◌∙◌}
+use Rattle.std.proofs.Common.{inr, ⊎_elim, refl, sym, ap, ap₂, subst, ◌∙◌, ◌||◌, suc, length, map}
 use Rattle.std.specs.Prelude.{Contains, IsTrue, IsFalse, filter, flat_map}
 use Rattle.std.specs.Bool.{beq}
-use Rattle.std.specs.List.{list_any, list_all}
+use Rattle.std.specs.List.{list_any, list_all, AllZip}
 use Rattle.std.proofs.lemmas.Bool.{false≢true}
 use Rattle.std.proofs.lemmas.List.Concat.{flat_map-append}
 use Rattle.sv_system.proofs.Lists.{Contains-nil, Contains-cases, Contains-head, Contains-later}
 use Rattle.sv_flat.proofs.Depths.{first_of, second_of}
-use Rattle.sv_flat.proofs.SameRuns.{or_none_left, or_none_right}
+use Rattle.sv_flat.proofs.LeastSets.{some_from, from_some}
+use Rattle.sv_flat.proofs.SameRuns.{or_none_left, or_none_right, none_found}
 use Rattle.sv_flat.proofs.Members.{Contains-left, Contains-right, Contains-either}
 
 -- ---- tests
@@ -130,3 +131,55 @@ module _ {X Y : Type 0} (f : X → List Y) where
       (λ later. let found = from_flat_map xs y later in
       (found.0, Contains-later x xs found.0 found.1, found.2))
       (Contains-either (f x) (flat_map f xs) y at)
+
+-- where no element passes a test, none passes one that asks for as much
+pub none_of : {X : Type 0} (f g : X → Bool) (xs : List X) → ((x : X) → IsTrue (f x) → IsTrue (g x))
+    → IsFalse (list_any g xs) → IsFalse (list_any f xs)
+none_of f g xs each none =
+    none_found (list_any f xs) (λ some.
+    let found = from_some f xs some in
+    false≢true (sym none ∙ some_from g xs found.0 found.1 (each found.0 found.2)))
+
+-- ---- two lists, element by element
+
+module _ {X Y : Type 0} (R : X → Y → Type 0) where
+  pub zip_append : (xs more : List X) (ys others : List Y) → AllZip R xs ys → AllZip R more others →
+      AllZip R (xs ++ more) (ys ++ others)
+  zip_append [] more (y ∷ ys) others one two = absurd one
+  zip_append (x ∷ xs) more [] others one two = absurd one
+  zip_append [] more [] others one two = two
+  zip_append (x ∷ xs) more (y ∷ ys) others one two =
+      (one.0, zip_append xs more ys others one.1 two)
+
+  pub zip_map : (f : X → X) (g : Y → Y) → ((x : X) (y : Y) → R x y → R (f x) (g y))
+      → (xs : List X) (ys : List Y) → AllZip R xs ys → AllZip R (map f xs) (map g ys)
+  zip_map f g each [] (y ∷ ys) all = absurd all
+  zip_map f g each (x ∷ xs) [] all = absurd all
+  zip_map f g each [] [] all = all
+  zip_map f g each (x ∷ xs) (y ∷ ys) all = (each x y all.0, zip_map f g each xs ys all.1)
+
+  pub zip_flat : (f : X → List X) (g : Y → List Y)
+      → ((x : X) (y : Y) → R x y → AllZip R (f x) (g y))
+      → (xs : List X) (ys : List Y) → AllZip R xs ys → AllZip R (flat_map f xs) (flat_map g ys)
+  zip_flat f g each [] (y ∷ ys) all = absurd all
+  zip_flat f g each (x ∷ xs) [] all = absurd all
+  zip_flat f g each [] [] all = all
+  zip_flat f g each (x ∷ xs) (y ∷ ys) all =
+      zip_append (f x) (flat_map f xs) (g y) (flat_map g ys) (each x y all.0)
+      (zip_flat f g each xs ys all.1)
+
+  pub zip_any : {Z : Type 0} (make : X → Z) (f : Z → Bool) (g : Y → Bool)
+      → ((x : X) (y : Y) → R x y → f (make x) ≡ g y)
+      → (xs : List X) (ys : List Y) → AllZip R xs ys → list_any f (map make xs) ≡ list_any g ys
+  zip_any make f g each [] [] all = refl
+  zip_any make f g each [] (y ∷ ys) all = absurd all
+  zip_any make f g each (x ∷ xs) [] all = absurd all
+  zip_any make f g each (x ∷ xs) (y ∷ ys) all =
+      ap₂ (λ a b. a || b) (each x y all.0) (zip_any make f g each xs ys all.1)
+
+  pub zip_count : {Z : Type 0} (make : X → Z) (xs : List X) (ys : List Y) → AllZip R xs ys →
+      length (map make xs) ≡ length ys
+  zip_count make [] [] all = refl
+  zip_count make [] (y ∷ ys) all = absurd all
+  zip_count make (x ∷ xs) [] all = absurd all
+  zip_count make (x ∷ xs) (y ∷ ys) all = ap suc (zip_count make xs ys all.1)

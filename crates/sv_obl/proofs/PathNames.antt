@@ -24,14 +24,14 @@ use Rattle.sv_obl.specs.Exchange.{name, content}
 use Rattle.sv_obl.specs.Wanted.{with_copies, copy_of, is_copy, original, mark, marked_tree, marked}
 use Rattle.sv_obl.specs.Wanted.{wanted_name, piece_value, with_piece_put, put_value, pieces_put}
 use Rattle.sv_obl.specs.Wanted.{put_in}
-use Rattle.sv_obl.specs.Paths.{StepForm, Path, under, step_with, Way, ways}
+use Rattle.sv_obl.specs.Paths.{StepForm, Path, under, step_with, Way}
 use Rattle.sv_obl.specs.Paths.{ways_taken, with_way, path_names, is_taken, open_path}
 use Rattle.sv_obl.specs.Paths.{before}
 use Rattle.sv_flat.proofs.Members.{only}
 use Rattle.sv_obl.proofs.PathLists.{cond_true, cond_false, from_cond, from_flat_map}
 use Rattle.sv_obl.proofs.PutFacts.{copy_is, copy_is_copy, signal_is_settled}
 use Rattle.sv_obl.proofs.PathTells.{marked_assigns}
-use Rattle.sv_obl.proofs.PathRuns.{step_of, whole_way, way_cases, taken_cases}
+use Rattle.sv_obl.proofs.PathRuns.{step_of, taken_keep, either_keeps}
 use Rattle.sv_obl.proofs.TreeFacts.{Comes, exchanged_names}
 
 module _ (signals : List SignalForm) (in_block : Bool) (s : ℕ) (Served Member : ℕ → Type 0) where
@@ -92,39 +92,25 @@ module _ (signals : List SignalForm) (in_block : Bool) (s : ℕ) (Served Member 
 
   -- ---- right sides
 
-  ways_fine : (right : TypedTree) → Fine right → (way : Way) → Contains (ways right) way →
-      StepsFine way.steps × Fine way.right
-  ways_fine (typed w signed (choice p c a b)) fine way at =
-      let front = fine_left (reads both c ++ reads both a) (reads both b) fine in
-      let fine_c = fine_left (reads both c) (reads both a) front in
-      way_cases (λ (y : Way). StepsFine y.steps × Fine y.right) p c a b
-      (λ from is.
-      let inner = ways_fine a (fine_right (reads both c) (reads both a) front) from is in
-      (with_step (step_of p c true) from.steps fine_c inner.0, inner.1))
-      (λ from is.
-      let inner = ways_fine b (fine_right (reads both c ++ reads both a) (reads both b) fine) from
-      is in
-      (with_step (step_of p c false) from.steps fine_c inner.0, inner.1))
-      way at
-  ways_fine right fine way at =
-      subst (λ (y : Way). StepsFine y.steps × Fine y.right) (only (whole_way right) way at)
-      (no_steps, fine)
+  fine_parts : (w : ℕ) (signed : Bool) (p : Place) (c a b : TypedTree)
+      → Fine (typed w signed (choice p c a b)) → Fine c × Fine a × Fine b
+  fine_parts w signed p c a b fine =
+      let front = fine_left (reads both c ++ reads both a) (reads both b) fine in (
+        fine_left (reads both c) (reads both a) front,
+        fine_right (reads both c) (reads both a) front,
+        fine_right (reads both c ++ reads both a) (reads both b) fine,
+      )
 
   taken_fine : (pieces : List PieceForm) (right : TypedTree) (p : Path) → Fine right → (way : Way)
       → Contains (ways_taken signals pieces right p) way → StepsFine way.steps × Fine way.right
   taken_fine pieces right p fine =
-      taken_cases signals (λ (y : Way). StepsFine y.steps × Fine y.right) pieces right p
-      (ways_fine right fine) (no_steps, fine)
+      taken_keep Fine StepsFine no_steps with_step fine_parts signals pieces right p fine
 
   -- ---- what is put
 
-  fine_cond : (c : Bool) (x y : TypedTree) → Fine x → Fine y → Fine (cond c x y)
-  fine_cond true x y fine_x fine_y = fine_x
-  fine_cond false x y fine_x fine_y = fine_y
-
   piece_fine : (right : TypedTree) (p : PieceForm) → Fine right → Fine (piece_value right p)
   piece_fine right p fine =
-      fine_cond (p.from == 0) right
+      either_keeps Fine (p.from == 0) right
       (typed (span_of p.high p.low) false (slice right (p.from + p.high - p.low) p.from))
       fine fine
 
@@ -136,9 +122,10 @@ module _ (signals : List SignalForm) (in_block : Bool) (s : ℕ) (Served Member 
       let mended = typed (signal_width signals t) (signal_of signals t).signed
       (mend t old p.high p.low (piece_value right p)) in
       put_fine right t pieces (with_piece_put signals right t old p) fine
-      (fine_cond (not (p.signal == t)) old (cond (is_whole signals p) (piece_value right p) mended)
+      (either_keeps Fine (not (p.signal == t)) old
+      (cond (is_whole signals p) (piece_value right p) mended)
       fine_old
-      (fine_cond (is_whole signals p) (piece_value right p) mended (piece_fine right p fine)
+      (either_keeps Fine (is_whole signals p) (piece_value right p) mended (piece_fine right p fine)
       (fine_both (reads both old) (reads both (piece_value right p)) fine_old
       (piece_fine right p fine))))
 

@@ -67,6 +67,40 @@ taken_cases signals P pieces right p each all way at = ⊎_elim
     (from_cond (covers_name signals pieces (name_itself p.result)) (ways right)
     (whole_way right ∷ []) way at)
 
+-- what holds of a right side and the parts of its choices holds of each of its ways
+module _ (Good : TypedTree → Type 0) (Steps : List StepForm → Type 0) (no_steps : Steps [])
+    (more : (step : StepForm) (steps : List StepForm) → Good step.condition → Steps steps →
+    Steps (step ∷ steps))
+    (parts : (w : ℕ) (signed : Bool) (p : Place) (c a b : TypedTree)
+    → Good (typed w signed (choice p c a b)) → Good c × Good a × Good b) where
+  ways_keep : (right : TypedTree) → Good right → (way : Way) → Contains (ways right) way →
+      Steps way.steps × Good way.right
+  ways_keep (typed w signed (choice p c a b)) good way at =
+      let of = parts w signed p c a b good in
+      way_cases (λ (y : Way). Steps y.steps × Good y.right) p c a b
+      (λ from is.
+      let inner = ways_keep a of.1 from is in
+      (more (step_of p c true) from.steps of.0 inner.0, inner.1))
+      (λ from is.
+      let inner = ways_keep b of.2 from is in
+      (more (step_of p c false) from.steps of.0 inner.0, inner.1))
+      way at
+  ways_keep right good way at =
+      subst (λ (y : Way). Steps y.steps × Good y.right) (only (whole_way right) way at)
+      (no_steps, good)
+
+  pub taken_keep : (signals : List SignalForm) (pieces : List PieceForm) (right : TypedTree)
+      (p : Path) → Good right → (way : Way) → Contains (ways_taken signals pieces right p) way
+      → Steps way.steps × Good way.right
+  taken_keep signals pieces right p good =
+      taken_cases signals (λ (y : Way). Steps y.steps × Good y.right) pieces right p
+      (ways_keep right good) (no_steps, good)
+
+-- what holds of both holds of either
+pub either_keeps : {X : Type 0} (P : X → Type 0) (c : Bool) (x y : X) → P x → P y → P (cond c x y)
+either_keeps P true x y first second = first
+either_keeps P false x y first second = second
+
 module _ (A : List SignalForm) (E : Environment ℕ) where
   abbrev pub step_holds : StepForm → Bool
   step_holds step = beq (is_true (value A E step.condition)) step.truth
@@ -94,6 +128,16 @@ module _ (A : List SignalForm) (E : Environment ℕ) where
   ways_value right way at h =
       ap (λ (y : Way). value A E y.right) (sym (only (whole_way right) way at))
 
+  -- a way whose conditions hold, under a condition that holds
+  some_under : (step : StepForm) (arm : List Way) → IsTrue (step_holds step)
+      → (way : Way) × Contains arm way × IsTrue (steps_hold way.steps)
+      → (way : Way) × Contains (map (way_under step) arm) way × IsTrue (steps_hold way.steps)
+  some_under step arm holds found = (
+    way_under step found.0,
+    Contains-map (way_under step) arm found.0 found.1,
+    both_true (step_holds step) (steps_hold found.0.steps) holds found.2,
+  )
+
   -- some way has conditions that hold
   pub some_way : (right : TypedTree) → (way : Way) × Contains (ways right) way
       × IsTrue (steps_hold way.steps)
@@ -103,25 +147,43 @@ module _ (A : List SignalForm) (E : Environment ℕ) where
       let no_ways = map (way_under (step_of p c false)) (ways b) in
       ⊎_elim
       (λ holds.
-      let found = some_way a in (
-        way_under (step_of p c true) found.0,
-        Contains-left yes_ways no_ways (way_under (step_of p c true) found.0)
-            (Contains-map (way_under (step_of p c true)) (ways a) found.0 found.1),
-        both_true (beq v true) (steps_hold found.0.steps) (truth_same v true holds) found.2,
-      ))
+      let found = some_under (step_of p c true) (ways a) (truth_same v true holds) (some_way a) in
+      (found.0, Contains-left yes_ways no_ways found.0 found.1, found.2))
       (λ fails.
-      let found = some_way b in (
-        way_under (step_of p c false) found.0,
-        Contains-right yes_ways no_ways (way_under (step_of p c false) found.0)
-            (Contains-map (way_under (step_of p c false)) (ways b) found.0 found.1),
-        both_true (beq v false) (steps_hold found.0.steps) (truth_same v false fails) found.2,
-      ))
+      let found = some_under (step_of p c false) (ways b) (truth_same v false fails) (some_way b) in
+      (found.0, Contains-right yes_ways no_ways found.0 found.1, found.2))
       (either_way v)
   some_way right = (whole_way right, Contains-head (whole_way right) [], refl)
 
   pub two_truths : (v : Bool) → IsTrue (beq v true) → IsTrue (beq v false) → ⊥
   two_truths true h k = false≢true k
   two_truths false h k = false≢true h
+
+  -- a way under a condition whose steps hold is a way whose steps hold, and the condition holds
+  under_met : (step : StepForm) (arm : List Way) (v : Way) → Contains (map (way_under step) arm) v
+      → IsTrue (steps_hold v.steps)
+      → (x : Way) × Contains arm x × (way_under step x ≡ v) × IsTrue (step_holds step)
+      × IsTrue (steps_hold x.steps)
+  under_met step arm v at h =
+      let x = Contains-from_map (way_under step) arm v at in
+      let holds = subst (λ (k : Way). IsTrue (steps_hold k.steps)) (sym x.2) h in (
+        x.0,
+        x.1,
+        x.2,
+        first_of (step_holds step) (steps_hold x.0.steps) holds,
+        second_of (step_holds step) (steps_hold x.0.steps) holds,
+      )
+
+  -- where of some ways no two have, no two have under a condition
+  one_under : (step : StepForm) (arm : List Way) (v w : Way)
+      → ((x y : Way) → Contains arm x → IsTrue (steps_hold x.steps) → Contains arm y
+      → IsTrue (steps_hold y.steps) → x ≡ y)
+      → Contains (map (way_under step) arm) v → IsTrue (steps_hold v.steps)
+      → Contains (map (way_under step) arm) w → IsTrue (steps_hold w.steps) → v ≡ w
+  one_under step arm v w one v_at v_holds w_at w_holds =
+      let x = under_met step arm v v_at v_holds in
+      let y = under_met step arm w w_at w_holds in
+      sym x.2 ∙ ap (way_under step) (one x.0 y.0 x.1 x.4 y.1 y.4) ∙ y.2
 
   -- and no two have
   pub one_way : (right : TypedTree) (v w : Way) → Contains (ways right) v
@@ -131,44 +193,24 @@ module _ (A : List SignalForm) (E : Environment ℕ) where
       let t = is_true (value A E c) in
       let yes_ways = map (way_under (step_of p c true)) (ways a) in
       let no_ways = map (way_under (step_of p c false)) (ways b) in
-      let inner = λ (x y : Way) (is : x ≡ y) (h : IsTrue (steps_hold y.steps)).
-      subst (λ (k : Way). IsTrue (steps_hold k.steps)) (sym is) h in
+      let yes = step_of p c true in
+      let no = step_of p c false in
       ⊎_elim
-      (λ v_left.
-      let x = Contains-from_map (way_under (step_of p c true)) (ways a) v v_left in
-      let x_holds = inner (way_under (step_of p c true) x.0) v x.2 v_holds in
-      ⊎_elim
+      (λ v_left. ⊎_elim
       (λ w_left.
-      let y = Contains-from_map (way_under (step_of p c true)) (ways a) w w_left in
-      let y_holds = inner (way_under (step_of p c true) y.0) w y.2 w_holds in
-      sym x.2
-      ∙ ap (way_under (step_of p c true))
-      (one_way a x.0 y.0 x.1 (second_of (beq t true) (steps_hold x.0.steps) x_holds) y.1
-      (second_of (beq t true) (steps_hold y.0.steps) y_holds))
-      ∙ y.2)
+      one_under yes (ways a) v w (λ x y x_at x_holds y_at y_holds.
+      one_way a x y x_at x_holds y_at y_holds) v_left v_holds w_left w_holds)
       (λ w_right.
-      let y = Contains-from_map (way_under (step_of p c false)) (ways b) w w_right in
-      let y_holds = inner (way_under (step_of p c false) y.0) w y.2 w_holds in
-      absurd (two_truths t (first_of (beq t true) (steps_hold x.0.steps) x_holds)
-      (first_of (beq t false) (steps_hold y.0.steps) y_holds)))
+      absurd (two_truths t (under_met yes (ways a) v v_left v_holds).3
+      (under_met no (ways b) w w_right w_holds).3))
       (Contains-either yes_ways no_ways w w_at))
-      (λ v_right.
-      let x = Contains-from_map (way_under (step_of p c false)) (ways b) v v_right in
-      let x_holds = inner (way_under (step_of p c false) x.0) v x.2 v_holds in
-      ⊎_elim
+      (λ v_right. ⊎_elim
       (λ w_left.
-      let y = Contains-from_map (way_under (step_of p c true)) (ways a) w w_left in
-      let y_holds = inner (way_under (step_of p c true) y.0) w y.2 w_holds in
-      absurd (two_truths t (first_of (beq t true) (steps_hold y.0.steps) y_holds)
-      (first_of (beq t false) (steps_hold x.0.steps) x_holds)))
+      absurd (two_truths t (under_met yes (ways a) w w_left w_holds).3
+      (under_met no (ways b) v v_right v_holds).3))
       (λ w_right.
-      let y = Contains-from_map (way_under (step_of p c false)) (ways b) w w_right in
-      let y_holds = inner (way_under (step_of p c false) y.0) w y.2 w_holds in
-      sym x.2
-      ∙ ap (way_under (step_of p c false))
-      (one_way b x.0 y.0 x.1 (second_of (beq t false) (steps_hold x.0.steps) x_holds) y.1
-      (second_of (beq t false) (steps_hold y.0.steps) y_holds))
-      ∙ y.2)
+      one_under no (ways b) v w (λ x y x_at x_holds y_at y_holds.
+      one_way b x y x_at x_holds y_at y_holds) v_right v_holds w_right w_holds)
       (Contains-either yes_ways no_ways w w_at))
       (Contains-either yes_ways no_ways v v_at)
   one_way right v w v_at v_holds w_at w_holds =
@@ -239,38 +281,25 @@ module _ (signals : List SignalForm) where
       exchanged_held signals (mark signals in_block follows) (length signals) t
       (well_held signals t well) (λ r at. tt)
 
-  ways_held : (right : TypedTree) → Held right → (way : Way) → Contains (ways right) way →
-      HeldSteps way.steps × Held way.right
-  ways_held (typed w signed (choice p c a b)) h way at =
-      let front = first_of (held_below n c && held_below n a) (held_below n b) h in
-      let held_c = first_of (held_below n c) (held_below n a) front in
-      way_cases (λ (y : Way). HeldSteps y.steps × Held y.right) p c a b
-      (λ from is.
-      let inner = ways_held a (second_of (held_below n c) (held_below n a) front) from is in
-      (held_cons (step_of p c true) from.steps held_c inner.0, inner.1))
-      (λ from is.
-      let inner = ways_held b (second_of (held_below n c && held_below n a) (held_below n b) h)
-      from is in
-      (held_cons (step_of p c false) from.steps held_c inner.0, inner.1))
-      way at
-  ways_held right h way at =
-      subst (λ (y : Way). HeldSteps y.steps × Held y.right) (only (whole_way right) way at)
-      ((λ step none. absurd (Contains-nil step none)), h)
+  held_parts : (w : ℕ) (signed : Bool) (p : Place) (c a b : TypedTree)
+      → Held (typed w signed (choice p c a b)) → Held c × Held a × Held b
+  held_parts w signed p c a b h =
+      let front = first_of (held_below n c && held_below n a) (held_below n b) h in (
+        first_of (held_below n c) (held_below n a) front,
+        second_of (held_below n c) (held_below n a) front,
+        second_of (held_below n c && held_below n a) (held_below n b) h,
+      )
 
   pub taken_held : (pieces : List PieceForm) (right : TypedTree) (p : Path) → Held right
       → (way : Way)
       → Contains (ways_taken signals pieces right p) way → HeldSteps way.steps × Held way.right
   taken_held pieces right p h =
-      taken_cases signals (λ (y : Way). HeldSteps y.steps × Held y.right) pieces right p
-      (ways_held right h) ((λ step none. absurd (Contains-nil step none)), h)
-
-  held_cond : (c : Bool) (x y : TypedTree) → Held x → Held y → Held (cond c x y)
-  held_cond true x y held_x held_y = held_x
-  held_cond false x y held_x held_y = held_y
+      taken_keep Held HeldSteps (λ step none. absurd (Contains-nil step none)) held_cons held_parts
+      signals pieces right p h
 
   piece_held : (right : TypedTree) (p : PieceForm) → Held right → Held (piece_value right p)
   piece_held right p h =
-      held_cond (p.from == 0) right
+      either_keeps Held (p.from == 0) right
       (typed (span_of p.high p.low) false (slice right (p.from + p.high - p.low) p.from)) h h
 
   put_held : (right : TypedTree) (s : ℕ) (pieces : List PieceForm) (old : TypedTree) → Held right

@@ -1,8 +1,12 @@
 -- What is asked of the items of a list, and of their plain forms.
 use Rattle.std.proofs.Common.{◌≡◌, suc, Bool, true, false, cond, ◌&&◌, ◌||◌, List, [], ◌∷◌, map}
-use Rattle.std.proofs.Common.{filter, length, slice_get, find, Option, Some, None, refl, ap}
+use Rattle.std.proofs.Common.{filter, length, slice_get, find, Option, Some, None, refl, ap, ◌∙◌}
 use Rattle.std.specs.List.{list_any}
+use Rattle.std.specs.Borrow.{Bor}
 use Rattle.std.specs.Option.{option_map}
+use Rattle.sv_flat.specs.declared.statements.Piece.{Piece}
+use Rattle.sv_flat.specs.Design.{PieceForm}
+use Rattle.sv_flat.specs.Views.{piece_form}
 
 module _ {X Y : Type 0} (form : X → Y) (test : Y → Bool) where
   abbrev asked : X → Bool
@@ -54,3 +58,15 @@ pub part_formed : {A X Y Z : Type 0} (now : A → X) (form : X → Y) (part : Y 
     ≡ option_map part (option_map form (option_map now o))
 part_formed now form part None = refl
 part_formed now form part (Some a) = refl
+
+-- a part of the first piece that passes, as `find` and `map` gave it
+pub first_part : {Z : Type 0} (test : PieceForm → Bool) (part : PieceForm → Z)
+    (pieces : List Piece) (first : Option (Bor Piece)) (given : Option Z)
+    → option_map (λ (p : Bor Piece). p.now) first ≡ find (λ (p : Piece). test (piece_form p)) pieces
+    → given ≡ option_map (λ (p : Bor Piece). part (piece_form p.now)) first
+    → given ≡ option_map part (slice_get (filter test (map piece_form pieces)) 0)
+first_part test part pieces first given found made =
+    made
+    ∙ part_formed (λ (p : Bor Piece). p.now) piece_form part first
+    ∙ ap (λ (o : Option Piece). option_map part (option_map piece_form o)) found
+    ∙ ap (option_map part) (first_formed piece_form test pieces)

@@ -233,20 +233,27 @@ module _ (signals : List SignalForm) where
   abbrev pub Lies : PieceForm → Type 0
   Lies p = (p.low ≤ p.high) × (p.high < signal_width signals p.signal)
 
+  -- the first of some pieces of a signal, put into it, leaves a value of its width
+  first_low : (v : ℕ) (s : ℕ) (p : PieceForm) (pieces : List PieceForm) (old : ℕ)
+      → ((q : PieceForm) → Contains (p ∷ pieces) q → Lies q)
+      → ((q : PieceForm) → Contains (p ∷ pieces) q → q.signal ≡ s)
+      → with_piece signals p v old < 2 ^ signal_width signals s
+  first_low v s p pieces old lie own =
+      let here = lie p (Contains-head p pieces) in
+      subst (λ k. with_piece signals p v old < 2 ^ signal_width signals k)
+      (own p (Contains-head p pieces))
+      (replaced_below (signal_width signals p.signal) p.high p.low old (v / 2 ^ p.from) here.0
+      here.1)
+
   made_low : (v : ℕ) (s : ℕ) (pieces : List PieceForm) (old : ℕ)
       → ((p : PieceForm) → Contains pieces p → Lies p)
       → ((p : PieceForm) → Contains pieces p → p.signal ≡ s) → old < 2 ^ signal_width signals s
       → made_with v pieces old < 2 ^ signal_width signals s
   made_low v s [] old lie own low = low
   made_low v s (p ∷ pieces) old lie own low =
-      let here = lie p (Contains-head p pieces) in
       made_low v s pieces (with_piece signals p v old) (λ q at.
       lie q (Contains-later p pieces q at))
-      (λ q at. own q (Contains-later p pieces q at))
-      (subst (λ k. with_piece signals p v old < 2 ^ signal_width signals k)
-      (own p (Contains-head p pieces))
-      (replaced_below (signal_width signals p.signal) p.high p.low old (v / 2 ^ p.from) here.0
-      here.1))
+      (λ q at. own q (Contains-later p pieces q at)) (first_low v s p pieces old lie own)
 
   some_low : (v : ℕ) (s : ℕ) (pieces : List PieceForm) (p : PieceForm) (old : ℕ)
       → ((q : PieceForm) → Contains pieces q → Lies q)
@@ -254,14 +261,9 @@ module _ (signals : List SignalForm) where
       → made_with v pieces old < 2 ^ signal_width signals s
   some_low v s [] p old lie own at = absurd (Contains-nil p at)
   some_low v s (q ∷ pieces) p old lie own at =
-      let here = lie q (Contains-head q pieces) in
       made_low v s pieces (with_piece signals q v old) (λ x x_at.
       lie x (Contains-later q pieces x x_at))
-      (λ x x_at. own x (Contains-later q pieces x x_at))
-      (subst (λ k. with_piece signals q v old < 2 ^ signal_width signals k)
-      (own q (Contains-head q pieces))
-      (replaced_below (signal_width signals q.signal) q.high q.low old (v / 2 ^ q.from) here.0
-      here.1))
+      (λ x x_at. own x (Contains-later q pieces x x_at)) (first_low v s q pieces old lie own)
 
   module _ (E : Environment ℕ) (right : TypedTree) (v : ℕ) (gives : value both E right ≡ v) where
     -- the piece of the right side

@@ -1,6 +1,7 @@
 -- A statement means for a target what its slice means.
 use Rattle.std.proofs.Common.{◌≡◌, ℕ, Bool, true, false, cond, ◌&&◌, ◌||◌, List, [], ◌∷◌, ◌++◌}
-use Rattle.std.proofs.Common.{map, flat_map, refl, sym, ap, ap₂, ◌∙◌, append-nil, ◌==◌}
+use Rattle.std.proofs.Common.{map, flat_map, refl, sym, ap, ap₂, ◌∙◌, append-nil, ◌==◌, ◌+◌}
+use Rattle.std.proofs.Common.{subst, arith}
 use Rattle.std.specs.Prelude.{IsFalse}
 use Rattle.std.specs.List.{list_any}
 use Rattle.sv_num.specs.declared.faults.Place.{Place}
@@ -40,6 +41,116 @@ same_before a b same rest =
     regrouped a nothing rest
     ∙ ap (λ (x : FlatStatement). in_sequence x rest) same
     ∙ sym (regrouped b nothing rest)
+
+-- a change of lists by statements, where that of a sequence is that of its second part first
+module _ {X : Type 0} (walk : FlatStatement → X → List X)
+    (still : (x : X) → walk nothing x ≡ x ∷ [])
+    (then_first : (a b : FlatStatement) (x : X) → walk (after a b) x ≡ flat_map (walk a) (walk b x))
+    (arms : (place : Place) (condition : TypedTree) (a b : FlatStatement)
+    → ((x : X) → walk (in_sequence a nothing) x ≡ walk a x)
+    → ((x : X) → walk (in_sequence b nothing) x ≡ walk b x) → (x : X)
+    → walk (branch place condition (in_sequence a nothing) (in_sequence b nothing)) x
+    ≡ walk (branch place condition a b) x) where
+  walk_in_sequence : (a b : FlatStatement) (x : X)
+      → walk (in_sequence a b) x ≡ flat_map (walk a) (walk b x)
+  walk_in_sequence nothing b x =
+      sym (flat_itself (walk b x))
+      ∙ flat_alike (λ y. y ∷ []) (walk nothing) (λ y. sym (still y)) (walk b x)
+  walk_in_sequence (after c d) b x =
+      walk_in_sequence c (in_sequence d b) x
+      ∙ ap (flat_map (walk c)) (walk_in_sequence d b x)
+      ∙ flat_flat (walk d) (walk c) (walk b x)
+      ∙ flat_alike (λ y. flat_map (walk c) (walk d y)) (walk (after c d))
+      (λ y. sym (then_first c d y)) (walk b x)
+  walk_in_sequence (assign pieces place blocking right) b x =
+      then_first (assign pieces place blocking right) b x
+  walk_in_sequence (branch place condition c d) b x =
+      then_first (branch place condition (in_sequence c nothing) (in_sequence d nothing)) b x
+      ∙ flat_alike (walk (branch place condition (in_sequence c nothing) (in_sequence d nothing)))
+      (walk (branch place condition c d))
+      (arms place condition c d
+      (λ y. walk_in_sequence c nothing y ∙ ap (flat_map (walk c)) (still y) ∙ append-nil (walk c y))
+      (λ y. walk_in_sequence d nothing y ∙ ap (flat_map (walk d)) (still y)
+      ∙ append-nil (walk d y))) (walk b x)
+
+  walk_alone : (a : FlatStatement) (x : X) → walk (in_sequence a nothing) x ≡ walk a x
+  walk_alone a x =
+      walk_in_sequence a nothing x ∙ ap (flat_map (walk a)) (still x) ∙ append-nil (walk a x)
+
+  -- statements of the same parts change them alike
+  pub same_parts_walked : (a b : FlatStatement) → SameParts a b → (x : X) → walk a x ≡ walk b x
+  same_parts_walked a b same x =
+      sym (walk_alone a x) ∙ ap (λ (c : FlatStatement). walk c x) same ∙ walk_alone b x
+
+-- what a sequence has where both its parts have it, and so may its arms be put in sequence or not
+module _ (P : FlatStatement → Type 0) (none : P nothing)
+    (joined : (a b : FlatStatement) → P a → P b → P (after a b))
+    (parted : (a b : FlatStatement) → P (after a b) → P a × P b)
+    (arms_in : (place : Place) (condition : TypedTree) (a b : FlatStatement)
+    → (P a → P (in_sequence a nothing)) → (P b → P (in_sequence b nothing))
+    → P (branch place condition a b)
+    → P (branch place condition (in_sequence a nothing) (in_sequence b nothing)))
+    (arms_out : (place : Place) (condition : TypedTree) (a b : FlatStatement)
+    → (P (in_sequence a nothing) → P a) → (P (in_sequence b nothing) → P b)
+    → P (branch place condition (in_sequence a nothing) (in_sequence b nothing))
+    → P (branch place condition a b)) where
+  has_in_sequence : (a b : FlatStatement) → P a → P b → P (in_sequence a b)
+  has_in_sequence nothing b one two = two
+  has_in_sequence (after x y) b one two =
+      let parts = parted x y one in
+      has_in_sequence x (in_sequence y b) parts.0 (has_in_sequence y b parts.1 two)
+  has_in_sequence (assign pieces place blocking right) b one two =
+      joined (assign pieces place blocking right) b one two
+  has_in_sequence (branch place condition x y) b one two =
+      joined (branch place condition (in_sequence x nothing) (in_sequence y nothing)) b
+      (arms_in place condition x y (λ has. has_in_sequence x nothing has none)
+      (λ has. has_in_sequence y nothing has none) one) two
+
+  has_apart : (a b : FlatStatement) → P (in_sequence a b) → P a × P b
+  has_apart nothing b has = (none, has)
+  has_apart (after x y) b has =
+      let front = has_apart x (in_sequence y b) has in
+      let rest = has_apart y b front.1 in
+      (joined x y front.0 rest.0, rest.1)
+  has_apart (assign pieces place blocking right) b has =
+      parted (assign pieces place blocking right) b has
+  has_apart (branch place condition x y) b has =
+      let parts =
+      parted (branch place condition (in_sequence x nothing) (in_sequence y nothing)) b has in (
+        arms_out place condition x y (λ there. (has_apart x nothing there).0)
+            (λ there. (has_apart y nothing there).0) parts.0,
+        parts.1,
+      )
+
+  -- statements of the same parts have it both or neither
+  pub same_parts_have : (a b : FlatStatement) → SameParts a b → P b → P a
+  same_parts_have a b same has =
+      (has_apart a nothing (subst P (sym same) (has_in_sequence b nothing has none))).0
+
+-- a number of a statement, where that of a sequence is the sum of its parts'
+module _ (size : FlatStatement → ℕ) (none : size nothing ≡ 0)
+    (joined : (a b : FlatStatement) → size (after a b) ≡ size a + size b)
+    (arms : (place : Place) (condition : TypedTree) (a b : FlatStatement)
+    → size (in_sequence a nothing) ≡ size a → size (in_sequence b nothing) ≡ size b
+    → size (branch place condition (in_sequence a nothing) (in_sequence b nothing))
+    ≡ size (branch place condition a b)) where
+  sized_in_sequence : (a b : FlatStatement) → size (in_sequence a b) ≡ size a + size b
+  sized_in_sequence nothing b = omega (arith, none)
+  sized_in_sequence (after x y) b =
+      sized_in_sequence x (in_sequence y b)
+      ∙ omega (arith, sized_in_sequence y b, joined x y)
+  sized_in_sequence (assign pieces place blocking right) b =
+      joined (assign pieces place blocking right) b
+  sized_in_sequence (branch place condition x y) b =
+      joined (branch place condition (in_sequence x nothing) (in_sequence y nothing)) b
+      ∙ ap (λ n. n + size b)
+      (arms place condition x y (omega (arith, none, sized_in_sequence x nothing))
+      (omega (arith, none, sized_in_sequence y nothing)))
+
+  -- statements of the same parts have the same
+  pub same_parts_sized : (a b : FlatStatement) → SameParts a b → size a ≡ size b
+  same_parts_sized a b same =
+      omega (arith, none, sized_in_sequence a nothing, sized_in_sequence b nothing, ap size same)
 
 pub assigns_in_sequence : (s : ℕ) (a b : FlatStatement)
     → assigns (in_sequence a b) s ≡ (assigns a s || assigns b s)
@@ -89,6 +200,13 @@ slice_assigns s (branch place condition x y) =
     by_test true is = is
     by_test false is = refl
 
+-- a slice means what the whole statement means, whether that stands in it or not
+kept_or_none : {Y : Type 0} (means : FlatStatement → Y) (kept whole : FlatStatement) (c : Bool)
+    → (c ≡ true → means kept ≡ means whole) → (c ≡ false → means nothing ≡ means whole)
+    → means (cond c kept nothing) ≡ means whole
+kept_or_none means kept whole true stands gone = stands refl
+kept_or_none means kept whole false stands gone = gone refl
+
 -- ---- meanings
 
 -- a meaning of statements, as changes of a state, in which a branch comes to what its arms come to
@@ -110,29 +228,16 @@ module _ (s : ℕ) {X : Type 0} (means : FlatStatement → X → X) (passes : Pa
       ∙ ap (means b) (sliced_means a x)
       ∙ sym (passes.chain a b x)
   sliced_means (assign pieces place blocking right) x =
-      by_test (assigns (assign pieces place blocking right) s) refl
-    where
-      by_test : (b : Bool) → assigns (assign pieces place blocking right) s ≡ b
-          → means (cond b (assign pieces place blocking right) nothing) x
-          ≡ means (assign pieces place blocking right) x
-      by_test true is = refl
-      by_test false is =
-          passes.others nothing refl x
-          ∙ sym (passes.others (assign pieces place blocking right) is x)
+      let whole = assign pieces place blocking right in
+      kept_or_none (λ z. means z x) whole whole (assigns whole s) (λ is. refl)
+      (λ none. passes.others nothing refl x ∙ sym (passes.others whole none x))
   sliced_means (branch place condition a b) x =
-      by_test (λ y. sliced_means a y) (λ y. sliced_means b y) (assigns a s || assigns b s) refl
-    where
-      by_test : ((y : X) → means (sliced s a) y ≡ means a y)
-          → ((y : X) → means (sliced s b) y ≡ means b y)
-          → (c : Bool) → (assigns a s || assigns b s) ≡ c
-          → means (cond c (branch place condition (sliced s a) (sliced s b)) nothing) x
-          ≡ means (branch place condition a b) x
-      by_test one two true is =
-          passes.arms place condition (sliced s a) (sliced s b) a b (slice_assigns s a)
-          (slice_assigns s b) one two x
-      by_test one two false is =
-          passes.others nothing refl x
-          ∙ sym (passes.others (branch place condition a b) is x)
+      let whole = branch place condition a b in
+      kept_or_none (λ z. means z x) (branch place condition (sliced s a) (sliced s b)) whole
+      (assigns a s || assigns b s)
+      (λ is. passes.arms place condition (sliced s a) (sliced s b) a b (slice_assigns s a)
+      (slice_assigns s b) (λ y. sliced_means a y) (λ y. sliced_means b y) x)
+      (λ none. passes.others nothing refl x ∙ sym (passes.others whole none x))
 
   pub sequence_means : (a b : FlatStatement) (x : X) → means (in_sequence a b) x
       ≡ means b (means a x)
@@ -211,52 +316,32 @@ module _ (signals : List SignalForm) (s : ℕ) where
       ap (flat_map (routes (sliced s a))) (sliced_routes b r)
       ∙ flat_alike (routes (sliced s a)) (routes a) (λ y. sliced_routes a y) (routes b r)
   sliced_routes (assign pieces place blocking right) r =
-      by_test (assigns (assign pieces place blocking right) s) refl
-    where
-      by_test : (b : Bool) → assigns (assign pieces place blocking right) s ≡ b
-          → routes (cond b (assign pieces place blocking right) nothing) r
-          ≡ routes (assign pieces place blocking right) r
-      by_test true is = refl
-      by_test false is = sym (stays signals s (assign pieces place blocking right) is r)
+      let whole = assign pieces place blocking right in
+      kept_or_none (λ z. routes z r) whole whole (assigns whole s) (λ is. refl)
+      (λ none. sym (stays signals s whole none r))
   sliced_routes (branch place condition a b) r =
-      by_test (λ y. sliced_routes a y) (λ y. sliced_routes b y) (assigns a s || assigns b s) refl
-    where
-      by_test : ((y : RouteForm) → routes (sliced s a) y ≡ routes a y)
-          → ((y : RouteForm) → routes (sliced s b) y ≡ routes b y)
-          → (c : Bool) → (assigns a s || assigns b s) ≡ c
-          → routes (cond c (branch place condition (sliced s a) (sliced s b)) nothing) r
-          ≡ routes (branch place condition a b) r
-      by_test one two true is =
-          same_arms place condition (sliced s a) (sliced s b) a b (slice_assigns s a)
-          (slice_assigns s b) one two r
-      by_test one two false is = sym (stays signals s (branch place condition a b) is r)
+      let whole = branch place condition a b in
+      kept_or_none (λ z. routes z r) (branch place condition (sliced s a) (sliced s b)) whole
+      (assigns a s || assigns b s)
+      (λ is. same_arms place condition (sliced s a) (sliced s b) a b (slice_assigns s a)
+      (slice_assigns s b) (λ y. sliced_routes a y) (λ y. sliced_routes b y) r)
+      (λ none. sym (stays signals s whole none r))
 
-  sequence_routes : (a b : FlatStatement) (r : RouteForm)
-      → routes (in_sequence a b) r ≡ flat_map (routes a) (routes b r)
-  sequence_routes nothing b r = sym (flat_itself (routes b r))
-  sequence_routes (after c d) b r =
-      sequence_routes c (in_sequence d b) r
-      ∙ ap (flat_map (routes c)) (sequence_routes d b r)
-      ∙ flat_flat (routes d) (routes c) (routes b r)
-  sequence_routes (assign pieces place blocking right) b r = refl
-  sequence_routes (branch place condition c d) b r =
-      flat_alike
-      (routes (branch place condition (in_sequence c nothing) (in_sequence d nothing)))
-      (routes (branch place condition c d))
-      (same_arms place condition (in_sequence c nothing) (in_sequence d nothing) c d
+  arms_in_sequence : (place : Place) (condition : TypedTree) (c d : FlatStatement)
+      → ((r : RouteForm) → routes (in_sequence c nothing) r ≡ routes c r)
+      → ((r : RouteForm) → routes (in_sequence d nothing) r ≡ routes d r) → (r : RouteForm)
+      → routes (branch place condition (in_sequence c nothing) (in_sequence d nothing)) r
+      ≡ routes (branch place condition c d) r
+  arms_in_sequence place condition c d one two =
+      same_arms place condition (in_sequence c nothing) (in_sequence d nothing) c d
       (assigns_in_sequence s c nothing ∙ or_none (assigns c s))
-      (assigns_in_sequence s d nothing ∙ or_none (assigns d s))
-      (λ y. sequence_routes c nothing y ∙ append-nil (routes c y))
-      (λ y. sequence_routes d nothing y ∙ append-nil (routes d y))) (routes b r)
+      (assigns_in_sequence s d nothing ∙ or_none (assigns d s)) one two
 
   -- statements with the same slice for a target have its routes
   pub same_slice_routes : (a b : FlatStatement) → SameParts (sliced s a) (sliced s b) → (r : RouteForm)
       → routes_before signals s a r ≡ routes_before signals s b r
   same_slice_routes a b same r =
       sym (sliced_routes a r)
-      ∙ sym (append-nil (routes (sliced s a) r))
-      ∙ sym (sequence_routes (sliced s a) nothing r)
-      ∙ ap (λ (c : FlatStatement). routes c r) same
-      ∙ sequence_routes (sliced s b) nothing r
-      ∙ append-nil (routes (sliced s b) r)
+      ∙ same_parts_walked routes (λ x. refl) (λ x y z. refl) arms_in_sequence (sliced s a)
+      (sliced s b) same r
       ∙ sliced_routes b r

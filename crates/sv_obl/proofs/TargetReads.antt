@@ -49,6 +49,27 @@ clocked_is_no_block (release point) h = refl
 abbrev pub reads_of : FlatDesign → Path → List ℕ
 reads_of design q = signals_that design (path_names design.signals q)
 
+-- a target of a process that has no earlier value follows itself alone
+pub follows_alone : (design : FlatDesign) (p : ProcessForm) (s : ℕ) → s < length design.signals →
+    ((r : Reading) → Contains (process_readings design p) r → IsFalse (is_earlier design p r)) →
+    (u : ℕ) → Contains (followed design p s) u → s ≡ u
+follows_alone design p s inside none u u_at =
+    least_set_least (length design.signals) (wants design p) (s ∷ [])
+    (λ k k_at. ⊎_elim (λ same. subst (λ z. z < length design.signals) same inside)
+    (λ later. absurd (Contains-nil k later)) (Contains-cases s [] k k_at))
+    (λ k. s ≡ k)
+    (λ k k_at. ⊎_elim (λ same. same) (λ later. absurd (Contains-nil k later))
+    (Contains-cases s [] k k_at))
+    (λ m k is brings low.
+    let found = from_some (λ (r : Reading).
+    is_earlier design p r && r.serves m && (r.name.signal == k))
+    (process_readings design p) brings in
+    let r = found.0 in
+    absurd (false≢true (sym (none r found.1)
+    ∙ first_of (is_earlier design p r) (r.serves m)
+    (first_of (is_earlier design p r && r.serves m) (r.name.signal == k) found.2))))
+    u u_at
+
 module _ (design : FlatDesign) (is_sound : IsTrue (sound design)) (admitted : IsAdmitted design)
     (p : ProcessForm) (s : ℕ)
     (at : Contains (processes_of design) p) (assigned : IsTrue (assigns p.body s)) where
@@ -78,21 +99,8 @@ module _ (design : FlatDesign) (is_sound : IsTrue (sound design)) (admitted : Is
   -- a target that no block assigns follows itself alone
   pub only_itself : IsFalse (is_block p.kind) → (u : ℕ) → Member u → s ≡ u
   only_itself no_block u u_at =
-      least_set_least (length design.signals) (wants design p) (s ∷ [])
-      (λ k k_at. ⊎_elim (λ same. subst (λ z. z < length design.signals) same inside)
-      (λ later. absurd (Contains-nil k later)) (Contains-cases s [] k k_at))
-      (λ k. s ≡ k)
-      (λ k k_at. ⊎_elim (λ same. same) (λ later. absurd (Contains-nil k later))
-      (Contains-cases s [] k k_at))
-      (λ m k is brings low.
-      let found = from_some (λ (r : Reading).
-      is_earlier design p r && r.serves m && (r.name.signal == k))
-      (process_readings design p) brings in
-      let r = found.0 in
-      absurd (false≢true (sym (ap (λ c. c && is_followed design.signals r) no_block)
-      ∙ first_of (is_earlier design p r) (r.serves m)
-      (first_of (is_earlier design p r && r.serves m) (r.name.signal == k) found.2))))
-      u u_at
+      follows_alone design p s inside
+      (λ r r_at. ap (λ c. c && is_followed design.signals r) no_block) u u_at
 
   pub clocked_alone : (u : ℕ) → Member u → IsTrue (is_clocked p.kind) → s ≡ u
   clocked_alone u u_at clock = only_itself (clocked_is_no_block p.kind clock) u u_at
@@ -294,20 +302,27 @@ module _ (design : FlatDesign) (is_sound : IsTrue (sound design)) (admitted : Is
         tree_same m.result tidy.1 fine.1 (λ x named.
         or_right (steps_name q x) (names_signal design.signals q.result x) named)
 
+  both_same : (q : Path) → Origin q → (e f : Environment ℕ)
+      → ((t : ℕ) → Contains (reads_of design q) t → e t ≡ f t)
+      → (steps_hold design.signals e q.steps ≡ steps_hold design.signals f q.steps)
+      × (value design.signals e q.result ≡ value design.signals f q.result)
+  both_same q o e f same =
+      subst (λ (x : Path). ((t : ℕ) → Contains (reads_of design x) t → e t ≡ f t)
+      → (steps_hold design.signals e x.steps ≡ steps_hold design.signals f x.steps)
+      × (value design.signals e x.result ≡ value design.signals f x.result)) o.is
+      (λ agree. (
+        closed_steps_same o.unclosed o.fine o.tidy e f agree,
+        closed_result_same o.unclosed o.fine o.tidy e f agree,
+      )) same
+
   -- the path holds in both or in none
   pub steps_same : (q : Path) → Origin q → (e f : Environment ℕ)
       → ((t : ℕ) → Contains (reads_of design q) t → e t ≡ f t)
       → steps_hold design.signals e q.steps ≡ steps_hold design.signals f q.steps
-  steps_same q o e f same =
-      subst (λ (x : Path). ((t : ℕ) → Contains (reads_of design x) t → e t ≡ f t)
-      → steps_hold design.signals e x.steps ≡ steps_hold design.signals f x.steps) o.is
-      (λ agree. closed_steps_same o.unclosed o.fine o.tidy e f agree) same
+  steps_same q o e f same = (both_same q o e f same).0
 
   -- and its result has one value
   pub result_same : (q : Path) → Origin q → (e f : Environment ℕ)
       → ((t : ℕ) → Contains (reads_of design q) t → e t ≡ f t)
       → value design.signals e q.result ≡ value design.signals f q.result
-  result_same q o e f same =
-      subst (λ (x : Path). ((t : ℕ) → Contains (reads_of design x) t → e t ≡ f t)
-      → value design.signals e x.result ≡ value design.signals f x.result) o.is
-      (λ agree. closed_result_same o.unclosed o.fine o.tidy e f agree) same
+  result_same q o e f same = (both_same q o e f same).1

@@ -26,6 +26,18 @@ use Rattle.sv_obl.specs.Exchange.{Instead, name, content, for_whole, for_bit, fo
 use Rattle.sv_obl.specs.Exchange.{exchanged_node, exchanged_parts}
 use Rattle.sv_obl.proofs.PathLists.{both_true}
 
+-- a read of a part
+abbrev pub part_read : ℕ → Place → (high low : ℕ) → ReadForm
+part_read s place high low = record { signal = s; place = place; high = high; low = low }
+
+-- where a first test holds with two others, and these bring two more, it holds with those
+both_kept : (b c d e f : Bool) → (IsTrue c → IsTrue e) → (IsTrue d → IsTrue f) →
+    IsTrue (b && c && d) → IsTrue (b && e && f)
+both_kept b c d e f one two h =
+    let front = first_of (b && c) d h in
+    both_true (b && e) f (both_true b e (first_of b c front) (one (second_of b c front)))
+    (two (second_of (b && c) d h))
+
 -- ---- values that are held are held for signals below a number
 
 abbrev mutual
@@ -187,7 +199,7 @@ module _ (A : List SignalForm) (instead : ReadForm → Instead) (n : ℕ) where
         bit_below (instead r) p (exchanged A instead i) (below r (Contains-head r (reads A i)))
         (exchanged_held i h (λ z at. below z (Contains-later r (reads A i) z at)))
     node_exchanged_held (read_part s p high low) h below =
-        let r : ReadForm = record { signal = s; place = p; high = high; low = low } in
+        let r = part_read s p high low in
         part_below (instead r) p high low (below r (Contains-head r []))
     node_exchanged_held (unary op a) h below = exchanged_held a h below
     node_exchanged_held (binary op a b) h below =
@@ -215,29 +227,19 @@ module _ (A : List SignalForm) (instead : ReadForm → Instead) (n : ℕ) where
         (first_of (nat_lt s n) (held_below n e) h)
         (exchanged_held e (second_of (nat_lt s n) (held_below n e) h) below)
     node_exchanged_held (held_bit s p e i) h below =
-        let front = first_of (nat_lt s n && held_below n e) (held_below n i) h in
-        both_true (nat_lt s n && held_below n (exchanged A instead e))
-        (held_below n (exchanged A instead i))
-        (both_true (nat_lt s n) (held_below n (exchanged A instead e))
-        (first_of (nat_lt s n) (held_below n e) front)
-        (exchanged_held e (second_of (nat_lt s n) (held_below n e) front)
-        (below_left (reads A e) (reads A i) below)))
-        (exchanged_held i (second_of (nat_lt s n && held_below n e) (held_below n i) h)
-        (below_right (reads A e) (reads A i) below))
+        both_kept (nat_lt s n) (held_below n e) (held_below n i)
+        (held_below n (exchanged A instead e)) (held_below n (exchanged A instead i))
+        (λ k. exchanged_held e k (below_left (reads A e) (reads A i) below))
+        (λ k. exchanged_held i k (below_right (reads A e) (reads A i) below)) h
     node_exchanged_held (held_part s p e high low) h below =
         both_true (nat_lt s n) (held_below n (exchanged A instead e))
         (first_of (nat_lt s n) (held_below n e) h)
         (exchanged_held e (second_of (nat_lt s n) (held_below n e) h) below)
     node_exchanged_held (mend s e high low piece) h below =
-        let front = first_of (nat_lt s n && held_below n e) (held_below n piece) h in
-        both_true (nat_lt s n && held_below n (exchanged A instead e))
-        (held_below n (exchanged A instead piece))
-        (both_true (nat_lt s n) (held_below n (exchanged A instead e))
-        (first_of (nat_lt s n) (held_below n e) front)
-        (exchanged_held e (second_of (nat_lt s n) (held_below n e) front)
-        (below_left (reads A e) (reads A piece) below)))
-        (exchanged_held piece (second_of (nat_lt s n && held_below n e) (held_below n piece) h)
-        (below_right (reads A e) (reads A piece) below))
+        both_kept (nat_lt s n) (held_below n e) (held_below n piece)
+        (held_below n (exchanged A instead e)) (held_below n (exchanged A instead piece))
+        (λ k. exchanged_held e k (below_left (reads A e) (reads A piece) below))
+        (λ k. exchanged_held piece k (below_right (reads A e) (reads A piece) below)) h
     node_exchanged_held (slice e high low) h below = exchanged_held e h below
 
     parts_exchanged_held : (es : TypedTrees) → IsTrue (parts_held_below n es)
@@ -349,7 +351,7 @@ module _ (A B : List SignalForm) (instead : ReadForm → Instead) (E F : Environ
         (good r (Contains-head r (reads A i)))
         (exchanged_number i h (λ z at. good z (Contains-later r (reads A i) z at))))
     exchanged_node_value (read_part s p high low) w signed h good =
-        let r : ReadForm = record { signal = s; place = p; high = high; low = low } in
+        let r = part_read s p high low in
         part_value (instead r) r w signed p high low (good r (Contains-head r []))
     exchanged_node_value (unary op (typed v q m)) w signed h good =
         ap (unary_value op v q) (exchanged_node_value m v q h good)
@@ -517,7 +519,7 @@ module _ (A B : List SignalForm) (instead : ReadForm → Instead) where
         (from.0, Contains-later r (reads A i) from.0 from.1, from.2))
         (bit_comes (instead r) p (exchanged A instead i) x named)
     exchanged_node_names (read_part s p high low) x named =
-        let r : ReadForm = record { signal = s; place = p; high = high; low = low } in
+        let r = part_read s p high low in
         (r, Contains-head r [], part_comes (instead r) p high low x named)
     exchanged_node_names (unary op a) x named = exchanged_names a x named
     exchanged_node_names (binary op a b) x named = ⊎_elim

@@ -102,6 +102,12 @@ step_added count step way trail conditions more one marked so_far made is =
 
 -- ---- one arm is taken
 
+-- what is made of the arm that is taken
+each_arm : {X Y Z : Type 0} (g : Bool → Y → Z) (f : X → Y) (a b : X) (t : Bool) →
+    g t (f (cond t a b)) ≡ g t (cond t (f a) (f b))
+each_arm g f a b true = refl
+each_arm g f a b false = refl
+
 module _ (way made : WayForm) (arm : Bool) (is : made ≡ on_arm way)
     (next : arm ≡ next_arm way.arms) (place : Place) (c : TypedTree) where
   abbrev step : Bool → StepForm
@@ -113,15 +119,10 @@ module _ (way made : WayForm) (arm : Bool) (is : made ≡ on_arm way)
         ≡ along_ways count from (typed w signed (choice place c a b)) way
     taken_way x same =
         ap₂ (λ y m. with_step count (step arm) (along_ways count from y m)) (sym same) is
-        ∙ turned arm
+        ∙ each_arm (λ t w. with_step count (step t) w)
+        (λ y. along_ways count from y (on_arm way)) a b arm
         ∙ ap (λ t. with_step count (step t)
         (cond t (along_ways count from a (on_arm way)) (along_ways count from b (on_arm way)))) next
-      where
-        turned : (t : Bool) → with_step count (step t) (along_ways count from (cond t a b) (on_arm way))
-            ≡ with_step count (step t)
-            (cond t (along_ways count from a (on_arm way)) (along_ways count from b (on_arm way)))
-        turned true = refl
-        turned false = refl
 
     pub first_way : arm ≡ true → with_step count (step true) (along_ways count from a made)
         ≡ along_ways count from (typed w signed (choice place c a b)) way
@@ -142,7 +143,7 @@ module _ (way made : WayForm) (arm : Bool) (is : made ≡ on_arm way)
         ≡ along signals s (branch place c a b) way
     taken_arm x same =
         ap₂ (λ y m. with_step count (step arm) (along signals s y m)) (sym same) is
-        ∙ turned arm
+        ∙ each_arm (λ t w. with_step count (step t) w) (λ y. along signals s y (on_arm way)) a b arm
         ∙ ap (λ t. with_step count (step t)
         (cond t (along signals s a (on_arm way)) (along signals s b (on_arm way)))) next
         ∙ ap (λ n. with_step n (step (next_arm way.arms)) (cond (next_arm way.arms)
@@ -150,12 +151,6 @@ module _ (way made : WayForm) (arm : Bool) (is : made ≡ on_arm way)
         ∙ sym (ap (λ t. cond t (with_step (length signals) (step (next_arm way.arms))
         (cond (next_arm way.arms) (along signals s a (on_arm way))
         (along signals s b (on_arm way)))) way) takes_it)
-      where
-        turned : (t : Bool) → with_step count (step t) (along signals s (cond t a b) (on_arm way))
-            ≡ with_step count (step t)
-            (cond t (along signals s a (on_arm way)) (along signals s b (on_arm way)))
-        turned true = refl
-        turned false = refl
 
 -- ---- an assignment
 

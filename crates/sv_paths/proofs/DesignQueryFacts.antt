@@ -1,10 +1,12 @@
 -- Every obligation of an admitted design is one of the design's.
 use Rattle.std.proofs.Common.{◌≡◌, ℕ, zero, suc, ◌+◌, ◌<◌, ◌≤◌, Bool, true, false, cond, ◌&&◌, ◌==◌}
 use Rattle.std.proofs.Common.{not, ltb-true, List, [], ◌∷◌, length, map, filter, flat_map}
-use Rattle.std.proofs.Common.{⊎_elim, refl, subst, arith, Option, Some, None, lt-ltb}
+use Rattle.std.proofs.Common.{⊎_elim, refl, subst, arith, Option, Some, None, lt-ltb, ◌++◌, ◌∙◌}
+use Rattle.std.proofs.Common.{sym, ap, ap₂}
 use Rattle.std.specs.Prelude.{Contains, All, IsTrue}
 use Rattle.std.specs.List.{range_with_len, list_any}
 use Rattle.std.proofs.lemmas.Bool.{or_left, eqb-true}
+use Rattle.std.proofs.lemmas.List.{map-append}
 use Rattle.std.proofs.lemmas.List.Elements.{All-nil, All-cons}
 use Rattle.sv_num.specs.declared.faults.Place.{Place}
 use Rattle.sv_system.proofs.Lists.{Contains-nil, Contains-cases, Contains-from_map, Contains-filter}
@@ -23,6 +25,8 @@ use Rattle.sv_flat.proofs.LeastSets.{Contains-from_filter}
 use Rattle.sv_flat.proofs.ReadSignals.{reads_signals}
 use Rattle.sv_flat.proofs.AdmittedFacts.{and_true, is_process, body_is_sound, assigns_no_clock}
 use Rattle.sv_flat.proofs.AdmittedFacts.{targets_are_combinational}
+use Rattle.sv_flat.specs.Views.{design_of, signal_form}
+use Rattle.sv_flat.specs.declared.designs.Flat.{Flat}
 use Rattle.sv_rules.proofs.Sound.{width_is_sound}
 use Rattle.sv_obl.specs.declared.frames.Frame.{Frame}
 use Rattle.sv_obl.specs.declared.frames.Frame.TheVariants.{Now, Next}
@@ -33,6 +37,10 @@ use Rattle.sv_obl.specs.Obligations.{place_of, path_obligation, target_obligatio
 use Rattle.sv_obl.specs.Obligations.{selector_obligation, selector_obligations}
 use Rattle.sv_obl.specs.DesignQueries.{Ascends, IsExpressionOf, IsStepOf, IsTargetIn}
 use Rattle.sv_obl.specs.DesignQueries.{IsQueryOf, HasPlace, IsPlaced}
+use Rattle.sv_obl.specs.Views.{obligation_of}
+use Rattle.sv_obl.specs.declared.queries.Query.{Query}
+use Rattle.sv_obl.proofs.FormLists.{length_mapped}
+use Rattle.sv_paths.specs.ListParts.{obligations_before}
 use Rattle.sv_paths.proofs.FormedPaths.{closed_steps_formed}
 use Rattle.sv_obl.proofs.PathLists.{from_flat_map}
 use Rattle.sv_flat.proofs.SelectorFacts.{selector_is_seen, selected_is_seen}
@@ -200,6 +208,21 @@ module _ (design : FlatDesign) (is_sound : IsTrue (sound design))
       (flat_map (selector_obligations [] design) (signal_numbers design)) selectors_are o r)
       (Contains-either (flat_map (target_obligations [] design) (signal_numbers design))
       (flat_map (selector_obligations [] design) (signal_numbers design)) o o_at))
+
+-- the obligations of all targets and those of selectors, joined, are the design's
+pub both_listed : (flat : Flat) (targets selectors all : List Query)
+    → all ≡ targets ++ selectors
+    → map obligation_of targets ≡ obligations_before (design_of flat) (length flat.signals.items)
+    → map obligation_of selectors
+    ≡ flat_map (selector_obligations [] (design_of flat)) (signal_numbers (design_of flat))
+    → map obligation_of all ≡ obligations [] (design_of flat)
+both_listed flat targets selectors all joined first second =
+    ap (map obligation_of) joined
+    ∙ map-append obligation_of targets selectors
+    ∙ ap₂ (λ one other. one ++ other)
+    (first
+    ∙ ap (obligations_before (design_of flat)) (sym (length_mapped signal_form flat.signals.items)))
+    second
 
 -- none of them asks an invariant, so none lacks its place
 module _ (design : FlatDesign) where

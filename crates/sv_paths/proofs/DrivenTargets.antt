@@ -1,16 +1,15 @@
 -- A target by its number in the design, and its paths through the process that drives it, whose
 -- body is given indexed.
-use Rattle.std.proofs.Common.{◌≡◌, ℕ, ◌<◌, ◌≤◌, List, [], length, map, get_or, All, ◌∙◌, lt-ltb}
+use Rattle.std.proofs.Common.{◌≡◌, ℕ, ◌<◌, ◌≤◌, List, [], length, map, get_or, All, ◌∙◌}
 use Rattle.std.proofs.Common.{Option, Some, None, Result, Ok, Err, IsErrAnd, sym, ap, ap₂, subst}
-use Rattle.std.specs.Prelude.{IsTrue, Contains}
+use Rattle.std.specs.Prelude.{Contains}
 use Rattle.sv_flat.specs.ByNumber.{signal_forms}
 use Rattle.sv_flat.specs.Clocks.{processes_of}
 use Rattle.sv_flat.specs.Design.{ProcessForm, FlatDesign}
 use Rattle.sv_flat.specs.Processes.{is_block, is_clocked}
 use Rattle.sv_flat.specs.Readings.{no_bits}
 use Rattle.sv_flat.specs.SignalLists.{driver_of}
-use Rattle.sv_flat.specs.Soundness.{is_signal}
-use Rattle.sv_flat.specs.Views.{design_of, signal_form, process_form}
+use Rattle.sv_flat.specs.Views.{design_of, process_form}
 use Rattle.sv_flat.specs.declared.designs.Flat.{Flat}
 use Rattle.sv_flat.specs.declared.designs.Process.{Process}
 use Rattle.sv_flat.specs.declared.signals.Signal.{Signal}
@@ -28,7 +27,7 @@ use Rattle.sv_obl.specs.IndexedBodies.{looked_up, IsIndexed, AreIndexed}
 use Rattle.sv_paths.specs.RouteViews.{route_forms}
 use Rattle.sv_obl.specs.Wanted.{marked}
 use Rattle.sv_obl.proofs.IndexedFacts.{indexed_of_driver, same_routes}
-use Rattle.sv_obl.proofs.FormLists.{length_mapped}
+use Rattle.sv_obl.proofs.FormLists.{signal_inside, signal_known}
 use Rattle.sv_paths.proofs.TargetFacts.{none_listed, none_passed}
 use Rattle.sv_paths.proofs.TargetFacts.{excess_same, listed_same, names_within}
 
@@ -44,19 +43,16 @@ module _ (flat : Flat) (is : IsDesign (design_of flat)) (s : ℕ)
   abbrev design : FlatDesign
   design = design_of flat
 
-  inside : s < length design.signals
-  inside = subst (λ n. s < n) (sym (length_mapped signal_form flat.signals.items)) known
-
-  is_known : IsTrue (is_signal design.signals s)
-  is_known = lt-ltb s (length design.signals) inside
-
   pub undriven_passed : driver_of design s ≡ None → (total : ℕ) → total ≤ 65536
       → excess_at design total s ≡ None
   undriven_passed none total few =
-      none_passed design is.is_sound is.is_admitted s inside is_known none total few
+      none_passed design is.is_sound is.is_admitted s (signal_inside flat s known)
+      (signal_known flat s known) none total few
 
   pub undriven_listed : driver_of design s ≡ None → target_obligations [] design s ≡ []
-  undriven_listed none = none_listed design is.is_sound is.is_admitted s inside is_known none
+  undriven_listed none =
+      none_listed design is.is_sound is.is_admitted s (signal_inside flat s known)
+      (signal_known flat s known) none
 
   module _ (bodies : List Indexed) (all : AreIndexed (processes_of design) bodies) (k : ℕ)
       (driven : driver_of design s ≡ Some k) (p : ProcessForm)
@@ -76,19 +72,20 @@ module _ (flat : Flat) (is : IsDesign (design_of flat)) (s : ℕ)
 
     pub driven_excess : (total : ℕ) → target_excess s total routes ≡ excess_at design total s
     driven_excess total = ap (target_excess s total) same
-        ∙ excess_same design is.is_sound is.is_admitted s inside is_known k p driven there unmarked
-        total
+        ∙ excess_same design is.is_sound is.is_admitted s (signal_inside flat s known)
+        (signal_known flat s known) k p driven there unmarked total
 
     driven_listed : map (route_obligation (length design.signals) p s) routes
         ≡ target_obligations [] design s
     driven_listed = ap (map (route_obligation (length design.signals) p s)) same
-        ∙ listed_same design is.is_sound is.is_admitted s inside is_known k p driven there unmarked
+        ∙ listed_same design is.is_sound is.is_admitted s (signal_inside flat s known)
+        (signal_known flat s known) k p driven there unmarked
 
     driven_names : (route : RouteForm) → Contains routes route
         → All (λ t. t < length design.signals) (names_on (is_clocked p.kind) s route)
     driven_names route among =
-        names_within design is.is_sound is.is_admitted s inside is_known k p driven there unmarked
-        route
+        names_within design is.is_sound is.is_admitted s (signal_inside flat s known)
+        (signal_known flat s known) k p driven there unmarked route
         (subst (λ rs. Contains rs route) same among)
 
     pub are_routes : (process : Process) (found : List Route) → process_form process ≡ p

@@ -1,7 +1,7 @@
 -- A target by its number in the design, and its paths through the process that drives it, whose
 -- body is given with its earlier reads wanted.
-use Rattle.std.proofs.Common.{◌≡◌, ℕ, ◌<◌, List, length, map, get_or, ◌∙◌, lt-ltb}
-use Rattle.std.proofs.Common.{Option, Some, None, sym, ap, ap₂, subst}
+use Rattle.std.proofs.Common.{◌≡◌, ℕ, ◌<◌, List, length, map, get_or, ◌∙◌}
+use Rattle.std.proofs.Common.{Option, Some, None, ap, ap₂, subst}
 use Rattle.std.specs.Prelude.{IsTrue, Contains}
 use Rattle.std.specs.List.{AllZip}
 use Rattle.sv_flat.specs.ByNumber.{signal_forms}
@@ -11,7 +11,7 @@ use Rattle.sv_flat.specs.Processes.{is_block}
 use Rattle.sv_flat.specs.Readings.{no_bits}
 use Rattle.sv_flat.specs.SignalLists.{driver_of}
 use Rattle.sv_flat.specs.Soundness.{is_signal}
-use Rattle.sv_flat.specs.Views.{design_of, signal_form, process_form}
+use Rattle.sv_flat.specs.Views.{design_of, process_form}
 use Rattle.sv_flat.specs.declared.designs.Flat.{Flat}
 use Rattle.sv_flat.specs.declared.designs.Process.{Process}
 use Rattle.sv_flat.specs.declared.signals.Signal.{Signal}
@@ -31,7 +31,7 @@ use Rattle.sv_paths.specs.TrailViews.{trail_forms}
 use Rattle.sv_obl.specs.Wanted.{marked}
 use Rattle.sv_paths.proofs.MarkedWords.{walked_words}
 use Rattle.sv_obl.proofs.OneDriver.{one_driver_at}
-use Rattle.sv_obl.proofs.FormLists.{length_mapped}
+use Rattle.sv_obl.proofs.FormLists.{signal_known}
 use Rattle.sv_paths.proofs.TrailTargets.{trails_excess_same, trails_listed, trail_words_are}
 use Rattle.sv_paths.proofs.TrailTargets.{trail_names_are}
 use Rattle.sv_obl.proofs.Unchanged.{marked_itself}
@@ -55,8 +55,7 @@ module _ (flat : Flat) (is : IsDesign (design_of flat)) (s : ℕ)
   design = design_of flat
 
   is_known : IsTrue (is_signal design.signals s)
-  is_known = lt-ltb s (length design.signals)
-      (subst (λ n. s < n) (sym (length_mapped signal_form flat.signals.items)) known)
+  is_known = signal_known flat s known
 
   -- where the process has no marked body, none of its reads is an earlier one
   pub unmarked : (x : Option Marked) → x ≡ get_or bodies k x → x ≡ None

@@ -1,10 +1,11 @@
 -- Obligations that some values falsify, and obligations that none do.
 use Rattle.std.proofs.Common.{◌≡◌, ℕ, zero, suc, ◌+◌, ◌/◌, ◌%◌, ◌^◌, ◌*◌, ◌<◌, Bool, true, false}
 use Rattle.std.proofs.Common.{cond, not, ◌==◌, List, [], ◌∷◌, Some, None, slice_get, ⊎_elim, refl}
-use Rattle.std.proofs.Common.{sym, subst, ◌∙◌, arith}
+use Rattle.std.proofs.Common.{sym, subst, ◌∙◌, arith, Option}
 use Rattle.std.specs.Prelude.{codes, IsTrue, IsFalse}
 use Rattle.std.proofs.lemmas.Bool.{false≢true, eqb-true, eq-eqb}
 use Rattle.std.proofs.lemmas.List.Elements.{All-nil, All-cons}
+use Rattle.sv_num.specs.declared.faults.Place.{Place}
 use Rattle.sv_num.specs.declared.operators.UnOp.TheVariants as unop
 use Rattle.sv_num.specs.Vectors.{truth, is_true}
 use Rattle.sv_lattice.specs.Labels.{map_of}
@@ -25,6 +26,7 @@ use Rattle.sv_obl.specs.PathValues.{is_true_in}
 use Rattle.sv_obl.specs.Obligations.{flow, selector, Obligation, obligations}
 use Rattle.sv_obl.specs.Validity.{Falsifies, IsValid, AllValid}
 use Rattle.sv_obl.proofs.ExampleDesigns.{low, high, by, maps, signal, design, whole, held_register}
+use Rattle.sv_obl.proofs.GuardedDesigns.{settles_itself}
 use Rattle.sv_paths.proofs.ListExamples.{two_selectors}
 use Rattle.sv_obl.proofs.MadeFacts.{makes_next}
 use Rattle.sv_paths.proofs.WholeExample.{table, one_bit, no_bit}
@@ -38,14 +40,13 @@ same_arms false x = refl
 abbrev nxt_is : Bool → StepForm
 nxt_is truth = record { place = at 5 5; condition = named 1 (at 5 9); truth = truth }
 
+-- one of a register, with no facts
+abbrev of_register : List StepForm → Option Place → (reads : List ℕ) → (target : ℕ) → Obligation
+of_register path right reads target =
+    record { facts = []; path = path; right = right; reads = reads; goal = flow target Next }
+
 abbrev hold : Obligation
-hold = record {
-  facts = [];
-  path = nxt_is false ∷ [];
-  right = None;
-  reads = 1 ∷ 4 ∷ [];
-  goal = flow 4 Next;
-}
+hold = of_register (nxt_is false ∷ []) None (1 ∷ 4 ∷ []) 4
 
 third_is_hold : slice_get (obligations [] held_register) 2 ≡ Some hold
 third_is_hold = refl
@@ -132,31 +133,13 @@ mended_register = design
     (clocked_body ∷ [])
 
 abbrev to_owner : Obligation
-to_owner = record {
-  facts = [];
-  path = [];
-  right = Some (at 4 5);
-  reads = 1 ∷ [];
-  goal = flow 3 Next;
-}
+to_owner = of_register [] (Some (at 4 5)) (1 ∷ []) 3
 
 abbrev taken : Obligation
-taken = record {
-  facts = [];
-  path = nxt_is true ∷ [];
-  right = Some (at 5 14);
-  reads = 1 ∷ 2 ∷ [];
-  goal = flow 4 Next;
-}
+taken = of_register (nxt_is true ∷ []) (Some (at 5 14)) (1 ∷ 2 ∷ []) 4
 
 abbrev cleared : Obligation
-cleared = record {
-  facts = [];
-  path = nxt_is false ∷ [];
-  right = Some (at 6 10);
-  reads = 1 ∷ [];
-  goal = flow 4 Next;
-}
+cleared = of_register (nxt_is false ∷ []) (Some (at 6 10)) (1 ∷ []) 4
 
 -- the label of a point does not flow to the row of the owner
 abbrev StaysFrom : ℕ → ℕ → Type 0
@@ -253,17 +236,12 @@ pub copied_is_falsified : Falsifies selected
 copied_is_falsified = record {
   now = ones;
   there = ones;
-  settled = record {
-    registers = λ s register. refl;
-    inputs_are = λ s input. refl;
-    fits =
-        let P = λ (s : ℕ). 1 < 2 ^ signal_width selected.signals s in
-        All-cons P 0 (1 ∷ 2 ∷ []) (omega arith) (All-cons P 1 (2 ∷ []) (omega arith)
-        (All-cons P 2 [] (omega arith) (All-nil P)));
-    still =
-        let P = λ (run : Run ℕ). (s : ℕ) → run ones s ≡ 1 in
-        All-cons P _ [] (λ s. same_arms (2 == s) 1) (All-nil P);
-  };
+  settled = settles_itself selected ones
+      (let P = λ (s : ℕ). 1 < 2 ^ signal_width selected.signals s in
+      All-cons P 0 (1 ∷ 2 ∷ []) (omega arith) (All-cons P 1 (2 ∷ []) (omega arith)
+      (All-cons P 2 [] (omega arith) (All-nil P))))
+      (let P = λ (run : Run ℕ). (s : ℕ) → run ones s ≡ 1 in
+      All-cons P _ [] (λ s. same_arms (2 == s) 1) (All-nil P));
   in_frame = refl;
   facts = All-nil (λ (fact : TypedTree). IsTrue (is_true_in selected.signals ones fact));
   path = All-nil (λ (step : StepForm).
@@ -313,17 +291,12 @@ pub secret_selector_is_falsified : Falsifies (two_selectors high)
 secret_selector_is_falsified = record {
   now = none_set;
   there = none_set;
-  settled = record {
-    registers = λ s register. refl;
-    inputs_are = λ s input. refl;
-    fits =
-        let P = λ (s : ℕ). 0 < 2 ^ signal_width (two_selectors high).signals s in
-        All-cons P 0 (1 ∷ 2 ∷ 3 ∷ []) (omega arith) (All-cons P 1 (2 ∷ 3 ∷ []) (omega arith)
-        (All-cons P 2 (3 ∷ []) (omega arith) (All-cons P 3 [] (omega arith) (All-nil P))));
-    still =
-        let P = λ (run : Run ℕ). (s : ℕ) → run none_set s ≡ 0 in
-        All-cons P _ [] (λ s. same_arms (3 == s) 0) (All-nil P);
-  };
+  settled = settles_itself (two_selectors high) none_set
+      (let P = λ (s : ℕ). 0 < 2 ^ signal_width (two_selectors high).signals s in
+      All-cons P 0 (1 ∷ 2 ∷ 3 ∷ []) (omega arith) (All-cons P 1 (2 ∷ 3 ∷ []) (omega arith)
+      (All-cons P 2 (3 ∷ []) (omega arith) (All-cons P 3 [] (omega arith) (All-nil P)))))
+      (let P = λ (run : Run ℕ). (s : ℕ) → run none_set s ≡ 0 in
+      All-cons P _ [] (λ s. same_arms (3 == s) 0) (All-nil P));
   in_frame = refl;
   facts = All-nil (λ (fact : TypedTree).
       IsTrue (is_true_in (two_selectors high).signals none_set fact));

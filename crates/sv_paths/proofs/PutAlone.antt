@@ -26,6 +26,7 @@ use Rattle.sv_obl.specs.Paths.{StepForm, step_with, name_itself, pieces_of, puts
 use Rattle.sv_obl.proofs.PutFacts.{copy_is_copy, original_of_copy, signal_is_settled}
 use Rattle.sv_obl.specs.Routes.{names_in}
 use Rattle.sv_obl.proofs.RouteNames.{names_alike}
+use Rattle.sv_obl.proofs.TreeFacts.{part_read}
 use Rattle.sv_paths.proofs.PutNames.{piece_names, some_piece, some_of, put_names}
 use Rattle.sv_paths.proofs.PutNames.{names_put as all_names_put}
 use Rattle.sv_obl.proofs.Unchanged.{exchanged_itself}
@@ -211,12 +212,7 @@ module _ (signals : List SignalForm) (s : ℕ) where
       bit_alone w signed (pieces_put signals pieces way (indexed_read both x p i)) p
       (put_in signals pieces way i)
   put_alone pieces way settled some (typed w signed (read_part x p high low)) may =
-      part_alone w signed (pieces_put signals pieces way (record {
-        signal = x;
-        place = p;
-        high = high;
-        low = low;
-      })) p high low
+      part_alone w signed (pieces_put signals pieces way (part_read x p high low)) p high low
   put_alone pieces way settled some e may = λ t is. absurd (none_some t is)
 
   -- ---- names

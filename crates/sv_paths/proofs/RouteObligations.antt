@@ -1,7 +1,7 @@
 -- The obligations of a target are those of its routes.
 use Rattle.std.proofs.Common.{◌≡◌, ℕ, ◌<◌, Bool, true, false, cond, ◌&&◌, ◌||◌, ◌==◌, not, nat_lt}
 use Rattle.std.proofs.Common.{List, [], ◌∷◌, ◌++◌, length, map, reverse, flat_map, Some, All}
-use Rattle.std.proofs.Common.{Option, suc, min, arith}
+use Rattle.std.proofs.Common.{Option, min, arith}
 use Rattle.std.proofs.Common.{⊎_elim, refl, sym, ap, ap₂, subst, ◌∙◌, append-nil}
 use Rattle.std.specs.Prelude.{Contains, IsTrue}
 use Rattle.std.specs.List.{list_any, range_with_len}
@@ -33,6 +33,7 @@ use Rattle.sv_obl.specs.Routes.{RouteForm, open_route, routes_before, names_in}
 use Rattle.sv_paths.specs.RouteObligations.{names_on}
 use Rattle.sv_paths.specs.RouteObligations.{route_obligation}
 use Rattle.sv_obl.specs.Wanted.{with_copies, copy_of, is_copy, original, close, closed_tree, marked}
+use Rattle.sv_obl.proofs.PathLists.{zip_any, zip_count}
 use Rattle.sv_paths.proofs.NumberSets.{filter_alike}
 use Rattle.sv_flat.proofs.Members.{contained_all, only}
 use Rattle.sv_obl.proofs.PutFacts.{copy_is_copy, original_of_copy, settled_is_signal}
@@ -258,19 +259,14 @@ module _ (design : FlatDesign) (p : ProcessForm) (s : ℕ) (inside : s < length 
   pub large_same : (ps : List Path) (rs : List RouteForm) → AllMatch signals s inside ps rs
       → list_any (λ (path : Path). nat_lt 65536 path.nodes) (map close_path ps)
       ≡ list_any is_large rs
-  large_same [] [] all = refl
-  large_same [] (r ∷ rs) all = elim all [ ]
-  large_same (path ∷ ps) [] all = elim all [ ]
-  large_same (path ∷ ps) (r ∷ rs) all =
-      ap₂ (λ a b. a || b) (capped_same path.nodes ∙ ap (nat_lt 65536) (sym (all.0).nodes))
-      (large_same ps rs all.1)
+  large_same ps rs all =
+      zip_any (Matches signals s inside) close_path (λ (path : Path). nat_lt 65536 path.nodes)
+      is_large (λ path r same. capped_same path.nodes ∙ ap (nat_lt 65536) (sym same.nodes)) ps rs
+      all
 
   pub count_same : (ps : List Path) (rs : List RouteForm) → AllMatch signals s inside ps rs
       → length (map close_path ps) ≡ length rs
-  count_same [] [] all = refl
-  count_same [] (r ∷ rs) all = elim all [ ]
-  count_same (path ∷ ps) [] all = elim all [ ]
-  count_same (path ∷ ps) (r ∷ rs) all = ap suc (count_same ps rs all.1)
+  count_same ps rs all = zip_count (Matches signals s inside) close_path ps rs all
 
   pub all_below : (ps : List Path) (rs : List RouteForm) → AllMatch signals s inside ps rs
       → (r : RouteForm) → Contains rs r

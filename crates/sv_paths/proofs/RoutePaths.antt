@@ -1,10 +1,10 @@
 -- The paths of a target and its routes are the same where no read is an earlier one.
 use Rattle.std.proofs.Common.{◌≡◌, ℕ, ◌+◌, ◌*◌, ◌<◌, Bool, true, false, cond, ◌&&◌, ◌||◌, ◌==◌, not}
-use Rattle.std.proofs.Common.{List, [], ◌∷◌, ◌++◌, length, map, reverse, flat_map, min, Some, None}
+use Rattle.std.proofs.Common.{List, [], ◌∷◌, ◌++◌, length, map, reverse, min, Some, None}
 use Rattle.std.proofs.Common.{Option, is_none, option_map, slice_get, ◌⊎◌, inl, inr, ⊎_elim, refl}
 use Rattle.std.proofs.Common.{sym, ap, ap₂, subst, ◌∙◌, arith, append_assoc, zero-add, zero-mul}
 use Rattle.std.specs.Prelude.{Contains, IsTrue, IsFalse}
-use Rattle.std.specs.List.{list_any, list_all, range_with_len}
+use Rattle.std.specs.List.{list_any, list_all, range_with_len, AllZip}
 use Rattle.std.proofs.lemmas.Bool.{false≢true, or_right, eqb-true}
 use Rattle.std.proofs.lemmas.List.{map-append, reverse-append}
 use Rattle.std.proofs.lemmas.List.Folds.{list_any-append}
@@ -32,7 +32,7 @@ use Rattle.sv_obl.specs.Routes.{names_in, with_names, with_put, with_ways, with_
 use Rattle.sv_obl.specs.Routes.{routes_before}
 use Rattle.sv_obl.proofs.HeldNumbers.{put_held}
 use Rattle.sv_flat.proofs.Members.{only}
-use Rattle.sv_obl.proofs.PathLists.{both_true}
+use Rattle.sv_obl.proofs.PathLists.{both_true, zip_append, zip_map, zip_flat}
 use Rattle.sv_obl.proofs.PathRuns.{step_of, whole_way}
 use Rattle.sv_obl.proofs.PutFacts.{copy_is_copy, original_of_copy}
 use Rattle.sv_obl.proofs.RouteNames.{names_alike, held_name}
@@ -82,41 +82,10 @@ module _ (signals : List SignalForm) (s : ℕ) (inside : s < length signals) whe
     pub alone : Alone (is_none r.place) p.result
 
   abbrev pub AllMatch : List Path → List RouteForm → Type 0
-  AllMatch [] [] = Unit {0}
-  AllMatch (p ∷ ps) (r ∷ rs) = Matches p r × AllMatch ps rs
-  AllMatch [] (r ∷ rs) = ⊥
-  AllMatch (p ∷ ps) [] = ⊥
+  AllMatch ps rs = AllZip Matches ps rs
 
   one_match : (p : Path) (r : RouteForm) → Matches p r → AllMatch (p ∷ []) (r ∷ [])
   one_match p r same = (same, tt)
-
-  match_append : (ps qs : List Path) (rs ts : List RouteForm) → AllMatch ps rs → AllMatch qs ts →
-      AllMatch (ps ++ qs) (rs ++ ts)
-  match_append [] qs (r ∷ rs) ts one two = elim one [ ]
-  match_append (p ∷ ps) qs [] ts one two = elim one [ ]
-  match_append [] qs [] ts one two = two
-  match_append (p ∷ ps) qs (r ∷ rs) ts one two =
-      (one.0, match_append ps qs rs ts one.1 two)
-
-  match_map : (f : Path → Path) (g : RouteForm → RouteForm)
-      → ((p : Path) (r : RouteForm) → Matches p r → Matches (f p) (g r))
-      → (ps : List Path) (rs : List RouteForm) → AllMatch ps rs → AllMatch (map f ps) (map g rs)
-  match_map f g each [] (r ∷ rs) all = elim all [ ]
-  match_map f g each (p ∷ ps) [] all = elim all [ ]
-  match_map f g each [] [] all = all
-  match_map f g each (p ∷ ps) (r ∷ rs) all =
-      (each p r all.0, match_map f g each ps rs all.1)
-
-  match_flat : (f : Path → List Path) (g : RouteForm → List RouteForm)
-      → ((p : Path) (r : RouteForm) → Matches p r → AllMatch (f p) (g r))
-      → (ps : List Path) (rs : List RouteForm) → AllMatch ps rs
-      → AllMatch (flat_map f ps) (flat_map g rs)
-  match_flat f g each [] (r ∷ rs) all = elim all [ ]
-  match_flat f g each (p ∷ ps) [] all = elim all [ ]
-  match_flat f g each [] [] all = all
-  match_flat f g each (p ∷ ps) (r ∷ rs) all =
-      match_append (f p) (flat_map f ps) (g r) (flat_map g rs) (each p r all.0)
-      (match_flat f g each ps rs all.1)
 
   -- ---- the open path
 
@@ -420,7 +389,7 @@ module _ (signals : List SignalForm) (s : ℕ) (inside : s < length signals) whe
         (sym (map-append (with_way signals s pieces right p)
         (map (way_under (step_of place c true)) (ways a))
         (map (way_under (step_of place c false)) (ways b))))
-        (match_append
+        (zip_append Matches
         (map (with_way signals s pieces right p) (map (way_under (step_of place c true)) (ways a)))
         (map (with_way signals s pieces right p) (map (way_under (step_of place c false)) (ways b)))
         (map (behind (step_of place c true)) (with_ways signals s pieces a r))
@@ -455,7 +424,7 @@ module _ (signals : List SignalForm) (s : ℕ) (inside : s < length signals) whe
       → AllMatch (before signals s statement p) (routes_before signals s statement r)
   before_match nothing sound p r same = one_match p r same
   before_match (after first second) sound p r same =
-      match_flat (before signals s first) (routes_before signals s first)
+      zip_flat Matches (before signals s first) (routes_before signals s first)
       (before_match first
       (first_of (statement_sound signals first) (statement_sound signals second) sound))
       (before signals s second p) (routes_before signals s second r)
@@ -491,17 +460,19 @@ module _ (signals : List SignalForm) (s : ℕ) (inside : s < length signals) whe
       (routes_before signals s (branch place condition first second) r))
       (sym (taken_is (branch place condition first second) p r same))
       (by_test (assigns (branch place condition first second) s && r.wants) _ _
-      (match_append
+      (zip_append Matches
       (map (under (step_of place condition true)) (before signals s first p))
       (map (under (step_of place condition false)) (before signals s second p))
       (map (behind (step_of place condition true)) (routes_before signals s first r))
       (map (behind (step_of place condition false)) (routes_before signals s second r))
-      (match_map (under (step_of place condition true)) (behind (step_of place condition true))
+      (zip_map Matches (under (step_of place condition true))
+      (behind (step_of place condition true))
       (under_matches (step_of place condition true) settled)
       (before signals s first p) (routes_before signals s first r)
       (before_match first (second_of (well_formed signals condition)
       (statement_sound signals first) front) p r same))
-      (match_map (under (step_of place condition false)) (behind (step_of place condition false))
+      (zip_map Matches (under (step_of place condition false))
+      (behind (step_of place condition false))
       (under_matches (step_of place condition false) settled)
       (before signals s second p) (routes_before signals s second r)
       (before_match second (second_of (well_formed signals condition

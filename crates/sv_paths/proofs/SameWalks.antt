@@ -1,6 +1,6 @@
 -- Statements of the same parts have bits of a word alike, and are walked alike.
 use Rattle.std.proofs.Common.{◌≡◌, ℕ, true, false, cond, ◌||◌, List, [], ◌∷◌, ◌++◌, map}
-use Rattle.std.proofs.Common.{flat_map, length, refl, sym, ap, ap₂, subst, ◌∙◌, append-nil}
+use Rattle.std.proofs.Common.{length, refl, sym, ap, ap₂, ◌∙◌}
 use Rattle.sv_num.specs.declared.faults.Place.{Place}
 use Rattle.sv_flat.specs.Assigned.{assigns}
 use Rattle.sv_flat.specs.Design.{SignalForm, TypedTree, FlatStatement, nothing, after, assign, branch}
@@ -11,8 +11,8 @@ use Rattle.sv_paths.specs.PutIn.{HasWords}
 use Rattle.sv_paths.specs.Trails.{TrailForm, trails_before, takes, wanted_signals, chosen}
 use Rattle.sv_paths.specs.Trails.{marked_by}
 use Rattle.sv_paths.proofs.NameFacts.{any_alike}
-use Rattle.sv_obl.proofs.PathLists.{flat_flat, flat_alike, flat_itself}
-use Rattle.sv_obl.proofs.SliceFacts.{or_none, assigns_in_sequence}
+use Rattle.sv_obl.proofs.SliceFacts.{or_none, assigns_in_sequence, same_parts_walked}
+use Rattle.sv_obl.proofs.SliceFacts.{same_parts_have}
 
 -- a statement and nothing behind it
 abbrev alone : FlatStatement → FlatStatement
@@ -28,28 +28,11 @@ branch_assigns place condition a b s = ap₂ (λ m n. m || n) (alone_assigns a s
 
 -- ---- bits of a word
 
-words_in_sequence : (a b : FlatStatement) → HasWords a → HasWords b → HasWords (in_sequence a b)
-words_in_sequence nothing b one two = two
-words_in_sequence (after x y) b one two =
-    words_in_sequence x (in_sequence y b) one.0 (words_in_sequence y b one.1 two)
-words_in_sequence (assign pieces place blocking right) b one two = (one, two)
-words_in_sequence (branch place condition x y) b one two =
-    ((words_in_sequence x nothing one.0 tt, words_in_sequence y nothing one.1 tt), two)
-
-words_of_sequence : (a b : FlatStatement) → HasWords (in_sequence a b) → HasWords a × HasWords b
-words_of_sequence nothing b has = (tt, has)
-words_of_sequence (after x y) b has =
-    let front = words_of_sequence x (in_sequence y b) has in
-    let rest = words_of_sequence y b front.1 in
-    ((front.0, rest.0), rest.1)
-words_of_sequence (assign pieces place blocking right) b has = (has.0, has.1)
-words_of_sequence (branch place condition x y) b has =
-    let arms = has.0 in
-    (((words_of_sequence x nothing arms.0).0, (words_of_sequence y nothing arms.1).0), has.1)
-
 pub same_words : (a b : FlatStatement) → SameParts a b → HasWords b → HasWords a
-same_words a b same has =
-    (words_of_sequence a nothing (subst HasWords (sym same) (words_in_sequence b nothing has tt))).0
+same_words =
+    same_parts_have HasWords tt (λ a b one two. (one, two)) (λ a b has. (has.0, has.1))
+    (λ place condition a b first second has. (first has.0, second has.1))
+    (λ place condition a b first second has. (first has.0, second has.1))
 
 -- ---- trails
 
@@ -73,27 +56,12 @@ module _ (signals : List SignalForm) (s : ℕ) where
       (trail ∷ []))
       (first (chosen true trail)) (second (chosen false trail))
 
-  trails_in_sequence : (a b : FlatStatement) (t : TrailForm)
-      → trails (in_sequence a b) t ≡ flat_map (trails a) (trails b t)
-  trails_in_sequence nothing b t = sym (flat_itself (trails b t))
-  trails_in_sequence (after x y) b t =
-      trails_in_sequence x (in_sequence y b) t
-      ∙ ap (flat_map (trails x)) (trails_in_sequence y b t)
-      ∙ flat_flat (trails y) (trails x) (trails b t)
-  trails_in_sequence (assign pieces place blocking right) b t = refl
-  trails_in_sequence (branch place condition x y) b t =
-      flat_alike (trails (branch place condition (alone x) (alone y)))
-      (trails (branch place condition x y))
-      (same_arms place condition (alone x) (alone y) x y (branch_assigns place condition x y)
-      (λ u. trails_in_sequence x nothing u ∙ append-nil (trails x u))
-      (λ u. trails_in_sequence y nothing u ∙ append-nil (trails y u))) (trails b t)
-
   pub same_trails : (a b : FlatStatement) → SameParts a b → (t : TrailForm)
       → trails_before signals s a t ≡ trails_before signals s b t
-  same_trails a b same t =
-      sym (trails_in_sequence a nothing t ∙ append-nil (trails a t))
-      ∙ ap (λ (c : FlatStatement). trails c t) same
-      ∙ trails_in_sequence b nothing t ∙ append-nil (trails b t)
+  same_trails =
+      same_parts_walked trails (λ t. refl) (λ a b t. refl)
+      (λ place condition a b one two. same_arms place condition (alone a) (alone b) a b
+      (branch_assigns place condition a b) one two)
 
   -- ---- one path along its trail
 

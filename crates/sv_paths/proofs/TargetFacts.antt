@@ -59,6 +59,23 @@ module _ (design : FlatDesign) (s : ℕ) where
       length (target_obligations [] design s) ≡ length (target_paths design s)
   obligation_count = path_count (drivers (processes_of design) s)
 
+-- the process that drives a target is alone, and so its paths are those of the target
+module _ (design : FlatDesign) (is_sound : IsTrue (sound design)) (admitted : IsAdmitted design)
+    (s : ℕ) (known : IsTrue (is_signal design.signals s)) (k : ℕ) (p : ProcessForm)
+    (driven : driver_of design s ≡ Some k) (there : get_or (processes_of design) k p ≡ p) where
+  pub driver_there : Contains (processes_of design) p
+  driver_there = subst (Contains (processes_of design)) there
+      (one_driver_at design is_sound admitted s known k p driven).0
+
+  pub driver_alone : drivers (processes_of design) s ≡ p ∷ []
+  driver_alone = (one_driver_at design is_sound admitted s known k p driven).2
+      ∙ ap (λ q. q ∷ []) there
+
+  pub paths_are : target_paths design s ≡ paths design.signals s p.kind p.body
+  paths_are =
+      ap (flat_map (λ (q : ProcessForm). paths design.signals s q.kind q.body)) driver_alone
+      ∙ append-nil (paths design.signals s p.kind p.body)
+
 module _ (design : FlatDesign) (is_sound : IsTrue (sound design)) (admitted : IsAdmitted design)
     (s : ℕ) (inside : s < length design.signals) (known : IsTrue (is_signal design.signals s)) where
   pub none_listed : driver_of design s ≡ None → target_obligations [] design s ≡ []
@@ -92,21 +109,13 @@ module _ (design : FlatDesign) (is_sound : IsTrue (sound design)) (admitted : Is
     routes = routes_before design.signals s p.body open_route
 
     at : Contains (processes_of design) p
-    at = subst (Contains (processes_of design)) there
-        (one_driver_at design is_sound admitted s known k p driven).0
-
-    alone : drivers (processes_of design) s ≡ p ∷ []
-    alone = (one_driver_at design is_sound admitted s known k p driven).2
-        ∙ ap (λ x. x ∷ []) there
-
-    paths_are : target_paths design s ≡ paths design.signals s p.kind p.body
-    paths_are = ap (flat_map (λ (x : ProcessForm). paths design.signals s x.kind x.body)) alone
-        ∙ append-nil (paths design.signals s p.kind p.body)
+    at = driver_there design is_sound admitted s known k p driven there
 
     pub excess_same : (total : ℕ) → target_excess s total routes ≡ excess_at design total s
     excess_same total = sym (
         ap (λ found. excess_of total (length found) (list_any (λ (path : Path).
-        nat_lt 65536 path.nodes) found)) paths_are
+        nat_lt 65536 path.nodes) found))
+        (paths_are design is_sound admitted s known k p driven there)
         ∙ ap₂ (excess_of total) (target_count design p s inside is_sound admitted at unmarked)
         (target_large design p s inside is_sound admitted at unmarked))
 
@@ -114,7 +123,8 @@ module _ (design : FlatDesign) (is_sound : IsTrue (sound design)) (admitted : Is
         ≡ target_obligations [] design s
     listed_same = sym (
         ap (flat_map (λ (x : ProcessForm).
-        map (path_obligation [] design x s) (paths design.signals s x.kind x.body))) alone
+        map (path_obligation [] design x s) (paths design.signals s x.kind x.body)))
+        (driver_alone design is_sound admitted s known k p driven there)
         ∙ append-nil (map (path_obligation [] design p s) (paths design.signals s p.kind p.body))
         ∙ target_is design p s inside is_sound admitted at unmarked)
 

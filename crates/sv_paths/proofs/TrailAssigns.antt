@@ -23,6 +23,7 @@ use Rattle.sv_paths.specs.Trails.{chosen}
 use Rattle.sv_obl.specs.Wanted.{with_copies, put_in}
 use Rattle.sv_obl.proofs.PathRuns.{step_of, whole_way}
 use Rattle.sv_obl.proofs.RouteNames.{names_alike}
+use Rattle.sv_obl.proofs.PathLists.{zip_append}
 use Rattle.sv_paths.proofs.TrailCounts.{weigh, count, weigh_append, one_at, unless, either_same}
 use Rattle.sv_paths.proofs.TrailNames.{capped_both, plus_none, NamesTell, tell_alike, one_name}
 use Rattle.sv_paths.proofs.TrailNames.{each_name, put_tell, times_tell, gone, kept_tell}
@@ -37,7 +38,7 @@ use Rattle.sv_paths.proofs.TrailOwn.{one_whole}
 use Rattle.sv_paths.proofs.TrailOwn.{no_whole_from, none_own, some_counted, own_step}
 use Rattle.sv_paths.proofs.TrailTells.{mark_of, step_names, rest_names, left, Tells, AllTell}
 use Rattle.sv_paths.proofs.TrailTells.{one_tells}
-use Rattle.sv_paths.proofs.TrailTells.{tell_append, under_tells}
+use Rattle.sv_paths.proofs.TrailTells.{under_tells}
 
 module _ (signals : List SignalForm) (s : ℕ) where
   abbrev both : List SignalForm
@@ -502,7 +503,7 @@ module _ (signals : List SignalForm) (s : ℕ) where
               (with_own_ways (length signals) from (typed w signed (choice place c a b))
               (base choices)))
               (sym (map-append path_of (map (way_under yes) (ways a)) (map (way_under no) (ways b))))
-              (tell_append signals s (map path_of (map (way_under yes) (ways a)))
+              (zip_append (Tells signals s) (map path_of (map (way_under yes) (ways a)))
               (map path_of (map (way_under no) (ways b)))
               (map (marked_by (length signals) (mark_of yes) c)
               (with_own_ways (length signals) from a (chosen true (base choices))))

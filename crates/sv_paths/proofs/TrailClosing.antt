@@ -1,9 +1,9 @@
 -- The obligation of a closed path, from what its trail tells.
 use Rattle.std.proofs.Common.{◌≡◌, ℕ, ◌+◌, ◌<◌, Bool, true, false, cond, ◌||◌, ◌==◌, not, min}
 use Rattle.std.proofs.Common.{List, [], ◌∷◌, length, map, reverse, flat_map, Option, Some, None}
-use Rattle.std.proofs.Common.{refl, sym, ap, ap₂, ◌∙◌, arith, eq-eqb, ne_eqb}
+use Rattle.std.proofs.Common.{refl, sym, ap, ap₂, ◌∙◌, arith, ne_eqb}
 use Rattle.std.specs.List.{list_any}
-use Rattle.std.proofs.lemmas.Bool.{false≢true, eqb-true, leb-true}
+use Rattle.std.proofs.lemmas.Bool.{leb-true}
 use Rattle.std.proofs.lemmas.List.Folds.{list_any-append}
 use Rattle.sv_num.specs.declared.faults.Place.{Place}
 use Rattle.sv_flat.specs.Design.{SignalForm, TypedTree, typed, constant, ProcessForm, FlatDesign}
@@ -11,6 +11,7 @@ use Rattle.sv_flat.specs.Processes.{signals_that}
 use Rattle.sv_flat.specs.Sets.{holds}
 use Rattle.sv_flat.specs.Readings.{ReadForm, reads, names_signal}
 use Rattle.sv_flat.specs.Values.{signal_of, signal_width}
+use Rattle.sv_rules.proofs.TableFacts.{filter_within}
 use Rattle.sv_obl.specs.Exchange.{name, content}
 use Rattle.sv_obl.specs.Obligations.{flow, is_link, frame_of, path_obligation}
 use Rattle.sv_obl.specs.Paths.{StepForm, Path, step_with, path_names, closed}
@@ -20,17 +21,8 @@ use Rattle.sv_obl.specs.Wanted.{with_copies, is_copy, original, close, closed_tr
 use Rattle.sv_paths.proofs.PutNames.{by_signals}
 use Rattle.sv_obl.proofs.RouteNames.{stands, exchanged_in, names_alike, held_name}
 use Rattle.sv_paths.proofs.TrailCounts.{count, held_count}
-use Rattle.sv_paths.proofs.TrailNames.{range_alike}
 use Rattle.sv_paths.proofs.TrailOwn.{own_names}
-use Rattle.sv_paths.proofs.TrailTells.{mark_of, step_names, rest_names, left, Tells}
-
-capped_zero : (k : ℕ) → (min k 65537 == 0) ≡ (k == 0)
-capped_zero k = by_test (k == 0) refl
-  where
-    by_test : (b : Bool) → (k == 0) ≡ b → (min k 65537 == 0) ≡ b
-    by_test true is = let e = eqb-true k 0 is in eq-eqb (min k 65537) 0 (omega arith)
-    by_test false is = ne_eqb (min k 65537) 0
-        (λ e. false≢true (sym is ∙ eq-eqb k 0 (omega arith)))
+use Rattle.sv_paths.proofs.TrailTells.{capped_zero, mark_of, step_names, rest_names, left, Tells}
 
 module _ (signals : List SignalForm) where
   abbrev both : List SignalForm
@@ -123,7 +115,7 @@ module _ (s : ℕ) (p : Path) (t : TrailForm) where
       → signals_that design (path_names design.signals (closed design.signals false p))
       ≡ t.names.settled
   reads_are design tells =
-      range_alike (path_names design.signals (closed design.signals false p))
+      filter_within (path_names design.signals (closed design.signals false p))
       (λ x. not (min (count (left design.signals s t.own p) x) 65537 == 0)) 0
       (length design.signals)
       (λ x low. path_named design.signals x (omega arith) s p t tells)

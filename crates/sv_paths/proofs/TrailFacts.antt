@@ -6,7 +6,7 @@ use Rattle.std.proofs.Common.{Ok, Err}
 use Rattle.std.proofs.Common.{Result, Option, Some, None, IsErrAnd, refl, sym, ap, ap₂, subst, ◌∙◌}
 use Rattle.std.proofs.Common.{arith, length-append, append_assoc}
 use Rattle.std.specs.List.{list_any}
-use Rattle.std.proofs.lemmas.Bool.{false≢true}
+use Rattle.std.proofs.lemmas.Bool.{or_left, or_right}
 use Rattle.std.proofs.lemmas.Grind.{flat_map-append}
 use Rattle.std.proofs.lemmas.List.{append-nil, length-map, map-append}
 use Rattle.sv_num.specs.declared.faults.Place.{Place}
@@ -26,30 +26,17 @@ use Rattle.sv_paths.specs.Trails.{own_pieces, own_times, times_put, without_cove
 use Rattle.sv_paths.specs.Trails.{with_right_put, whole_from, with_own_ways, with_own_put}
 use Rattle.sv_paths.specs.Trails.{with_assign, trails_before}
 use Rattle.sv_paths.specs.TrailViews.{trail_form, trail_forms, AddsTrails}
-use Rattle.sv_paths.proofs.WalkFacts.{flat_longer, next_longer}
+use Rattle.sv_obl.proofs.PathLists.{none_of}
+use Rattle.sv_paths.proofs.WalkFacts.{flat_longer, some_cond, some_both, over_most, next_longer}
 
 -- ---- what is not taken
 
 module _ {X : Type 0} (f g : X → Bool) where
   first_none : (xs : List X) → list_any (λ x. f x || g x) xs ≡ false → list_any f xs ≡ false
-  first_none [] h = refl
-  first_none (x ∷ xs) h = by (f x) (g x) (list_any (λ y. f y || g y) xs) (first_none xs) h
-    where
-      by : (a b rest : Bool) → (rest ≡ false → list_any f xs ≡ false)
-          → ((a || b) || rest) ≡ false → (a || list_any f xs) ≡ false
-      by true b rest later is = absurd (false≢true (sym is))
-      by false true rest later is = absurd (false≢true (sym is))
-      by false false rest later is = later is
+  first_none xs h = none_of f (λ x. f x || g x) xs (λ x. or_left (f x) (g x)) h
 
   second_none : (xs : List X) → list_any (λ x. f x || g x) xs ≡ false → list_any g xs ≡ false
-  second_none [] h = refl
-  second_none (x ∷ xs) h = by (f x) (g x) (list_any (λ y. f y || g y) xs) (second_none xs) h
-    where
-      by : (a b rest : Bool) → (rest ≡ false → list_any g xs ≡ false)
-          → ((a || b) || rest) ≡ false → (b || list_any g xs) ≡ false
-      by true b rest later is = absurd (false≢true (sym is))
-      by false true rest later is = absurd (false≢true (sym is))
-      by false false rest later is = later is
+  second_none xs h = none_of g (λ x. f x || g x) xs (λ x. or_right (f x) (g x)) h
 
 module _ (signals : List SignalForm) (s : ℕ) where
   -- what takes no part of a statement stays as it is
@@ -71,18 +58,6 @@ module _ (signals : List SignalForm) (s : ℕ) where
       (trails_before signals s second (chosen false trail))) (trail ∷ [])) h
 
 -- ---- no walk ends without a trail
-
-some_cond : (c : Bool) (xs ys : List TrailForm) → 1 ≤ length xs → 1 ≤ length ys →
-    1 ≤ length (cond c xs ys)
-some_cond true xs ys one two = one
-some_cond false xs ys one two = two
-
-some_both : (f g : TrailForm → TrailForm) (xs ys : List TrailForm) → 1 ≤ length xs →
-    1 ≤ length (map f xs ++ map g ys)
-some_both f g xs ys one =
-    let both = length-append (map f xs) (map g ys) in
-    let same = length-map xs f in
-    omega arith
 
 pub some_ways : (count from : ℕ) (right : TypedTree) (trail : TrailForm) →
     1 ≤ length (with_own_ways count from right trail)
@@ -262,10 +237,7 @@ arm_left f old given arm now later left marked start at some same is behind here
 
 pub one_too_many : (trails : List Trail) (trail : TrailForm) → 4096 ≤ length trails
     → 4096 < length (trail_forms trails ++ trail ∷ [])
-one_too_many trails trail full =
-    let same = length-map trails trail_form in
-    let more = length-append (trail_forms trails) (trail ∷ []) in
-    omega (arith, same, more)
+one_too_many trails trail full = over_most trail_form trails trail full
 
 -- ---- the trails before a statement, one by one
 

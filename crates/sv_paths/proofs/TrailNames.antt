@@ -1,7 +1,7 @@
 -- What the names of a trail say: which names stand there that are not wanted, and how often the
 -- others do.
 use Rattle.std.proofs.Common.{◌≡◌, ℕ, zero, suc, ◌+◌, ◌-◌, ◌<◌, ◌≤◌, Bool, true, false, cond, ◌&&◌}
-use Rattle.std.proofs.Common.{◌||◌, ◌==◌, not, min, nat_lt, nat_le, List, [], ◌∷◌, length, filter}
+use Rattle.std.proofs.Common.{◌||◌, ◌==◌, not, min, nat_lt, nat_le, List, [], ◌∷◌, length}
 use Rattle.std.proofs.Common.{fold, Option, Some, None, nat_cmp, refl, sym, ap, ap₂, ◌∙◌, arith}
 use Rattle.std.proofs.Common.{eq-eqb, ne_eqb, zero-add, ltb-true}
 use Rattle.std.specs.Prelude.{unwrap_or}
@@ -13,6 +13,7 @@ use Rattle.std.proofs.lemmas.Bool.{eqb-true, false≢true, ltb-false, leb-true, 
 use Rattle.sv_flat.specs.Design.{SignalForm, PieceForm}
 use Rattle.sv_flat.specs.Sets.{those}
 use Rattle.sv_flat.specs.Soundness.{is_whole}
+use Rattle.sv_rules.proofs.TableFacts.{filter_within}
 use Rattle.sv_obl.specs.Paths.{pieces_of, covers}
 use Rattle.sv_paths.specs.Trails.{NamesForm, no_names, times_wanted, with_wanted, with_name}
 use Rattle.sv_paths.specs.Trails.{with_each}
@@ -69,13 +70,6 @@ entry_times k = by_test (k == 0) refl
     by_test : (b : Bool) → (k == 0) ≡ b → unwrap_or (cond b None (Some k)) 0 ≡ k
     by_test true is = sym (eqb-true k 0 is)
     by_test false is = refl
-
-pub range_alike : (f g : ℕ → Bool) (a m : ℕ) → ((x : ℕ) → x < a + m → f x ≡ g x)
-    → filter f (range_with_len a m) ≡ filter g (range_with_len a m)
-range_alike f g a zero same = refl
-range_alike f g a (suc m) same =
-    ap₂ (λ b ys. cond b (a ∷ ys) ys) (same a (omega arith))
-    (range_alike f g (a + 1) m (λ x low. same x (omega arith)))
 
 -- where there are so many signals
 module _ (n : ℕ) where
@@ -140,7 +134,7 @@ module _ (n : ℕ) where
     settled_same : n ≤ y → names.settled ≡ those n (λ x. not (min (more x) 65537 == 0))
     settled_same high =
         tells.settled
-        ∙ range_alike (λ x. not (min (c x) 65537 == 0)) (λ x. not (min (more x) 65537 == 0)) 0 n
+        ∙ filter_within (λ x. not (min (c x) 65537 == 0)) (λ x. not (min (more x) 65537 == 0)) 0 n
         (λ x low. ap (λ m. not (min m 65537 == 0)) (other x (λ e. absurd (omega arith))))
 
     abbrev put : ℕ
@@ -291,7 +285,7 @@ module _ (signals : List SignalForm) where
         }) (left true)
     taken_out = record {
       settled = tells.settled
-          ∙ range_alike (λ x. not (min (c x) 65537 == 0))
+          ∙ filter_within (λ x. not (min (c x) 65537 == 0))
           (λ x. not (min (left true x) 65537 == 0)) 0 (length signals)
           (λ x low. ap (λ b. not (min (cond (b && (p.signal == x - length signals)) 0 (c x)) 65537
           == 0)) (sym (signal_low x (omega arith))));

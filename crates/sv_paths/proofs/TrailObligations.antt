@@ -1,5 +1,5 @@
 -- The obligations of a target through a process are those of its trails.
-use Rattle.std.proofs.Common.{◌≡◌, ℕ, suc, false, cond, ◌||◌, nat_lt, min, List, []}
+use Rattle.std.proofs.Common.{◌≡◌, ℕ, false, cond, nat_lt, min, List, []}
 use Rattle.std.proofs.Common.{◌∷◌, length, map, Some, refl, sym, ap, ap₂, ◌∙◌, arith}
 use Rattle.std.proofs.Common.{◌<◌, ◌==◌, not, reverse, All, ⊎_elim, subst}
 use Rattle.std.specs.Prelude.{Contains}
@@ -17,6 +17,7 @@ use Rattle.sv_obl.specs.Obligations.{Obligation, flow, is_link, frame_of, path_o
 use Rattle.sv_obl.specs.Paths.{StepForm, Path, open_path, before, closed, paths}
 use Rattle.sv_paths.specs.Trails.{TrailForm, open_trail, trails_before}
 use Rattle.sv_obl.specs.Wanted.{marked}
+use Rattle.sv_obl.proofs.PathLists.{zip_any, zip_count}
 use Rattle.sv_paths.proofs.TrailAlong.{Goes, AllGo, all_go, steps_found}
 use Rattle.sv_paths.proofs.TrailClosing.{marks_are, obligation_is}
 use Rattle.sv_paths.proofs.TrailCounts.{count}
@@ -67,19 +68,14 @@ module _ (design : FlatDesign) (p : ProcessForm) (s : ℕ) (body : FlatStatement
   large_same : (ps : List Path) (ts : List TrailForm) → AllTell signals s ps ts
       → list_any (λ (path : Path). nat_lt 65536 path.nodes) (map close_path ps)
       ≡ list_any is_large_trail ts
-  large_same [] [] tell = refl
-  large_same [] (t ∷ ts) tell = elim tell [ ]
-  large_same (path ∷ ps) [] tell = elim tell [ ]
-  large_same (path ∷ ps) (t ∷ ts) tell =
-      ap₂ (λ a b. a || b) (capped_same path.nodes ∙ ap (nat_lt 65536) (sym (tell.0).nodes))
-      (large_same ps ts tell.1)
+  large_same ps ts tell =
+      zip_any (Tells signals s) close_path (λ (path : Path). nat_lt 65536 path.nodes)
+      is_large_trail (λ path t tells. capped_same path.nodes ∙ ap (nat_lt 65536) (sym tells.nodes))
+      ps ts tell
 
   count_same : (ps : List Path) (ts : List TrailForm) → AllTell signals s ps ts
       → length (map close_path ps) ≡ length ts
-  count_same [] [] tell = refl
-  count_same [] (t ∷ ts) tell = elim tell [ ]
-  count_same (path ∷ ps) [] tell = elim tell [ ]
-  count_same (path ∷ ps) (t ∷ ts) tell = ap suc (count_same ps ts tell.1)
+  count_same ps ts tell = zip_count (Tells signals s) close_path ps ts tell
 
   -- the conditions along a trail, as a line shows them
   marks_along : (ps : List Path) (ts : List TrailForm) → AllTell signals s ps ts → all_going ps ts

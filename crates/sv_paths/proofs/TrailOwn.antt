@@ -18,6 +18,7 @@ use Rattle.sv_obl.specs.Routes.{names_in}
 use Rattle.sv_paths.specs.Trails.{own_name, whole_from}
 use Rattle.sv_obl.specs.Wanted.{with_copies, is_copy, original, wanted_name, piece_value}
 use Rattle.sv_obl.specs.Wanted.{with_piece_put, put_value, pieces_put, put_in}
+use Rattle.sv_obl.proofs.TreeFacts.{part_read}
 use Rattle.sv_paths.proofs.TrailNames.{signal_low}
 
 some_same : (a b : ℕ) → Some a ≡ Some b → a ≡ b
@@ -165,37 +166,27 @@ module _ (signals : List SignalForm) where
           by_some is true = own_wanted (t - length signals) place
           by_some is false = ap (λ b. cond b None (Some (t - length signals))) is
 
-          by_test : (b : Bool) → nat_lt t (length signals) ≡ b
-              → own_name (length signals) (typed w signed (for_whole
-              (cond (is_copy signals t && some_of pieces (original signals t))
+          -- the name, where it is a copy or not
+          abbrev seen : Bool → Option ℕ
+          seen c = own_name (length signals) (typed w signed (for_whole
+              (cond (c && some_of pieces (original signals t))
               (content (original signals t)
               (put_value signals pieces way (original signals t) place)) (name t)) place))
+
+          by_test : (b : Bool) → nat_lt t (length signals) ≡ b
+              → seen (is_copy signals t)
               ≡ own_after pieces (cond b None (Some (t - length signals)))
           by_test true is =
-              ap (λ c. own_name (length signals) (typed w signed (for_whole
-              (cond (c && some_of pieces (original signals t))
-              (content (original signals t)
-              (put_value signals pieces way (original signals t) place)) (name t)) place)))
-              (copy_of_low t is)
-              ∙ ap (λ b. cond b None (Some (t - length signals))) is
+              ap seen (copy_of_low t is) ∙ ap (λ b. cond b None (Some (t - length signals))) is
           by_test false is =
-              ap (λ c. own_name (length signals) (typed w signed (for_whole
-              (cond (c && some_of pieces (original signals t))
-              (content (original signals t)
-              (put_value signals pieces way (original signals t) place)) (name t)) place)))
-              (copy_of_high t is)
-              ∙ by_some is (some_of pieces (original signals t))
+              ap seen (copy_of_high t is) ∙ by_some is (some_of pieces (original signals t))
       own_put (typed w signed (held t e)) = own_put e
       own_put (typed w signed (read_bit t place i)) =
           bit_none w signed (pieces_put signals pieces way (indexed_read both t place i)) place
           (put_in signals pieces way i)
       own_put (typed w signed (read_part t place high low)) =
-          part_none w signed (pieces_put signals pieces way (record {
-            signal = t;
-            place = place;
-            high = high;
-            low = low;
-          })) place high low
+          part_none w signed (pieces_put signals pieces way (part_read t place high low)) place high
+          low
       own_put e = refl
 
     -- ---- what pieces leave

@@ -9,9 +9,10 @@ use Rattle.sv_obl.specs.Paths.{Path, open_path, under, with_way, ways_taken, bef
 use Rattle.sv_paths.specs.Trails.{TrailForm, open_trail, takes, chosen, marked_by, with_assign}
 use Rattle.sv_paths.specs.Trails.{trails_before}
 use Rattle.sv_obl.proofs.PathRuns.{step_of}
+use Rattle.sv_obl.proofs.PathLists.{zip_append, zip_map, zip_flat}
 use Rattle.sv_paths.proofs.TrailPuts.{Lone}
-use Rattle.sv_paths.proofs.TrailTells.{mark_of, Tells, AllTell, one_tells, tell_append, tell_map}
-use Rattle.sv_paths.proofs.TrailTells.{tell_flat, open_tells, under_tells, chosen_tells, taken_is}
+use Rattle.sv_paths.proofs.TrailTells.{mark_of, Tells, AllTell, one_tells}
+use Rattle.sv_paths.proofs.TrailTells.{open_tells, under_tells, chosen_tells, taken_is}
 use Rattle.sv_paths.proofs.TrailAssigns.{assign_tells}
 
 module _ (signals : List SignalForm) where
@@ -32,7 +33,7 @@ module _ (signals : List SignalForm) (s : ℕ) where
       → AllTell signals s (before signals s statement p) (trails_before signals s statement t)
   before_tell nothing lone below p t tells = one_tells signals s p t tells
   before_tell (after first second) lone below p t tells =
-      tell_flat signals s (before signals s first) (trails_before signals s first)
+      zip_flat (Tells signals s) (before signals s first) (trails_before signals s first)
       (before_tell first lone.0
       (λ k is. below k (or_left (assigns first k) (assigns second k) is)))
       (before signals s second p) (trails_before signals s second t)
@@ -58,28 +59,30 @@ module _ (signals : List SignalForm) (s : ℕ) where
       (trails_before signals s (branch place condition first second) t))
       (sym (taken_is signals s p t tells (branch place condition first second) below))
       (by_test (takes (branch place condition first second) t) _ _
-      (tell_append signals s
+      (zip_append (Tells signals s)
       (map (under (step_of place condition true)) (before signals s first p))
       (map (under (step_of place condition false)) (before signals s second p))
       (map (marked_by (length signals) (mark_of (step_of place condition true)) condition)
       (trails_before signals s first (chosen true t)))
       (map (marked_by (length signals) (mark_of (step_of place condition false)) condition)
       (trails_before signals s second (chosen false t)))
-      (tell_map signals s (under (step_of place condition true))
-      (marked_by (length signals) (mark_of (step_of place condition true)) condition)
-      (under_tells signals s (step_of place condition true))
-      (before signals s first p) (trails_before signals s first (chosen true t))
+      (arm_tells true (before signals s first p) (trails_before signals s first (chosen true t))
       (before_tell first lone.0
       (λ k is. below k (or_left (assigns first k) (assigns second k) is)) p (chosen true t)
       (chosen_tells signals s true p t tells)))
-      (tell_map signals s (under (step_of place condition false))
-      (marked_by (length signals) (mark_of (step_of place condition false)) condition)
-      (under_tells signals s (step_of place condition false))
-      (before signals s second p) (trails_before signals s second (chosen false t))
+      (arm_tells false (before signals s second p) (trails_before signals s second (chosen false t))
       (before_tell second lone.1
       (λ k is. below k (or_right (assigns first k) (assigns second k) is)) p (chosen false t)
       (chosen_tells signals s false p t tells)))))
     where
+      arm_tells : (truth : Bool) (ps : List Path) (ts : List TrailForm) → AllTell signals s ps ts
+          → AllTell signals s (map (under (step_of place condition truth)) ps)
+          (map (marked_by (length signals) (mark_of (step_of place condition truth)) condition) ts)
+      arm_tells truth =
+          zip_map (Tells signals s) (under (step_of place condition truth))
+          (marked_by (length signals) (mark_of (step_of place condition truth)) condition)
+          (under_tells signals s (step_of place condition truth))
+
       by_test : (c : Bool) (ps : List Path) (ts : List TrailForm) → AllTell signals s ps ts
           → AllTell signals s (cond c ps (p ∷ [])) (cond c ts (t ∷ []))
       by_test true ps ts all = all

@@ -44,36 +44,37 @@ module _ (signals : List SignalForm) where
   abbrev pub AllLie : List PieceForm → Type 0
   AllLie ps = (p : PieceForm) → Contains ps p → Lies p
 
-  -- what is the whole signal has a bit in common with every piece of it
-  whole_first : (w q : PieceForm) → IsTrue (is_whole signals w) → w.signal ≡ q.signal → Lies q →
-      overlap w q ≡ true
-  whole_first w q whole same lies =
+  -- what is the whole signal begins no later than a piece of it ends, and ends no sooner than it
+  -- begins
+  whole_around : (w q : PieceForm) → IsTrue (is_whole signals w) → w.signal ≡ q.signal → Lies q →
+      (w.low ≤ q.high) × (q.low ≤ w.high)
+  whole_around w q whole same lies =
       let low = eqb-true w.low 0
       (first_of (w.low == 0) (w.high + 1 == signal_width signals w.signal) whole) in
       let high = eqb-true (w.high + 1) (signal_width signals w.signal)
       (second_of (w.low == 0) (w.high + 1 == signal_width signals w.signal) whole) in
       let width = ap (signal_width signals) same in
       let ordered = lies.0 in
-      let inside = lies.1 in
-      both_true ((w.signal == q.signal) && nat_le w.low q.high) (nat_le q.low w.high)
-      (both_true (w.signal == q.signal) (nat_le w.low q.high) (eq-eqb w.signal q.signal same)
-      (le-leb w.low q.high (omega arith)))
-      (le-leb q.low w.high (omega arith))
+      let inside = lies.1 in (omega arith, omega arith)
+
+  common : (p q : PieceForm) → p.signal ≡ q.signal → p.low ≤ q.high → q.low ≤ p.high →
+      overlap p q ≡ true
+  common p q same first second =
+      both_true ((p.signal == q.signal) && nat_le p.low q.high) (nat_le q.low p.high)
+      (both_true (p.signal == q.signal) (nat_le p.low q.high) (eq-eqb p.signal q.signal same)
+      (le-leb p.low q.high first))
+      (le-leb q.low p.high second)
+
+  -- so it has a bit in common with it
+  whole_first : (w q : PieceForm) → IsTrue (is_whole signals w) → w.signal ≡ q.signal → Lies q →
+      overlap w q ≡ true
+  whole_first w q whole same lies =
+      let around = whole_around w q whole same lies in common w q same around.0 around.1
 
   whole_second : (w q : PieceForm) → IsTrue (is_whole signals w) → w.signal ≡ q.signal → Lies q →
       overlap q w ≡ true
   whole_second w q whole same lies =
-      let low = eqb-true w.low 0
-      (first_of (w.low == 0) (w.high + 1 == signal_width signals w.signal) whole) in
-      let high = eqb-true (w.high + 1) (signal_width signals w.signal)
-      (second_of (w.low == 0) (w.high + 1 == signal_width signals w.signal) whole) in
-      let width = ap (signal_width signals) same in
-      let ordered = lies.0 in
-      let inside = lies.1 in
-      both_true ((q.signal == w.signal) && nat_le q.low w.high) (nat_le w.low q.high)
-      (both_true (q.signal == w.signal) (nat_le q.low w.high) (eq-eqb q.signal w.signal (sym same))
-      (le-leb q.low w.high (omega arith)))
-      (le-leb w.low q.high (omega arith))
+      let around = whole_around w q whole same lies in common q w (sym same) around.1 around.0
 
   module _ (o : ℕ) where
     none_after : (ps before : List PieceForm) → Untwice before ps → AllLie ps

@@ -12,7 +12,7 @@ use Rattle.sv_flat.specs.Admission.{IsAdmitted}
 use Rattle.sv_flat.specs.Clocks.{processes_of}
 use Rattle.sv_flat.specs.Design.{FlatStatement}
 use Rattle.sv_flat.specs.Design.{ProcessForm, ProcessKind, combinational, FlatDesign}
-use Rattle.sv_flat.specs.Processes.{is_clocked, is_block, drivers}
+use Rattle.sv_flat.specs.Processes.{is_clocked, is_block}
 use Rattle.sv_flat.specs.Readings.{no_bits}
 use Rattle.sv_flat.specs.SignalLists.{driver_of}
 use Rattle.sv_flat.specs.Soundness.{sound, is_signal}
@@ -21,15 +21,15 @@ use Rattle.sv_paths.specs.Alongs.{WayForm, open_way, along, trail_obligation}
 use Rattle.sv_paths.specs.Alongs.{conditions_along, trails_excess}
 use Rattle.sv_paths.specs.Answers.{excess_at}
 use Rattle.sv_paths.specs.ListLines.{step_word}
-use Rattle.sv_paths.specs.Limits.{Excess, many_paths, large_path, many_obligations, target_paths}
+use Rattle.sv_paths.specs.Limits.{Excess, many_paths, large_path, many_obligations}
 use Rattle.sv_obl.specs.MarkedBodies.{marked_statement, IsMarkedOf}
 use Rattle.sv_obl.specs.Obligations.{flow, is_link, frame_of, path_obligation, target_obligations}
 use Rattle.sv_obl.specs.Paths.{Path, step_with, paths}
 use Rattle.sv_paths.specs.Trails.{TrailForm, open_trail, trails_before}
 use Rattle.sv_obl.specs.Wanted.{closed_tree, marked}
 use Rattle.sv_paths.specs.Written.{mark_word}
-use Rattle.sv_obl.proofs.OneDriver.{one_driver_at}
 use Rattle.sv_paths.proofs.SameWalks.{same_trails, same_along}
+use Rattle.sv_paths.proofs.TargetFacts.{driver_there, driver_alone, paths_are}
 use Rattle.sv_paths.proofs.TrailDesigns.{marked_pieces, marked_signals}
 use Rattle.sv_paths.proofs.TrailObligations.{target_is, target_large, target_count, target_marks}
 use Rattle.sv_paths.proofs.TrailObligations.{target_names}
@@ -54,16 +54,7 @@ module _ (design : FlatDesign) (is_sound : IsTrue (sound design)) (admitted : Is
   trails = trails_before design.signals s (marked_statement x) (open_trail s)
 
   at : Contains (processes_of design) p
-  at = subst (Contains (processes_of design)) there
-      (one_driver_at design is_sound admitted s known k p driven).0
-
-  alone : drivers (processes_of design) s ≡ p ∷ []
-  alone = (one_driver_at design is_sound admitted s known k p driven).2
-      ∙ ap (λ q. q ∷ []) there
-
-  paths_are : target_paths design s ≡ paths design.signals s p.kind p.body
-  paths_are = ap (flat_map (λ (q : ProcessForm). paths design.signals s q.kind q.body)) alone
-      ∙ append-nil (paths design.signals s p.kind p.body)
+  at = driver_there design is_sound admitted s known k p driven there
 
   unclocked : is_clocked p.kind ≡ false
   unclocked = unclocked_block p.kind block
@@ -89,7 +80,8 @@ module _ (design : FlatDesign) (is_sound : IsTrue (sound design)) (admitted : Is
       ap (trails_excess s total) trails_are
       ∙ sym (
       ap (λ found. excess_of total (length found) (list_any (λ (path : Path).
-      nat_lt 65536 path.nodes) found)) paths_are
+      nat_lt 65536 path.nodes) found))
+      (paths_are design is_sound admitted s known k p driven there)
       ∙ ap₂ (excess_of total)
       (target_count design p s unclocked (marked_pieces design is_sound admitted p at)
       (marked_signals design is_sound admitted p at))
@@ -120,7 +112,8 @@ module _ (design : FlatDesign) (is_sound : IsTrue (sound design)) (admitted : Is
       ∙ all_walks (trails_before design.signals s body (open_trail s))
       ∙ sym (
       ap (flat_map (λ (q : ProcessForm).
-      map (path_obligation [] design q s) (paths design.signals s q.kind q.body))) alone
+      map (path_obligation [] design q s) (paths design.signals s q.kind q.body)))
+      (driver_alone design is_sound admitted s known k p driven there)
       ∙ append-nil (map (path_obligation [] design p s) (paths design.signals s p.kind p.body))
       ∙ target_is design p s unclocked (marked_pieces design is_sound admitted p at)
       (marked_signals design is_sound admitted p at))

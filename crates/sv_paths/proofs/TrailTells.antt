@@ -3,7 +3,7 @@ use Rattle.std.proofs.Common.{◌≡◌, ℕ, ◌+◌, ◌<◌, Bool, true, fals
 use Rattle.std.proofs.Common.{min, List, [], ◌∷◌, ◌++◌, length, map, reverse, flat_map, Option, Some}
 use Rattle.std.proofs.Common.{None, is_none, refl, sym, ap, ap₂, ◌∙◌, arith, eq-eqb, ne_eqb}
 use Rattle.std.specs.Prelude.{IsTrue, is_some, option_to_list}
-use Rattle.std.specs.List.{list_any, range_with_len}
+use Rattle.std.specs.List.{list_any, range_with_len, AllZip}
 use Rattle.std.proofs.lemmas.Bool.{false≢true, eqb-true}
 use Rattle.std.proofs.lemmas.List.{reverse-append}
 use Rattle.std.proofs.lemmas.List.Folds.{list_any-append}
@@ -35,6 +35,15 @@ turned a b c = omega arith
 abbrev pub mark_of : StepForm → StepMark
 mark_of step = record { truth = step.truth; place = step.place }
 
+-- a count that stops at 65,537 is 0 where the count is
+pub capped_zero : (k : ℕ) → (min k 65537 == 0) ≡ (k == 0)
+capped_zero k = by_test (k == 0) refl
+  where
+    by_test : (b : Bool) → (k == 0) ≡ b → (min k 65537 == 0) ≡ b
+    by_test true is = let e = eqb-true k 0 is in eq-eqb (min k 65537) 0 (omega arith)
+    by_test false is = ne_eqb (min k 65537) 0
+        (λ e. false≢true (sym is ∙ eq-eqb k 0 (omega arith)))
+
 module _ (signals : List SignalForm) (s : ℕ) where
   abbrev both : List SignalForm
   both = with_copies signals
@@ -60,41 +69,10 @@ module _ (signals : List SignalForm) (s : ℕ) where
     pub first : is_none t.place ≡ true → t.own ≡ Some s
 
   abbrev pub AllTell : List Path → List TrailForm → Type 0
-  AllTell [] [] = Unit {0}
-  AllTell (p ∷ ps) (t ∷ ts) = Tells p t × AllTell ps ts
-  AllTell [] (t ∷ ts) = ⊥
-  AllTell (p ∷ ps) [] = ⊥
+  AllTell ps ts = AllZip Tells ps ts
 
   pub one_tells : (p : Path) (t : TrailForm) → Tells p t → AllTell (p ∷ []) (t ∷ [])
   one_tells p t tells = (tells, tt)
-
-  pub tell_append : (ps qs : List Path) (ts us : List TrailForm) → AllTell ps ts → AllTell qs us →
-      AllTell (ps ++ qs) (ts ++ us)
-  tell_append [] qs (t ∷ ts) us one two = elim one [ ]
-  tell_append (p ∷ ps) qs [] us one two = elim one [ ]
-  tell_append [] qs [] us one two = two
-  tell_append (p ∷ ps) qs (t ∷ ts) us one two =
-      (one.0, tell_append ps qs ts us one.1 two)
-
-  pub tell_map : (f : Path → Path) (g : TrailForm → TrailForm)
-      → ((p : Path) (t : TrailForm) → Tells p t → Tells (f p) (g t))
-      → (ps : List Path) (ts : List TrailForm) → AllTell ps ts → AllTell (map f ps) (map g ts)
-  tell_map f g each [] (t ∷ ts) all = elim all [ ]
-  tell_map f g each (p ∷ ps) [] all = elim all [ ]
-  tell_map f g each [] [] all = all
-  tell_map f g each (p ∷ ps) (t ∷ ts) all =
-      (each p t all.0, tell_map f g each ps ts all.1)
-
-  pub tell_flat : (f : Path → List Path) (g : TrailForm → List TrailForm)
-      → ((p : Path) (t : TrailForm) → Tells p t → AllTell (f p) (g t))
-      → (ps : List Path) (ts : List TrailForm) → AllTell ps ts
-      → AllTell (flat_map f ps) (flat_map g ts)
-  tell_flat f g each [] (t ∷ ts) all = elim all [ ]
-  tell_flat f g each (p ∷ ps) [] all = elim all [ ]
-  tell_flat f g each [] [] all = all
-  tell_flat f g each (p ∷ ps) (t ∷ ts) all =
-      tell_append (f p) (flat_map f ps) (g t) (flat_map g ts) (each p t all.0)
-      (tell_flat f g each ps ts all.1)
 
   -- ---- the open path
 
@@ -166,17 +144,12 @@ module _ (signals : List SignalForm) (s : ℕ) where
   some_counted : (k : ℕ) → is_some (entry (min k 65537)) ≡ not (k == 0)
   some_counted k = by_test (k == 0) refl
     where
-      same_zero : (b : Bool) → (k == 0) ≡ b → (min k 65537 == 0) ≡ b
-      same_zero true is = let e = eqb-true k 0 is in eq-eqb (min k 65537) 0 (omega arith)
-      same_zero false is = ne_eqb (min k 65537) 0
-          (λ e. false≢true (sym is ∙ eq-eqb k 0 (omega arith)))
-
       by_test : (b : Bool) → (k == 0) ≡ b → is_some (entry (min k 65537)) ≡ not (k == 0)
       by_test true is =
-          ap (λ c. is_some (cond c None (Some (min k 65537)))) (same_zero true is)
+          ap (λ c. is_some (cond c None (Some (min k 65537)))) (capped_zero k ∙ is)
           ∙ ap not (sym is)
       by_test false is =
-          ap (λ c. is_some (cond c None (Some (min k 65537)))) (same_zero false is)
+          ap (λ c. is_some (cond c None (Some (min k 65537)))) (capped_zero k ∙ is)
           ∙ ap not (sym is)
 
   module _ (p : Path) (t : TrailForm) (tells : Tells p t) where

@@ -32,21 +32,21 @@ module _ {X Y : Type 0} (f : X → List Y) (some : (x : X) → 1 ≤ length (f x
       let both = length-append (f x) (flat_map f xs) in
       omega arith
 
+pub some_cond : {X : Type 0} (c : Bool) (xs ys : List X) → 1 ≤ length xs → 1 ≤ length ys →
+    1 ≤ length (cond c xs ys)
+some_cond true xs ys one two = one
+some_cond false xs ys one two = two
+
+pub some_both : {X : Type 0} (f g : X → X) (xs ys : List X) → 1 ≤ length xs →
+    1 ≤ length (map f xs ++ map g ys)
+some_both f g xs ys one =
+    let both = length-append (map f xs) (map g ys) in
+    let same = length-map xs f in
+    omega arith
+
 -- ---- no walk ends without a route
 
 module _ (signals : List SignalForm) (s : ℕ) where
-  some_cond : (c : Bool) (xs ys : List RouteForm) → 1 ≤ length xs → 1 ≤ length ys →
-      1 ≤ length (cond c xs ys)
-  some_cond true xs ys one two = one
-  some_cond false xs ys one two = two
-
-  some_both : (f g : RouteForm → RouteForm) (xs ys : List RouteForm) → 1 ≤ length xs →
-      1 ≤ length (map f xs ++ map g ys)
-  some_both f g xs ys one =
-      let both = length-append (map f xs) (map g ys) in
-      let same = length-map xs f in
-      omega arith
-
   some_ways : (pieces : List PieceForm) (right : TypedTree) (route : RouteForm) →
       1 ≤ length (with_ways signals s pieces right route)
   some_ways pieces (typed w signed (choice place c a b)) route =
@@ -91,12 +91,17 @@ fails_early forms more routes after e (Err y) less same h =
     subst (λ x. Adds more after (Err x)) (sym same)
     (ends_early forms more routes after e less h)
 
+-- one more than are passed at most
+pub over_most : {X F : Type 0} (form : X → F) (xs : List X) (x : F) → 4096 ≤ length xs
+    → 4096 < length (map form xs ++ x ∷ [])
+over_most form xs x full =
+    let same = length-map xs form in
+    let more = length-append (map form xs) (x ∷ []) in
+    omega (arith, same, more)
+
 pub one_too_many : (routes : List Route) (route : RouteForm) → 4096 ≤ length routes
     → 4096 < length (route_forms routes ++ route ∷ [])
-one_too_many routes route full =
-    let same = length-map routes route_form in
-    let more = length-append (route_forms routes) (route ∷ []) in
-    omega (arith, same, more)
+one_too_many routes route full = over_most route_form routes route full
 
 -- ---- the routes or the trails before a part, one by one
 

@@ -10,19 +10,20 @@ use Rattle.std.specs.Ordering.{is_eq, match_ordering}
 use Rattle.std.proofs.lemmas.Bool.{cases_eq, cases_lt, eqb-true, false≢true}
 use Rattle.sv_paths.proofs.NumberSets.{compare_less, compare_equal, compare_greater}
 
+beyond : (k n : ℕ) → (k ≡ n → ⊥) → n ≤ k → n < k
+beyond k n other more =
+    ⊎_elim (λ less. less) (λ back. absurd (other (omega arith))) (cases_lt n k)
+
 pub at_is : (s k : ℕ) → is_at (nat_cmp s) k ≡ (k == s)
 at_is s k = ⊎_elim
     (λ same. ap is_eq (compare_equal s k same) ∙ sym (eq-eqb k s (sym same)))
     (λ other. ⊎_elim
     (λ less. ap is_eq (compare_less s k less)
     ∙ sym (ne_eqb k s (λ e. absurd (omega arith))))
-    (λ more. ap is_eq (compare_greater s k (apart other more))
+    (λ more. ap is_eq (compare_greater s k (beyond s k other more))
     ∙ sym (ne_eqb k s (λ e. other (sym e))))
     (cases_lt s k))
     (cases_eq s k)
-  where
-    apart : (s ≡ k → ⊥) → k ≤ s → k < s
-    apart other more = ⊎_elim (λ less. less) (λ back. absurd (other (omega arith))) (cases_lt k s)
 
 -- what stands at a key
 abbrev pub find : (key : ℕ) → List (ℕ × ℕ) → Option ℕ
@@ -84,15 +85,11 @@ module _ (k v : ℕ) where
       (λ same. subst (From b) (sym (put_equal e es same)) (from.0, from.1))
       (λ other. ⊎_elim
       (λ less. subst (From b) (sym (put_less e es less)) (low, (omega arith, from.1)))
-      (λ more. let after = apart other more in
+      (λ more. let after = beyond k e.0 other more in
       subst (From b) (sym (put_greater e es after))
       (from.0, from_put (e.0 + 1) es (omega arith) from.1))
       (cases_lt k e.0))
       (cases_eq k e.0)
-    where
-      apart : (k ≡ e.0 → ⊥) → e.0 ≤ k → e.0 < k
-      apart other more =
-          ⊎_elim (λ less. less) (λ back. absurd (other (omega arith))) (cases_lt e.0 k)
 
   pub find_put : (s : ℕ) (es : List (ℕ × ℕ)) →
       find s (insert_entry nat_cmp es k v) ≡ cond (k == s) (Some v) (find s es)
@@ -104,17 +101,13 @@ module _ (k v : ℕ) where
       ∙ ap (λ y. cond (k == s) (Some v) (cond (y == s) (Some e.1) (find s es))) same)
       (λ other. ⊎_elim
       (λ less. ap (find s) (put_less e es less))
-      (λ more. ap (find s) (put_greater e es (apart other more))
+      (λ more. ap (find s) (put_greater e es (beyond k e.0 other more))
       ∙ ap (λ o. cond (e.0 == s) (Some e.1) o) (find_put s es)
       ∙ turned (Some e.1) (Some v) (find s es) (e.0 == s) (k == s)
       (λ one two. other (eqb-true k s two ∙ sym (eqb-true e.0 s one))))
       (cases_lt k e.0))
       (cases_eq k e.0)
     where
-      apart : (k ≡ e.0 → ⊥) → e.0 ≤ k → e.0 < k
-      apart other more =
-          ⊎_elim (λ less. less) (λ back. absurd (other (omega arith))) (cases_lt e.0 k)
-
       twice : (b : Bool)
           → cond b (Some v) (find s es) ≡ cond b (Some v) (cond b (Some e.1) (find s es))
       twice true = refl

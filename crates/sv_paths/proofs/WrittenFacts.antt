@@ -354,20 +354,26 @@ third_is_false false false true x y z h = absurd (no_some z h)
     no_some x e = cc
 third_is_false false false false x y z h = refl
 
+few_found : {X F : Type 0} (form : X → F) (is_large : F → Bool) (s total : ℕ) (forms : List F)
+    (xs : List X)
+    → cond (nat_lt 4096 (length forms)) (Some (many_paths s))
+    (cond (list_any is_large forms) (Some (large_path s))
+    (cond (nat_lt 65536 (total + length forms)) (Some many_obligations) None)) ≡ None
+    → map form xs ≡ forms → total + length xs ≤ 65536
+few_found form is_large s total forms xs none are =
+    let few = ltb-false 65536 (total + length forms)
+    (third_is_false (nat_lt 4096 (length forms)) (list_any is_large forms)
+    (nat_lt 65536 (total + length forms)) (many_paths s) (large_path s) many_obligations none) in
+    subst (λ n. total + n ≤ 65536) (sym (ap length are) ∙ length_mapped form xs) few
+
 pub few_routes : (s total : ℕ) (forms : List RouteForm) (routes : List Route)
     → target_excess s total forms ≡ None → route_forms routes ≡ forms
     → total + length routes ≤ 65536
 few_routes s total forms routes none are =
-    let few = ltb-false 65536 (total + length forms)
-    (third_is_false (nat_lt 4096 (length forms)) (list_any is_large forms)
-    (nat_lt 65536 (total + length forms)) (many_paths s) (large_path s) many_obligations none) in
-    subst (λ n. total + n ≤ 65536) (sym (ap length are) ∙ length_mapped route_form routes) few
+    few_found route_form is_large s total forms routes none are
 
 pub few_trails : (s total : ℕ) (forms : List TrailForm) (trails : List Trail)
     → trails_excess s total forms ≡ None → trail_forms trails ≡ forms
     → total + length trails ≤ 65536
 few_trails s total forms trails none are =
-    let few = ltb-false 65536 (total + length forms)
-    (third_is_false (nat_lt 4096 (length forms)) (list_any is_large_trail forms)
-    (nat_lt 65536 (total + length forms)) (many_paths s) (large_path s) many_obligations none) in
-    subst (λ n. total + n ≤ 65536) (sym (ap length are) ∙ length_mapped trail_form trails) few
+    few_found trail_form is_large_trail s total forms trails none are

@@ -42,6 +42,15 @@ pub number_words-push : (c : List ℕ) (n : ℕ) →
     number_words (c ++ n ∷ []) ≡ number_words c ++ word (decimal n)
 number_words-push c n = sym (flat_map_more (λ number. word (decimal number)) [] c n)
 
+-- what is read so far, with the next word
+with_word : (words item now line rest first more : List ℕ) → line ≡ words ++ rest →
+    rest ≡ first ++ 32 ∷ more → first ≡ item → now ≡ words ++ word item → line ≡ now ++ more
+with_word words item now line rest first more so_far parts is grows =
+    so_far ∙ ap (λ z. words ++ z) (parts ∙ ap (λ z. z ++ 32 ∷ more) is
+    ∙ sym (append_assoc item (32 ∷ []) more))
+    ∙ sym (append_assoc words (word item) more)
+    ∙ ap (λ z. z ++ more) (sym grows)
+
 -- text that begins with a word goes on behind its blank
 pub word_then : (w xs rest : List ℕ) → (word w ++ xs) ++ rest ≡ w ++ 32 ∷ (xs ++ rest)
 word_then w xs rest = append_assoc (word w) xs rest ∙ append_assoc w (32 ∷ []) (xs ++ rest)
@@ -123,11 +132,8 @@ module _ (line : List ℕ) (clause : List ℤ) (above : ℕ) (rest first more : 
   literals_more l now small is far e =
       record {
         so_far =
-            r.so_far ∙ ap (λ z. literal_words clause ++ z) (parts ∙ ap (λ z. z ++ 32 ∷ more) is
-            ∙ sym (append_assoc (signed_decimal l) (32 ∷ []) more))
-            ∙ sym (append_assoc (literal_words clause) (word (signed_decimal l)) more)
-            ∙ ap (λ z. z ++ more) (sym (literal_words-push clause l))
-            ∙ ap (λ z. literal_words z ++ more) (sym e);
+            with_word (literal_words clause) (signed_decimal l) (literal_words now) line rest first
+            more r.so_far parts is (ap (λ z. literal_words z) e ∙ literal_words-push clause l);
         up =
             subst (λ z. UpTo 0 z (unsigned_abs l)) (sym e)
             (up_to_push 0 above clause l r.up far small);
@@ -252,11 +258,8 @@ module _ (text chain rest first more : List ℕ) (r : ReadsChain text chain rest
       let positive : 0 < n = ⊎_elim (λ h. h) (λ h. absurd (some (omega arith))) (cases_lt 0 n) in
       record {
         so_far =
-            r.so_far ∙ ap (λ z. number_words chain ++ z) (parts ∙ ap (λ z. z ++ 32 ∷ more) is
-            ∙ sym (append_assoc (decimal n) (32 ∷ []) more))
-            ∙ sym (append_assoc (number_words chain) (word (decimal n)) more)
-            ∙ ap (λ z. z ++ more) (sym (number_words-push chain n))
-            ∙ ap (λ z. number_words z ++ more) (sym e);
+            with_word (number_words chain) (decimal n) (number_words now) text rest first more
+            r.so_far parts is (ap (λ z. number_words z) e ∙ number_words-push chain n);
         numbers =
             subst (All (λ number. (0 < number) × (number < 2 ^ 64))) (sym e)
             (All-push (λ number.

@@ -28,7 +28,7 @@ use Rattle.sv_rules.specs.DriverTables.{driver_at, entries, and_one, first_at, s
 use Rattle.sv_rules.specs.DriverTables.{AreDrivers, AreDriversOf, AreClocks, Notes, kept_of}
 use Rattle.sv_rules.proofs.ClockLinks.{clocks_count}
 use Rattle.sv_rules.proofs.NoteFacts.{same_drivers}
-use Rattle.sv_rules.proofs.Sound.{few_bits}
+use Rattle.sv_rules.proofs.Sound.{few_bits, some_width}
 
 push_on : (b a : Bool) (d e : Driver) (xs : List Driver)
     → cond b (d ∷ and_one e a xs) (and_one e a xs) ≡ and_one e a (cond b (d ∷ xs) xs)
@@ -169,14 +169,26 @@ pub inside_design : (flat : Flat) (items : List Signal) (i : ℕ) → items ≡ 
 inside_design flat items i same inside =
     rw length-map (subst (λ (xs : List Signal). i < length xs) same inside)
 
+-- the signal has the width that the design says, from 1 to 64 bits
+module _ (flat : Flat) (items : List Signal) (s : ℕ) (signal : Signal)
+    (same : items ≡ flat.signals.items) (inside : s < length items)
+    (is : signal ≡ get_or items s signal) where
+  pub width_at : signal_width (design_of flat).signals s ≡ signal.width
+  width_at = ap (λ (form : SignalForm). form.width) (signal_at flat items s signal same inside is)
+
+  pub some_bits_at : IsTrue (sound (design_of flat)) → 1 ≤ signal.width
+  some_bits_at is_sound = subst (λ n. 1 ≤ n) width_at
+      (some_width (design_of flat) is_sound s (inside_design flat items s same inside))
+
+  pub few_bits_at : IsTrue (sound (design_of flat)) → signal.width ≤ 64
+  few_bits_at is_sound = subst (λ n. n ≤ 64) width_at
+      (few_bits (design_of flat) is_sound s (inside_design flat items s same inside))
+
 -- the signal of a read
 module _ (flat : Flat) (s : ℕ) (signal : Signal) (inside : s < length flat.signals.items)
     (is : signal ≡ get_or flat.signals.items s signal) where
   pub few_at : IsTrue (sound (design_of flat)) → signal.width ≤ 64
-  few_at is_sound =
-      subst (λ (form : SignalForm). form.width ≤ 64)
-      (signal_at flat flat.signals.items s signal refl inside is)
-      (few_bits (design_of flat) is_sound s (inside_design flat flat.signals.items s refl inside))
+  few_at is_sound = few_bits_at flat flat.signals.items s signal refl inside is is_sound
 
   -- the bits that are read of it
   pub bits_at : (low high bits : ℕ)

@@ -41,14 +41,17 @@ use Rattle.sv_rules.proofs.Sound.{process_is_sound, piece_is_signal}
 
 -- ---- where members of lists come from
 
+-- what a member of the rest has, a member of the whole has
+further : {X : Type 0} (P : X → Type 0) (x : X) (xs : List X) → (z : X) × Contains xs z × P z →
+    (z : X) × Contains (x ∷ xs) z × P z
+further P x xs found = (found.0, Contains-later x xs found.0 found.1, found.2)
+
 from_flat_map : {X Y : Type 0} (f : X → List Y) (xs : List X) (y : Y) → Contains (flat_map f xs) y
     → (x : X) × Contains xs x × Contains (f x) y
 from_flat_map f [] y at = absurd (Contains-nil y at)
 from_flat_map f (x ∷ xs) y at = ⊎_elim
     (λ l. (x, Contains-head x xs, l))
-    (λ r.
-    let found = from_flat_map f xs y r in
-    (found.0, Contains-later x xs found.0 found.1, found.2))
+    (λ r. further (λ z. Contains (f z) y) x xs (from_flat_map f xs y r))
     (Contains-either (f x) (flat_map f xs) y at)
 
 from_option : {Y : Type 0} (o : Option Y) (ys : List Y) (y : Y) → Contains (cons_option o ys) y →
@@ -61,9 +64,7 @@ from_filter_map : {X Y : Type 0} (f : X → Option Y) (xs : List X) (y : Y)
 from_filter_map f [] y at = absurd (Contains-nil y at)
 from_filter_map f (x ∷ xs) y at = ⊎_elim
     (λ e. (x, Contains-head x xs, e))
-    (λ r.
-    let found = from_filter_map f xs y r in
-    (found.0, Contains-later x xs found.0 found.1, found.2))
+    (λ r. further (λ z. f z ≡ Some y) x xs (from_filter_map f xs y r))
     (from_option (f x) (filter_map f xs) y at)
 
 -- what is made of some element is made of one
@@ -302,34 +303,36 @@ module _ (design : FlatDesign) (is_sound : IsTrue (sound design)) where
         broken;
   }
 
-  to_blocks : (a : Breach) → a.number < 606
-      → IsFirst (driving_breaches design ++ latches design) a → IsFirstBreach design a
-  to_blocks a less first = whole a (omega arith)
-      (followed_by 606 (driving_breaches design ++ latches design) (phase_faults design) a
-      phase_faults_are less first)
+  -- the first of some breaches is the design's, where its number is below this one
+  abbrev IsFirstBelow : ℕ → List Breach → Type 0
+  IsFirstBelow number bs =
+      (a : Breach) → a.number < number → IsFirst bs a → IsFirstBreach design a
 
-  to_drivers : (a : Breach) → a.number < 605 → IsFirst (driving_breaches design) a →
-      IsFirstBreach design a
-  to_drivers a less first = to_blocks a (omega arith)
-      (followed_by 605 (driving_breaches design) (latches design) a latches_are less first)
+  -- as much holds of the breaches before those of the rule
+  front : (number : ℕ) (xs ys : List Breach)
+      → ((b : Breach) → Contains ys b → IsOf design number b)
+      → IsFirstBelow (number + 1) (xs ++ ys) → IsFirstBelow number xs
+  front number xs ys are later a less first =
+      later a (omega arith) (followed_by number xs ys a are less first)
 
-  to_extra : (a : Breach) → a.number < 604
-      → IsFirst (wrong_assigns design ++ clock_faults design ++ driver_faults design) a
-      → IsFirstBreach design a
-  to_extra a less first = to_drivers a (omega arith)
-      (followed_by 604 (wrong_assigns design ++ clock_faults design ++ driver_faults design)
-      (undriven design) a undriven_are less first)
+  to_blocks : IsFirstBelow 606 (driving_breaches design ++ latches design)
+  to_blocks = front 606 (driving_breaches design ++ latches design) (phase_faults design)
+      phase_faults_are whole
 
-  to_clocks : (a : Breach) → a.number < 603
-      → IsFirst (wrong_assigns design ++ clock_faults design) a → IsFirstBreach design a
-  to_clocks a less first = to_extra a (omega arith)
-      (followed_by 603 (wrong_assigns design ++ clock_faults design) (driver_faults design) a
-      driver_faults_are less first)
+  to_drivers : IsFirstBelow 605 (driving_breaches design)
+  to_drivers = front 605 (driving_breaches design) (latches design) latches_are to_blocks
 
-  to_assigns : (a : Breach) → a.number < 602 → IsFirst (wrong_assigns design) a →
-      IsFirstBreach design a
-  to_assigns a less first = to_clocks a (omega arith)
-      (followed_by 602 (wrong_assigns design) (clock_faults design) a clock_faults_are less first)
+  to_extra :
+      IsFirstBelow 604 (wrong_assigns design ++ clock_faults design ++ driver_faults design)
+  to_extra = front 604 (wrong_assigns design ++ clock_faults design ++ driver_faults design)
+      (undriven design) undriven_are to_drivers
+
+  to_clocks : IsFirstBelow 603 (wrong_assigns design ++ clock_faults design)
+  to_clocks = front 603 (wrong_assigns design ++ clock_faults design) (driver_faults design)
+      driver_faults_are to_extra
+
+  to_assigns : IsFirstBelow 602 (wrong_assigns design)
+  to_assigns = front 602 (wrong_assigns design) (clock_faults design) clock_faults_are to_clocks
 
   -- ---- what was found first, where nothing breaks the rules before it
 
@@ -347,28 +350,42 @@ module _ (design : FlatDesign) (is_sound : IsTrue (sound design)) where
   first_assign None h = tt
   first_assign (Some f) h = to_assigns (breach_of 601 f) (omega arith) h
 
-  pub first_clock : (found : Option Found) → wrong_assigns design ≡ []
-      → FindsFirst 602 (clock_faults design) found → FindsFirstOf 602 found
-  first_clock None none h = tt
-  first_clock (Some f) none h = to_clocks (breach_of 602 f) (omega arith)
-      (after_none (wrong_assigns design) (clock_faults design) (breach_of 602 f) none h)
+  pub first_clock : (assign : Option Found) → FindsFirst 601 (wrong_assigns design) assign
+      → assign ≡ None → (found : Option Found) → FindsFirst 602 (clock_faults design) found
+      → FindsFirstOf 602 found
+  first_clock assign assign_is no_assign None h = tt
+  first_clock assign assign_is no_assign (Some f) h = to_clocks (breach_of 602 f) (omega arith)
+      (after_none (wrong_assigns design) (clock_faults design) (breach_of 602 f)
+      (found_none 601 (wrong_assigns design) assign assign_is no_assign) h)
 
-  pub first_extra : (found : Option Found) → wrong_assigns design ≡ [] → clock_faults design ≡ []
-      → FindsFirst 603 (driver_faults design) found → FindsFirstOf 603 found
-  first_extra None none none' h = tt
-  first_extra (Some f) none none' h = to_extra (breach_of 603 f) (omega arith)
-      (after_none (wrong_assigns design ++ clock_faults design) (driver_faults design)
-      (breach_of 603 f) (both_empty (wrong_assigns design) (clock_faults design) none none') h)
+  -- nothing was found that breaks the rules of assignments and clocks
+  module _ (assign clock : Option Found)
+      (assign_is : FindsFirst 601 (wrong_assigns design) assign) (no_assign : assign ≡ None)
+      (clock_is : FindsFirst 602 (clock_faults design) clock) (no_clock : clock ≡ None) where
+    none_assigned : wrong_assigns design ≡ []
+    none_assigned = found_none 601 (wrong_assigns design) assign assign_is no_assign
 
-  pub first_lacking : (found : Option Found)
-      → wrong_assigns design ≡ [] → clock_faults design ≡ [] → driver_faults design ≡ []
-      → FindsFirst 604 (undriven design) found → FindsFirstOf 604 found
-  first_lacking None none clocked driven h = tt
-  first_lacking (Some f) none clocked driven h = to_drivers (breach_of 604 f) (omega arith)
-      (after_none (wrong_assigns design ++ clock_faults design ++ driver_faults design)
-      (undriven design) (breach_of 604 f)
-      (three_empty (wrong_assigns design) (clock_faults design) (driver_faults design) none clocked
-      driven) h)
+    none_clocked : clock_faults design ≡ []
+    none_clocked = found_none 602 (clock_faults design) clock clock_is no_clock
+
+    pub first_extra : (found : Option Found) → FindsFirst 603 (driver_faults design) found →
+        FindsFirstOf 603 found
+    first_extra None h = tt
+    first_extra (Some f) h = to_extra (breach_of 603 f) (omega arith)
+        (after_none (wrong_assigns design ++ clock_faults design) (driver_faults design)
+        (breach_of 603 f)
+        (both_empty (wrong_assigns design) (clock_faults design) none_assigned none_clocked) h)
+
+    pub first_lacking : (extra : Option Found) → FindsFirst 603 (driver_faults design) extra
+        → extra ≡ None → (found : Option Found) → FindsFirst 604 (undriven design) found
+        → FindsFirstOf 604 found
+    first_lacking extra extra_is no_extra None h = tt
+    first_lacking extra extra_is no_extra (Some f) h = to_drivers (breach_of 604 f) (omega arith)
+        (after_none (wrong_assigns design ++ clock_faults design ++ driver_faults design)
+        (undriven design) (breach_of 604 f)
+        (three_empty (wrong_assigns design) (clock_faults design) (driver_faults design)
+        none_assigned none_clocked
+        (found_none 603 (driver_faults design) extra extra_is no_extra)) h)
 
   pub first_latched : (found : Option Found) → driving_breaches design ≡ []
       → FindsFirst 605 (latches design) found → FindsFirstOf 605 found

@@ -194,15 +194,19 @@ itself found =
     ∙ ⊎_elim (λ l. absurd (let k = ltb-true found.signal.0 found.signal.0 l in omega arith)) (λ f.
     f) (either_way (nat_lt found.signal.0 found.signal.0))
 
+-- what was found is the first breach of a rule among the first signals, at each that fails a test
+abbrev pub FindsUpTo : FlatDesign → (rule : ℕ) → (test : ℕ → Bool) → ℕ → Option Found → Type 0
+FindsUpTo design rule test n found =
+    FindsFirst rule (map (λ s. breach rule (declared_at design s) s)
+    (filter test (range_with_len 0 n))) found
+
 -- one signal more of a design, whose declaration is at hand
 pub finds_more : (design : FlatDesign) (rule : ℕ) (test : ℕ → Bool) (i : ℕ) (form : SignalForm)
     (wrong : Bool) (before here now : Option Found)
     → signal_of design.signals i ≡ form → wrong ≡ test i → now ≡ first_found before here
-    → FindsFirst rule (map (λ s. breach rule (declared_at design s) s)
-    (filter test (range_with_len 0 i))) before
+    → FindsUpTo design rule test i before
     → FindsFirst rule (cond wrong (breach rule form.place i ∷ []) []) here
-    → FindsFirst rule (map (λ s. breach rule (declared_at design s) s)
-    (filter test (range_with_len 0 (i + 1)))) now
+    → FindsUpTo design rule test (i + 1) now
 finds_more design rule test i form wrong before here now at is joined so_far this =
     let fault = λ (s : ℕ). breach rule (declared_at design s) s in
     let done = map fault (filter test (range_with_len 0 i)) in

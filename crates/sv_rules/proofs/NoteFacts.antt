@@ -63,35 +63,37 @@ module _ (n : ℕ) (old new : Drivers) (signal : ℕ) (driver : Driver) (first s
         ∙ get_or-set_same old.second.items signal second None inside_too,
   )
 
+  -- what is noted of a signal: of the one that is assigned, and of each other
+  at_each : (at_new at_old : ℕ → Option Driver) (k : ℕ) (of : ℕ → List Driver) (a : ℕ → Bool)
+      (s : ℕ) → (signal ≡ s → at_new signal ≡ slice_get (and_one driver true (of signal)) k)
+      → ((signal == s) ≡ false → at_new s ≡ at_old s)
+      → at_old s ≡ slice_get (and_one driver (a s) (of s)) k
+      → at_new s ≡ slice_get (and_one driver (a s || (signal == s)) (of s)) k
+  at_each at_new at_old k of a s own others was = ⊎_elim
+      (λ same. subst (λ z.
+      at_new z ≡ slice_get (and_one driver (a z || (signal == z)) (of z)) k)
+      (eqb-true signal s same)
+      (own (eqb-true signal s same)
+      ∙ ap (λ t. slice_get (and_one driver t (of signal)) k)
+      (sym (or_itself (a signal) (signal == signal) (eq-eqb signal signal refl)))))
+      (λ other. others other ∙ was
+      ∙ ap (λ t. slice_get (and_one driver t (of s)) k)
+      (sym (or_other (a s) (signal == s) other)))
+      (either_way (signal == s))
+
   pub one_noted : Notes n driver old new (λ s. signal == s)
   one_noted of a below are = record {
     first_size = ap length first_new ∙ length-set old.first.items signal first ∙ are.first_size;
     second_size =
         ap length second_new ∙ length-set old.second.items signal second ∙ are.second_size;
-    first_is = λ s h. ⊎_elim
-        (λ same. subst (λ z.
-        first_at new z ≡ slice_get (and_one driver (a z || (signal == z)) (of z)) 0)
-        (eqb-true signal s same)
-        (at_own.0 ∙ ap (λ (p : Option Driver × Option Driver).
-        p.0) (both (subst (λ z. z < n) (sym (eqb-true signal s same)) h))
-        ∙ ap (λ t. slice_get (and_one driver t (of signal)) 0)
-        (sym (or_itself (a signal) (signal == signal) (eq-eqb signal signal refl)))))
-        (λ other. (at_other s other).0 ∙ are.first_is s h
-        ∙ ap (λ t. slice_get (and_one driver t (of s)) 0)
-        (sym (or_other (a s) (signal == s) other)))
-        (either_way (signal == s));
-    second_is = λ s h. ⊎_elim
-        (λ same. subst (λ z.
-        second_at new z ≡ slice_get (and_one driver (a z || (signal == z)) (of z)) 1)
-        (eqb-true signal s same)
-        (at_own.1 ∙ ap (λ (p : Option Driver × Option Driver).
-        p.1) (both (subst (λ z. z < n) (sym (eqb-true signal s same)) h))
-        ∙ ap (λ t. slice_get (and_one driver t (of signal)) 1)
-        (sym (or_itself (a signal) (signal == signal) (eq-eqb signal signal refl)))))
-        (λ other. (at_other s other).1 ∙ are.second_is s h
-        ∙ ap (λ t. slice_get (and_one driver t (of s)) 1)
-        (sym (or_other (a s) (signal == s) other)))
-        (either_way (signal == s));
+    first_is = λ s h. at_each (first_at new) (first_at old) 0 of a s
+        (λ same. at_own.0 ∙ ap (λ (p : Option Driver × Option Driver).
+        p.0) (both (subst (λ z. z < n) (sym same) h)))
+        (λ other. (at_other s other).0) (are.first_is s h);
+    second_is = λ s h. at_each (second_at new) (second_at old) 1 of a s
+        (λ same. at_own.1 ∙ ap (λ (p : Option Driver × Option Driver).
+        p.1) (both (subst (λ z. z < n) (sym same) h)))
+        (λ other. (at_other s other).1) (are.second_is s h);
   }
     where
       both : signal < n → ◌≡◌ {A = Option Driver

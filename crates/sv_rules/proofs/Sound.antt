@@ -12,8 +12,10 @@ use Rattle.sv_flat.specs.Design.{SignalForm, TypedTree, PieceForm, FlatStatement
 use Rattle.sv_flat.specs.Design.{branch, ProcessForm, FlatDesign}
 use Rattle.sv_flat.specs.Values.{signal_of, signal_width, expression_width}
 use Rattle.sv_flat.specs.Soundness.{is_one_to, is_signal, is_part_of, piece_fits, statement_sound}
+use Rattle.sv_flat.specs.Soundness.{well_formed}
 use Rattle.sv_flat.specs.Soundness.{kind_sound, process_sound, map_sound, label_sound, signal_sound}
 use Rattle.sv_flat.specs.Soundness.{invariant_sound, sound}
+pub use Rattle.sv_flat.proofs.NumberedRuns.{no_piece}
 use Rattle.sv_flat.proofs.Rows.{row_chain-hidden}
 use Rattle.sv_flat.specs.Views.{flat_statement, flat_statements, chain_of, piece_form, process_form}
 use Rattle.sv_flat.specs.Views.{process_kind, design_of}
@@ -24,17 +26,6 @@ use Rattle.sv_flat.specs.declared.designs.Process.{Process}
 use Rattle.sv_flat.proofs.Depths.{first_of, second_of, from_all}
 use Rattle.sv_rules.specs.Pieces.{piece_forms}
 use Rattle.sv_rules.specs.DriverTables.{AreTargets}
-
--- what a read past the end of pieces gives
-abbrev pub no_piece : Piece
-no_piece =
-    record {
-      signal = record { 0 = 0 };
-      place = record { line = 0; column = 0 };
-      high = 0;
-      low = 0;
-      from = 0;
-    }
 
 -- the statements from a place on are the one there and those after it
 pub next_statement : (stmts : List FStmt) (i : ℕ) (stmt : FStmt) → i < length stmts
@@ -69,6 +60,41 @@ pub sound_as : (signals : List SignalForm) {stmt other : FStmt} → stmt ≡ oth
     → IsTrue (statement_sound signals (flat_statement other))
 sound_as signals is h = subst (λ z. IsTrue (statement_sound signals (flat_statement z))) is h
 
+-- the condition and the arms of a branch are sound as the branch is
+pub branch_sound : (signals : List SignalForm) (place : Place) (condition : TypedTree)
+    (first second : FlatStatement)
+    → IsTrue (statement_sound signals (branch place condition first second))
+    → IsTrue (well_formed signals condition) × IsTrue (statement_sound signals first)
+    × IsTrue (statement_sound signals second)
+branch_sound signals place condition first second h =
+    let formed = well_formed signals condition in
+    let front = first_of (formed && statement_sound signals first)
+    (statement_sound signals second) h in (
+      first_of formed (statement_sound signals first) front,
+      second_of formed (statement_sound signals first) front,
+      second_of (formed && statement_sound signals first) (statement_sound signals second) h,
+    )
+
+-- the first arm of a branch is sound as the branch is
+pub sound_arm : (signals : List SignalForm) (stmt first : FStmt) {place : Place} {cond : TypedTree}
+    {yes : FStmt} {no : FlatStatement}
+    → flat_statement stmt ≡ branch place cond (flat_statement yes) no → first ≡ yes
+    → IsTrue (statement_sound signals (flat_statement stmt))
+    → IsTrue (statement_sound signals (flat_statement first))
+sound_arm signals stmt first {place} {cond} {yes} {no} is one h =
+    sound_as signals (sym one)
+    (second_of (well_formed signals cond) (statement_sound signals (flat_statement yes))
+    (first_of (well_formed signals cond && statement_sound signals (flat_statement yes))
+    (statement_sound signals no) (subst (λ z. IsTrue (statement_sound signals z)) is h)))
+
+-- the statements of a block are sound as the block is
+pub sound_block : (signals : List SignalForm) (stmt : FStmt) (stmts : Vec FStmt Global)
+    (items : List FStmt) → stmt ≡ Block stmts → items ≡ stmts.items
+    → IsTrue (statement_sound signals (flat_statement stmt))
+    → IsTrue (statement_sound signals (chain_of (flat_statements items)))
+sound_block signals stmt stmts items is same h =
+    subst (λ z. IsTrue (statement_sound signals z)) (block_is stmt stmts items is same) h
+
 -- the pieces from a place on are the one there and those after it
 pub piece_at : (pieces : List Piece) (i : ℕ) (d : Piece) → i < length pieces
     → piece_forms (drop i pieces) ≡ piece_form (get_or pieces i d) ∷
@@ -85,6 +111,24 @@ module _ (signals : List SignalForm) where
   pub sound_rest : (s t : FlatStatement) → IsTrue (statement_sound signals (after s t)) →
       IsTrue (statement_sound signals t)
   sound_rest s t h = second_of (statement_sound signals s) (statement_sound signals t) h
+
+  -- the statements from a place on are sound: so is the one there, and so are those after it
+  module _ (stmts : List FStmt) (i : ℕ) (stmt : FStmt) (inside : i < length stmts)
+      (is : stmt ≡ get_or stmts i stmt)
+      (h : IsTrue (statement_sound signals (chain_of (flat_statements (drop i stmts))))) where
+    next_sound : IsTrue (statement_sound signals
+        (after (flat_statement stmt) (chain_of (flat_statements (drop (i + 1) stmts)))))
+    next_sound =
+        subst (λ b. IsTrue (statement_sound signals b)) (next_statement stmts i stmt inside is) h
+
+    pub sound_here : IsTrue (statement_sound signals (flat_statement stmt))
+    sound_here = sound_first (flat_statement stmt)
+        (chain_of (flat_statements (drop (i + 1) stmts))) next_sound
+
+    pub sound_after :
+        IsTrue (statement_sound signals (chain_of (flat_statements (drop (i + 1) stmts))))
+    sound_after = sound_rest (flat_statement stmt)
+        (chain_of (flat_statements (drop (i + 1) stmts))) next_sound
 
   pub piece_is_signal : (e : TypedTree) (p : PieceForm) → IsTrue (piece_fits signals e p) →
       p.signal < length signals
@@ -131,6 +175,24 @@ module _ (design : FlatDesign) (is_sound : IsTrue (sound design)) where
   to_processes_is =
       first_of to_processes (list_all (invariant_sound design) design.invariants) is_sound
 
+  to_signals_is : IsTrue to_signals
+  to_signals_is =
+      first_of to_signals (list_all (process_sound design) design.processes) to_processes_is
+
+  pub few_are : IsTrue (nat_lt (length design.signals) 4294967295)
+  few_are =
+      let few = nat_lt (length design.signals) 4294967295 in
+      let named = length design.points == length design.lattice in
+      first_of few named (first_of (few && named) (list_all (map_sound design) design.maps)
+      (first_of to_maps (list_all (signal_sound design) design.signals) to_signals_is))
+
+  pub all_signals : IsTrue (list_all (signal_sound design) design.signals)
+  all_signals = second_of to_maps (list_all (signal_sound design) design.signals) to_signals_is
+
+  pub all_invariants : IsTrue (list_all (invariant_sound design) design.invariants)
+  all_invariants =
+      second_of to_processes (list_all (invariant_sound design) design.invariants) is_sound
+
   pub process_is_sound : (p : ProcessForm) → Contains design.processes p →
       IsTrue (process_sound design p)
   process_is_sound p at = from_all (process_sound design) design.processes p
@@ -141,9 +203,7 @@ module _ (design : FlatDesign) (is_sound : IsTrue (sound design)) where
   width_is_sound s inside =
       let signal = signal_of design.signals s in
       first_of (is_one_to 64 signal.width) (label_sound design signal.label)
-      (from_all (signal_sound design) design.signals signal
-      (second_of to_maps (list_all (signal_sound design) design.signals)
-      (first_of to_signals (list_all (process_sound design) design.processes) to_processes_is))
+      (from_all (signal_sound design) design.signals signal all_signals
       (listed design.signals s inside))
 
   pub some_width : (s : ℕ) → s < length design.signals → 1 ≤ signal_width design.signals s
@@ -198,6 +258,13 @@ pub targets_first : (n : ℕ) (pieces : List Piece) (i : ℕ) (d : Piece) → i 
     → (get_or pieces i d).signal.0 < n
 targets_first n pieces i d inside all =
     targets_at n pieces i d inside all 0 (piece_form d) (omega arith)
+
+-- also below what is the bound
+pub target_below : {n m : ℕ} (pieces : List Piece) (i : ℕ) (d : Piece) → m ≡ n
+    → i < length pieces → AreTargets n (piece_forms (drop i pieces))
+    → (get_or pieces i d).signal.0 < m
+target_below {n} {m} pieces i d same inside all =
+    subst (λ k. (get_or pieces i d).signal.0 < k) (sym same) (targets_first n pieces i d inside all)
 
 pub targets_rest : (n : ℕ) (pieces : List Piece) (i : ℕ) (d : Piece) → i < length pieces
     → AreTargets n (piece_forms (drop i pieces))

@@ -1,10 +1,10 @@
 -- Tables of what processes say of signals.
 use Rattle.std.proofs.Common.{◌≡◌, ℕ, zero, suc, ◌+◌, ◌<◌, ◌≤◌, Bool, true, false, cond, ◌&&◌, ◌||◌}
-use Rattle.std.proofs.Common.{◌==◌, nat_le, nat_lt, List, [], ◌∷◌, ◌++◌, length, map, get_or, drop}
+use Rattle.std.proofs.Common.{nat_le, List, [], ◌∷◌, ◌++◌, length, map, get_or, drop}
 use Rattle.std.proofs.Common.{take, replicate, None, ⊎_elim, refl, sym, ap, ap₂}
 use Rattle.std.proofs.Common.{subst, ◌∙◌, arith}
 use Rattle.std.specs.Prelude.{IsTrue, filter, is_some}
-use Rattle.std.specs.List.{list_all, range_with_len}
+use Rattle.std.specs.List.{range_with_len}
 use Rattle.std.proofs.lemmas.Bool.{false≢true, le-leb}
 use Rattle.std.proofs.lemmas.List.{get_or-replicate, length-replicate, get_or-map, drop_all}
 use Rattle.std.proofs.lemmas.List.{take_all, append-nil, length_push, get_or_push}
@@ -16,8 +16,8 @@ use Rattle.sv_flat.specs.Design.{ProcessKind, combinational, clocked, continuous
 use Rattle.sv_flat.specs.Design.{release, ProcessForm, FlatDesign}
 use Rattle.sv_flat.specs.Processes.{signals_that}
 use Rattle.sv_flat.specs.Sets.{holds, least_set}
-use Rattle.sv_flat.specs.Soundness.{kind_sound, map_sound, signal_sound, process_sound}
-use Rattle.sv_flat.specs.Soundness.{statement_sound, invariant_sound, sound}
+use Rattle.sv_flat.specs.Soundness.{kind_sound, process_sound}
+use Rattle.sv_flat.specs.Soundness.{statement_sound, sound}
 use Rattle.sv_flat.proofs.Depths.{first_of}
 use Rattle.std.proofs.Common.{ltb-true}
 use Rattle.sv_graph.specs.declared.graphs.Graph.{Graph}
@@ -28,6 +28,7 @@ use Rattle.sv_graph.specs.Marks.{Marks, IsTable}
 use Rattle.sv_rules.specs.ReadMarks.{HasClockBelow}
 use Rattle.sv_graph.specs.Searches.{Brings, IsSearch}
 use Rattle.sv_graph.proofs.SearchFacts.{below_or_at}
+use Rattle.sv_rules.proofs.Sound.{few_are}
 
 -- ---- lists of numbers
 
@@ -130,13 +131,4 @@ and_left false b h = absurd (false≢true h)
 -- there are fewer signals than 32 bits can number
 pub few_signals : (design : FlatDesign) → IsTrue (sound design) → length design.signals < 4294967295
 few_signals design h =
-    let few = nat_lt (length design.signals) 4294967295 in
-    let named = length design.points == length design.lattice in
-    let maps = list_all (map_sound design) design.maps in
-    let signals = list_all (signal_sound design) design.signals in
-    let processes = list_all (process_sound design) design.processes in
-    let invariants = list_all (invariant_sound design) design.invariants in
-    ltb-true (length design.signals) 4294967295
-    (first_of few named (first_of (few && named) maps (first_of (few && named && maps) signals
-    (first_of (few && named && maps && signals) processes
-    (first_of (few && named && maps && signals && processes) invariants h)))))
+    ltb-true (length design.signals) 4294967295 (few_are design h)

@@ -2,7 +2,7 @@
 use Rattle.std.proofs.Common.{◌≡◌, ℕ, ◌<◌, Bool, ◌&&◌, ◌||◌, ◌==◌, nat_lt, List, length}
 use Rattle.std.proofs.Common.{Option, Some, None, refl, sym, ap, ◌∙◌, ltb-true}
 use Rattle.std.specs.Prelude.{IsTrue, Contains, is_none}
-use Rattle.std.specs.List.{list_any, list_all, cons_option}
+use Rattle.std.specs.List.{list_any, cons_option}
 use Rattle.std.proofs.lemmas.Bool.{false≢true}
 use Rattle.sv_lattice.specs.Labels.{map_of}
 use Rattle.sv_lattice.specs.declared.labels.Label.{Label}
@@ -11,8 +11,7 @@ use Rattle.sv_flat.specs.Assigned.{assigns}
 use Rattle.sv_flat.specs.Clocks.{link_in, reads_signal, uses_as_signal}
 use Rattle.sv_flat.specs.Design.{SignalForm, ProcessForm, InvariantForm, FlatDesign}
 use Rattle.sv_flat.specs.Soundness.{well_formed, is_one_to, is_signal, selector_fits, second_fits}
-use Rattle.sv_flat.specs.Soundness.{label_sound, map_sound, signal_sound, process_sound}
-use Rattle.sv_flat.specs.Soundness.{invariant_sound, sound}
+use Rattle.sv_flat.specs.Soundness.{label_sound, signal_sound, invariant_sound, sound}
 use Rattle.sv_flat.specs.Values.{signal_width}
 use Rattle.sv_flat.proofs.Depths.{first_of, second_of, from_all}
 use Rattle.sv_graph.specs.Marks.{Marks}
@@ -20,6 +19,7 @@ use Rattle.sv_rules.specs.ReadMarks.{reads_in}
 use Rattle.sv_rules.specs.Selectors.{SelectsBelow, is_port}
 use Rattle.sv_graph.proofs.MarkFacts.{same_marked}
 use Rattle.sv_rules.proofs.ReadMarks.{reads_signal-is}
+use Rattle.sv_rules.proofs.Sound.{all_signals, all_invariants}
 
 module _ (design : FlatDesign) (p : ProcessForm) where
   -- another process uses what it drives and reads
@@ -69,18 +69,9 @@ module _ (design : FlatDesign) where
   pub label_below : IsTrue (sound design) → (signal : SignalForm) → Contains design.signals signal
       → SelectsBelow (length design.signals) signal.label
   label_below h signal at =
-      let few = nat_lt (length design.signals) 4294967295 in
-      let named = length design.points == length design.lattice in
-      let maps = list_all (map_sound design) design.maps in
-      let signals = list_all (signal_sound design) design.signals in
-      let processes = list_all (process_sound design) design.processes in
-      let invariants = list_all (invariant_sound design) design.invariants in
-      let all = second_of (few && named && maps) signals
-      (first_of (few && named && maps && signals) processes
-      (first_of (few && named && maps && signals && processes) invariants h)) in
       sound_label_below signal.label
       (second_of (is_one_to 64 signal.width) (label_sound design signal.label)
-      (from_all (signal_sound design) design.signals signal all at))
+      (from_all (signal_sound design) design.signals signal (all_signals design h) at))
 
 -- ---- links
 
@@ -96,11 +87,4 @@ pub invariant_formed : (design : FlatDesign) → IsTrue (sound design) → (i : 
     → Contains design.invariants i
     → IsTrue (well_formed design.signals i.expression)
 invariant_formed design h i at =
-    let few = nat_lt (length design.signals) 4294967295 in
-    let named = length design.points == length design.lattice in
-    let maps = list_all (map_sound design) design.maps in
-    let signals = list_all (signal_sound design) design.signals in
-    let processes = list_all (process_sound design) design.processes in
-    let invariants = list_all (invariant_sound design) design.invariants in
-    from_all (invariant_sound design) design.invariants i
-    (second_of (few && named && maps && signals && processes) invariants h) at
+    from_all (invariant_sound design) design.invariants i (all_invariants design h) at

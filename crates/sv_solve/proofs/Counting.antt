@@ -18,25 +18,25 @@ use Rattle.sv_solve.specs.Answers.{AreDifferent}
 use Rattle.sv_solve.proofs.Clauses.{one_sign}
 use Rattle.sv_solve.proofs.Ternary.{AreTernary, number, number-below, same_digits}
 
--- whether a variable stands in a clause, and in which polarity
-digit : List ℤ → ℕ → ℕ
-digit clause v = cond (stands (pos v) clause) 1 (cond (stands (neg_ℤ (pos v)) clause) 2 0)
+-- whether a variable stands among literals, and in which polarity
+pub digit : List ℤ → ℕ → ℕ
+digit clause v = cond (stands (pos v) clause) 0 (cond (stands (neg_ℤ (pos v)) clause) 1 2)
 
--- a clause over some variables, as a number
-abbrev number_of : ℕ → List ℤ → ℕ
+-- literals of some variables, as a number
+abbrev pub number_of : ℕ → List ℤ → ℕ
 number_of n clause = number (digit clause) n
 
-small_cond : (p q : Bool) → cond p 1 (cond q 2 0) ≤ 2
+small_cond : (p q : Bool) → cond p 0 (cond q 1 2) ≤ 2
 small_cond true q = omega arith
 small_cond false true = omega arith
 small_cond false false = omega arith
 
-are_ternary : (clause : List ℤ) → AreTernary (digit clause)
+pub are_ternary : (clause : List ℤ) → AreTernary (digit clause)
 unfolding digit
 are_ternary clause v = small_cond (stands (pos v) clause) (stands (neg_ℤ (pos v)) clause)
 
 same_conds : (p q r s : Bool) → (p ≡ true → q ≡ true → ⊥) → (r ≡ true → s ≡ true → ⊥) →
-    ◌≡◌ {A = ℕ} (cond p 1 (cond q 2 0)) (cond r 1 (cond s 2 0)) → (p ≡ r) × (q ≡ s)
+    ◌≡◌ {A = ℕ} (cond p 0 (cond q 1 2)) (cond r 0 (cond s 1 2)) → (p ≡ r) × (q ≡ s)
 same_conds true true r s n m e = absurd (n refl refl)
 same_conds true false true true n m e = absurd (m refl refl)
 same_conds true false true false n m e = (refl, refl)
@@ -49,13 +49,26 @@ same_conds false false true s n m e = absurd (omega arith)
 same_conds false false false true n m e = absurd (omega arith)
 same_conds false false false false n m e = (refl, refl)
 
-same_signs : (n : ℕ) (c d : List ℤ) (v : ℕ) → IsClauseOf n c → IsClauseOf n d →
-    digit c v ≡ digit d v → (stands (pos v) c ≡ stands (pos v) d)
-    × (stands (neg_ℤ (pos v)) c ≡ stands (neg_ℤ (pos v)) d)
+-- no variable stands among literals in both polarities
+abbrev pub HaveOneSign : List ℤ → Type 0
+HaveOneSign c = (l : ℤ) → stands l c ≡ true → stands (neg_ℤ l) c ≡ true → ⊥
+
+pub same_signs : (n : ℕ) (c d : List ℤ) → HaveOneSign c → HaveOneSign d →
+    number_of n c ≡ number_of n d → (v : ℕ) → 0 < v → v ≤ n →
+    (stands (pos v) c ≡ stands (pos v) d) × (stands (neg_ℤ (pos v)) c ≡ stands (neg_ℤ (pos v)) d)
 unfolding digit
-same_signs n c d v hc hd e =
+same_signs n c d hc hd e v low high =
     same_conds (stands (pos v) c) (stands (neg_ℤ (pos v)) c) (stands (pos v) d)
-    (stands (neg_ℤ (pos v)) d) (one_sign (pos v) c hc.normal) (one_sign (pos v) d hd.normal) e
+    (stands (neg_ℤ (pos v)) d) (hc (pos v)) (hd (pos v))
+    (same_digits (digit c) (digit d) n (are_ternary c) (are_ternary d) e v low high)
+
+clause_signs : (n : ℕ) (c d : List ℤ) → IsClauseOf n c → IsClauseOf n d →
+    number_of n c ≡ number_of n d → (k : ℕ) → k < n →
+    (stands (pos (suc k)) c ≡ stands (pos (suc k)) d)
+    × (stands (neg_ℤ (pos (suc k))) c ≡ stands (neg_ℤ (pos (suc k))) d)
+clause_signs n c d hc hd e k high =
+    same_signs n c d (λ l. one_sign l c hc.normal) (λ l. one_sign l d hd.normal) e (suc k)
+    (omega arith) (omega arith)
 
 -- a literal of another variable does not stand there
 stands_not : (n : ℕ) (c : List ℤ) (l : ℤ) → IsClauseOf n c →
@@ -69,18 +82,12 @@ same_literals n c d hc hd e (pos zero) =
     stands_not n c (pos zero) hc (λ low high. omega arith)
     ∙ sym (stands_not n d (pos zero) hd (λ low high. omega arith))
 same_literals n c d hc hd e (pos (suc k)) =
-    ⊎_elim (λ high.
-    (same_signs n c d (suc k) hc hd
-    (same_digits (digit c) (digit d) n (are_ternary c) (are_ternary d) e (suc k) (omega arith)
-    (omega arith))).0)
+    ⊎_elim (λ high. (clause_signs n c d hc hd e k high).0)
     (λ out. stands_not n c (pos (suc k)) hc (λ low high. omega arith)
     ∙ sym (stands_not n d (pos (suc k)) hd (λ low high. omega arith)))
     (cases_lt k n)
 same_literals n c d hc hd e (negsuc k) =
-    ⊎_elim (λ high.
-    (same_signs n c d (suc k) hc hd
-    (same_digits (digit c) (digit d) n (are_ternary c) (are_ternary d) e (suc k) (omega arith)
-    (omega arith))).1)
+    ⊎_elim (λ high. (clause_signs n c d hc hd e k high).1)
     (λ out. stands_not n c (negsuc k) hc (λ low high. omega arith)
     ∙ sym (stands_not n d (negsuc k) hd (λ low high. omega arith)))
     (cases_lt k n)

@@ -173,26 +173,33 @@ module _ (clauses : List (List ℤ)) (trail : List ℤ) where
             e).0)).0);
       }
 
+  -- what is derived stays so where other tests say the same
+  derives_on : (chain : List ℕ) (kept kept' seen : List ℤ) (bound p : ℕ)
+      → ((l : ℤ) → (stands l kept || (stands l seen && stands (neg_ℤ l) (take bound trail)))
+      ≡ (stands l kept' || (stands l seen && stands (neg_ℤ l) (take p trail))))
+      → Derives clauses chain kept seen trail bound → Derives clauses chain kept' seen trail p
+  derives_on chain kept kept' seen bound p same d =
+      record {
+        clause = d.clause;
+        chain_gives = d.chain_gives;
+        literals = λ l. d.literals l ∙ same l;
+      }
+
   -- an unseen literal of the trail changes nothing
   pub derive_skip : (chain : List ℕ) (kept seen : List ℤ) (bound p : ℕ) → bound ≡ p + 1
       → p < length trail → stands (neg_ℤ (get_or trail p (pos 0))) seen ≡ false
       → Derives clauses chain kept seen trail bound → Derives clauses chain kept seen trail p
   derive_skip chain kept seen bound p is small unseen d =
-      record {
-        clause = d.clause;
-        chain_gives = d.chain_gives;
-        literals =
-            λ l. d.literals l ∙ ap (λ z.
-            stands l kept || (stands l seen && stands (neg_ℤ l) (take z trail))) is
-            ∙ ap (λ z. stands l kept || z)
-            (⊎_elim
-            (λ same. let none : stands l seen ≡ false = ap (λ z.
-            stands z seen) (negated_back l (get_or trail p (pos 0)) same) ∙ unseen in
-            and_left (stands l seen) (stands (neg_ℤ l) (take (p + 1) trail)) none
-            ∙ sym (and_left (stands l seen) (stands (neg_ℤ l) (take p trail)) none))
-            (λ ne. ap (λ z. stands l seen && z) (stands_more_other (neg_ℤ l) trail p small ne))
-            (cases_int (neg_ℤ l) (get_or trail p (pos 0))));
-      }
+      derives_on chain kept kept seen bound p
+      (λ l. ap (λ z. stands l kept || (stands l seen && stands (neg_ℤ l) (take z trail))) is
+      ∙ ap (λ z. stands l kept || z)
+      (⊎_elim
+      (λ same. let none : stands l seen ≡ false = ap (λ z.
+      stands z seen) (negated_back l (get_or trail p (pos 0)) same) ∙ unseen in
+      and_left (stands l seen) (stands (neg_ℤ l) (take (p + 1) trail)) none
+      ∙ sym (and_left (stands l seen) (stands (neg_ℤ l) (take p trail)) none))
+      (λ ne. ap (λ z. stands l seen && z) (stands_more_other (neg_ℤ l) trail p small ne))
+      (cases_int (neg_ℤ l) (get_or trail p (pos 0))))) d
 
   -- nor do several
   pub derive_unseen : (chain : List ℕ) (kept seen : List ℤ) (from bound : ℕ) → from ≤ bound
@@ -232,41 +239,36 @@ module _ (clauses : List (List ℤ)) (trail : List ℤ) where
       let t = get_or trail p (pos 0) in
       let all : ℤ → Bool = λ l. stands l seen && stands (neg_ℤ l) (take (p + 1) trail) in
       let less : ℤ → Bool = λ l. stands l seen && stands (neg_ℤ l) (take p trail) in
-      record {
-        clause = d.clause;
-        chain_gives = d.chain_gives;
-        literals =
-            λ l. d.literals l ∙ ap (λ z.
-            stands l kept || (stands l seen && stands (neg_ℤ l) (take z trail))) is
-            ∙ same_tests (stands l kept || all l) (stands l (kept ++ neg_ℤ t ∷ []) || less l)
-            (λ e. ⊎_elim
-            (λ old. or_left (stands l (kept ++ neg_ℤ t ∷ [])) (less l)
-            (stands_push_old l (neg_ℤ t) kept old))
-            (λ both. let q = and_both (stands l seen) (stands (neg_ℤ l) (take (p + 1) trail))
-            both in ⊎_elim
-            (λ older. or_right (stands l (kept ++ neg_ℤ t ∷ [])) (less l)
-            (and_from (stands l seen) (stands (neg_ℤ l) (take p trail)) q.0 older))
-            (λ same. or_left (stands l (kept ++ neg_ℤ t ∷ [])) (less l)
-            (ap (λ z. stands z (kept ++ neg_ℤ t ∷ [])) (negated_back l t same)
-            ∙ stands_push_new (neg_ℤ t) kept))
-            (stands_more_cases (neg_ℤ l) trail p small q.1))
-            (or_cases (stands l kept) (all l) e))
-            (λ e. ⊎_elim
-            (λ new. ⊎_elim
-            (λ old. or_left (stands l kept) (all l) old)
-            (λ same. or_right (stands l kept) (all l)
-            (and_from (stands l seen) (stands (neg_ℤ l) (take (p + 1) trail))
-            (ap (λ z. stands z seen) same ∙ here)
-            (ap (λ z. stands z (take (p + 1) trail)) (ap neg_ℤ same ∙ neg-neg t)
-            ∙ stands_more_here trail p small)))
-            (stands_push_cases l (neg_ℤ t) kept new))
-            (λ both. let q = and_both (stands l seen) (stands (neg_ℤ l) (take p trail)) both in
-            or_right (stands l kept) (all l)
-            (and_from (stands l seen) (stands (neg_ℤ l) (take (p + 1) trail)) q.0
-            (stands_take_le (neg_ℤ l) trail p (p + 1) (omega arith) q.1)))
-            (or_cases (stands l (kept ++ neg_ℤ t ∷ [])) (less l) e))
-            ∙ ap (λ z. stands l z || less l) (sym longer);
-      }
+      derives_on chain kept kept' seen bound p
+      (λ l. ap (λ z. stands l kept || (stands l seen && stands (neg_ℤ l) (take z trail))) is
+      ∙ same_tests (stands l kept || all l) (stands l (kept ++ neg_ℤ t ∷ []) || less l)
+      (λ e. ⊎_elim
+      (λ old. or_left (stands l (kept ++ neg_ℤ t ∷ [])) (less l)
+      (stands_push_old l (neg_ℤ t) kept old))
+      (λ both. let q = and_both (stands l seen) (stands (neg_ℤ l) (take (p + 1) trail))
+      both in ⊎_elim
+      (λ older. or_right (stands l (kept ++ neg_ℤ t ∷ [])) (less l)
+      (and_from (stands l seen) (stands (neg_ℤ l) (take p trail)) q.0 older))
+      (λ same. or_left (stands l (kept ++ neg_ℤ t ∷ [])) (less l)
+      (ap (λ z. stands z (kept ++ neg_ℤ t ∷ [])) (negated_back l t same)
+      ∙ stands_push_new (neg_ℤ t) kept))
+      (stands_more_cases (neg_ℤ l) trail p small q.1))
+      (or_cases (stands l kept) (all l) e))
+      (λ e. ⊎_elim
+      (λ new. ⊎_elim
+      (λ old. or_left (stands l kept) (all l) old)
+      (λ same. or_right (stands l kept) (all l)
+      (and_from (stands l seen) (stands (neg_ℤ l) (take (p + 1) trail))
+      (ap (λ z. stands z seen) same ∙ here)
+      (ap (λ z. stands z (take (p + 1) trail)) (ap neg_ℤ same ∙ neg-neg t)
+      ∙ stands_more_here trail p small)))
+      (stands_push_cases l (neg_ℤ t) kept new))
+      (λ both. let q = and_both (stands l seen) (stands (neg_ℤ l) (take p trail)) both in
+      or_right (stands l kept) (all l)
+      (and_from (stands l seen) (stands (neg_ℤ l) (take (p + 1) trail)) q.0
+      (stands_take_le (neg_ℤ l) trail p (p + 1) (omega arith) q.1)))
+      (or_cases (stands l (kept ++ neg_ℤ t ∷ [])) (less l) e))
+      ∙ ap (λ z. stands l z || less l) (sym longer)) d
 
   -- a seen literal of the trail is resolved on with its reason
   pub derive_step : (chain chain' : List ℕ) (kept seen seen' : List ℤ) (bound p n : ℕ)

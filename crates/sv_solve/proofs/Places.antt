@@ -8,6 +8,7 @@ use Rattle.std.proofs.lemmas.List.{take_more, take-take, take_all}
 use Rattle.sv_clause.specs.Literals.{stands}
 use Rattle.sv_clause.proofs.Standing.{same_from_int_eq, int_eq-same, int_eq-other}
 use Rattle.sv_clause.proofs.Folding.{stands-push}
+pub use Rattle.sv_clause.proofs.Folding.{stands_take}
 
 pub or_nothing : (b : Bool) → (b || false) ≡ b
 or_nothing true = refl
@@ -30,15 +31,6 @@ pub stands_push_other : (l x : ℤ) (xs : List ℤ) → (l ≡ x → ⊥) →
     stands l (xs ++ x ∷ []) ≡ stands l xs
 stands_push_other l x xs ne =
     stands-push l xs x ∙ ap (λ b. stands l xs || b) (int_eq-other l x ne) ∙ or_nothing (stands l xs)
-
-pub stands_take : (l : ℤ) (xs : List ℤ) (k : ℕ) → stands l (take k xs) ≡ true → stands l xs ≡ true
-stands_take l [] zero e = e
-stands_take l [] (suc k) e = e
-stands_take l (x ∷ xs) zero e = absurd (false≢true e)
-stands_take l (x ∷ xs) (suc k) e =
-    ⊎_elim (or_left (int_eq l x) (stands l xs)) (λ there.
-    or_right (int_eq l x) (stands l xs) (stands_take l xs k there))
-    (or_cases (int_eq l x) (stands l (take k xs)) e)
 
 pub stands_take_le : (l : ℤ) (xs : List ℤ) (i j : ℕ) → i ≤ j → stands l (take i xs) ≡ true →
     stands l (take j xs) ≡ true

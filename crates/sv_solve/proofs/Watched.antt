@@ -240,6 +240,28 @@ module _ (w : Watching) (a : ℤ) (i : ℕ) (listed : IsListed w) (of : IsOf w.v
       inr (code-inj pair.other a e))
       (watched_some pair (code_of a) (subst (λ z. 0 < times_watched z (code_of a)) is watched_at))
 
+-- how often a place stands in a list, once a number is put behind one of the lists
+times_pushed : (old : Watching) (middle : List (List ℕ)) (one code place n : ℕ) → IsListed old
+    → one < length old.lists → code < length old.lists
+    → middle ≡ set old.lists one (get_or old.lists one [] ++ n ∷ [])
+    → times place (get_or middle code []) ≡
+    times_watched (pair_at old.pairs place) code + once_at one code place n
+times_pushed old middle one code place n listed low h first =
+    ap (λ z. times place (get_or z code [])) first
+    ∙ times-push_at old.lists one code place n low
+    ∙ ap (λ m. m + once_at one code place n) (counted_times old listed code place h)
+
+-- a place that is not the number is watched as before
+times_apart : (old new : Watching) (one other code place n : ℕ) → (place ≡ n → ⊥)
+    → pair_at new.pairs place ≡ pair_at old.pairs place
+    → (once_at one code place n ≡ 0) × (once_at other code place n ≡ 0)
+    × (times_watched (pair_at new.pairs place) code ≡ times_watched (pair_at old.pairs place) code)
+times_apart old new one other code place n away same = (
+  once_at-away one code place n away,
+  once_at-away other code place n away,
+  ap (λ z. times_watched z code) same,
+)
+
 -- one more clause is watched
 pub listed_more : (old new : Watching) (pair : Pair) → IsListed old
     → (pair.one ≢ pair.other) × IsOf old.variables pair.one × IsOf old.variables pair.other
@@ -263,13 +285,9 @@ listed_more old new pair listed within pairs middle first second variables =
     let low' : other < 2 * old.variables + 2 = code-below old.variables pair.other within.2 in
     listed_from_times new (omega arith)
     (λ code place h.
-    let was : times place (get_or old.lists code []) ≡
-    times_watched (pair_at old.pairs place) code = counted_times old listed code place
-    (omega arith) in
     let step : times place (get_or middle code []) ≡
-    times place (get_or old.lists code []) + once_at one code place n = ap (λ z.
-    times place (get_or z code [])) first
-    ∙ times-push_at old.lists one code place n (omega arith) in
+    times_watched (pair_at old.pairs place) code + once_at one code place n =
+    times_pushed old middle one code place n listed (omega arith) (omega arith) first in
     let step' : times place (get_or new.lists code []) ≡
     times place (get_or middle code []) + once_at other code place n = ap (λ z.
     times place (get_or z code [])) second
@@ -282,17 +300,11 @@ listed_more old new pair listed within pairs middle first second variables =
     ap (λ z. times_watched z code) (ap (λ z. pair_at z place) pairs
     ∙ get_or_push old.pairs (Some pair) None place (sym here))
     ∙ watched-both pair pair.one pair.other code (inl (refl, refl)) in
-    let a : once_at one code place n ≡ once one code = once_at-here one code place n here in
-    let b : once_at other code place n ≡ once other code = once_at-here other code place n here in
-    omega arith)
+    omega (arith, once_at-here one code place n here, once_at-here other code place n here))
     (λ away.
-    let now : times_watched (pair_at new.pairs place) code ≡
-    times_watched (pair_at old.pairs place) code =
-    ap (λ z. times_watched z code) (ap (λ z. pair_at z place) pairs
-    ∙ pair_at_push old.pairs (Some pair) place away) in
-    let a : once_at one code place n ≡ 0 = once_at-away one code place n away in
-    let b : once_at other code place n ≡ 0 = once_at-away other code place n away in
-    omega arith)
+    let still = times_apart old new one other code place n away
+    (ap (λ z. pair_at z place) pairs ∙ pair_at_push old.pairs (Some pair) place away) in
+    omega (arith, still.0, still.1, still.2))
     (cases_eq place n))
 
 -- one more clause is not watched
@@ -353,13 +365,9 @@ module _ (old new : Watching) (a : ℤ) (i : ℕ) (was pair : Pair) (listed : Is
       let inside : x < length old.pairs = place_below old a i listed of small in
       listed_from_times new (omega arith)
       (λ code place h.
-      let was_times : times place (get_or old.lists code []) ≡
-      times_watched (pair_at old.pairs place) code = counted_times old listed code place
-      (omega arith) in
       let step : times place (get_or middle code []) ≡
-      times place (get_or old.lists code []) + once_at one code place x = ap (λ z.
-      times place (get_or z code [])) first
-      ∙ times-push_at old.lists one code place x (omega arith) in
+      times_watched (pair_at old.pairs place) code + once_at one code place x =
+      times_pushed old middle one code place x listed (omega arith) (omega arith) first in
       let step' : times place (get_or new.lists code []) + once_at ca code place x ≡
       times place (get_or middle code []) =
       ap (λ z. times place (get_or z code []) + once_at ca code place x) second
@@ -378,17 +386,12 @@ module _ (old new : Watching) (a : ℤ) (i : ℕ) (was pair : Pair) (listed : Is
       ∙ ap (pair_at (set old.pairs x (Some pair))) here
       ∙ get_or-set_same old.pairs x (Some pair) None inside)
       ∙ watched-both pair pair.one pair.other code (inl (refl, refl)) in
-      let p : once_at one code place x ≡ once one code = once_at-here one code place x here in
-      let q : once_at ca code place x ≡ once ca code = once_at-here ca code place x here in
-      omega arith)
+      omega (arith, once_at-here one code place x here, once_at-here ca code place x here))
       (λ away.
-      let now : times_watched (pair_at new.pairs place) code ≡
-      times_watched (pair_at old.pairs place) code =
-      ap (λ z. times_watched z code) (ap (λ z. pair_at z place) pairs
+      let still = times_apart old new one ca code place x away
+      (ap (λ z. pair_at z place) pairs
       ∙ get_or-set_other old.pairs x place (Some pair) None away) in
-      let p : once_at one code place x ≡ 0 = once_at-away one code place x away in
-      let q : once_at ca code place x ≡ 0 = once_at-away ca code place x away in
-      omega arith)
+      omega (arith, still.0, still.1, still.2))
       (cases_eq place x))
 
 -- a clause that watches a literal stands in its list

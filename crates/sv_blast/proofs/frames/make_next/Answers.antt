@@ -29,10 +29,10 @@ settled-requires-clause-words c =
     let design = design_of c.args.fan_in.now.design.now in
     let registers = c.args.registers.now in
     let i = c.loop-register.register-index in
-    let s = get_or registers i none in
     λ t reads. stands_up design.signals c.args.gates.now.variables c.loop-register.gates.variables
     (words_of c.args.fan_in.now.words.now) t c.loop-register.invariant.begins.grows
-    (c.requires.read s.0 t (number_in registers i c.loop-register-test.true) reads)
+    (c.requires.read (get_or registers i none).0 t
+    (number_in registers i c.loop-register-test.true) reads)
 
 pub returns-in_err-word-clause-full : goal.returns-in_err-word-clause-full
 returns-in_err-word-clause-full c =

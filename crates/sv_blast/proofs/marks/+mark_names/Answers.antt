@@ -1,9 +1,8 @@
-use Rattle.std.proofs.Common.{◌==◌, [], sym, ap, ◌∙◌}
+use Rattle.std.proofs.Common.{◌==◌, [], ap, ◌∙◌, refl}
 use Rattle.std.specs.List.{list_any}
-use Rattle.sv_flat.specs.Readings.{ReadForm, node_reads, parts_reads, names_signal}
-use Rattle.sv_flat.specs.Views.{node_tree, typed_tree, typed_trees}
-use Rattle.sv_flat.proofs.Parts.{trees}
-use Rattle.sv_flat.proofs.Rows.{row_parts-hidden}
+use Rattle.sv_flat.specs.Readings.{ReadForm, names_signal}
+use Rattle.sv_flat.specs.Views.{typed_tree, typed_trees}
+use Rattle.sv_rules.proofs.NameFacts.{row_reads}
 use Rattle.sv_graph.proofs.MarkFacts.{same_marked}
 use Rattle.sv_blast.specs.NamedMarks.{is_named_in}
 use Rattle.sv_blast.proofs.NameMarks.{all_named}
@@ -16,9 +15,7 @@ mark_names-returns-in-Join t c =
     (names_signal [] (typed_tree c.args.expr.now))
     (λ s. all_named parts s
     ∙ ap (list_any (λ (r : ReadForm). r.signal == s))
-    (ap (λ es. parts_reads [] (trees es)) c.deref-in-Join.ensures.value
-    ∙ ap (parts_reads []) (sym (row_parts-hidden c.in-Join.parts))
-    ∙ ap (node_reads []) (sym (ap node_tree c.in-Join.is))))
+    (row_reads [] c.in-Join.parts c.deref-in-Join.ensures.value c.in-Join.is refl))
     c.mark_all_names.ensures
 
 pub mark_names-returns-in-Repeat : goal.mark_names-returns-in-Repeat
@@ -28,7 +25,5 @@ mark_names-returns-in-Repeat t c =
     (names_signal [] (typed_tree c.args.expr.now))
     (λ s. all_named parts s
     ∙ ap (list_any (λ (r : ReadForm). r.signal == s))
-    (ap (λ es. parts_reads [] (trees es)) c.deref-in-Repeat.ensures.value
-    ∙ ap (parts_reads []) (sym (row_parts-hidden c.in-Repeat.parts))
-    ∙ ap (node_reads []) (sym (ap node_tree c.in-Repeat.is))))
+    (row_reads [] c.in-Repeat.parts c.deref-in-Repeat.ensures.value c.in-Repeat.is refl))
     c.mark_all_names-in-Repeat.ensures

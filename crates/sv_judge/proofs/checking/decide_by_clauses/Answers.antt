@@ -11,7 +11,7 @@ use Rattle.sv_encoding.specs.Deciding.{IsRefutedBy, IsSpentBy}
 use Rattle.sv_encoding.specs.Encoding.{encoding}
 use Rattle.sv_decide.specs.Decisions.{WhereValid, WhereFails, WhereSpent, IsNotSpent}
 use Rattle.sv_judge.specs.Progress.{IsSpared}
-use Rattle.sv_judge.proofs.ProgressFacts.{refuted_done, spent_done, number_less}
+use Rattle.sv_judge.proofs.ProgressFacts.{refuted_done, spent_done, number_less, ends_large}
 use Rattle.sv_judge.proofs.checking.decide_by_clauses.Goals as goal
 
 pub know_writable-requires : goal.know_writable-requires
@@ -83,10 +83,7 @@ returns-in-Ok-Spent-clause-done c =
     c.add_spent.ensures.keeps c.add_spent.ensures.none_kept
 
 pub returns-in-Err-TooLarge-clause-stop : goal.returns-in-Err-TooLarge-clause-stop
-returns-in-Err-TooLarge-clause-stop c = record {
-  before = c.args.progress.now.count;
-  obligation = obligation_of c.args.query;
-  numbered = record { counted = refl; among = c.requires.next.among };
-  earlier = c.requires.done.passed;
-  large = c.in-Err-TooLarge.ensures.too_large (ap (λ f. Err f) c.in-Err-TooLarge.field-0-is);
-}
+returns-in-Err-TooLarge-clause-stop c =
+    ends_large (design_of c.args.design.now) c.args.budget (obligation_of c.args.query)
+    c.args.progress.now c.requires.next.among c.requires.done
+    (c.in-Err-TooLarge.ensures.too_large (ap (λ f. Err f) c.in-Err-TooLarge.field-0-is))

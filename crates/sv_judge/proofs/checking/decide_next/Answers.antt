@@ -1,8 +1,8 @@
-use Rattle.std.proofs.Common.{Err, refl, ap, sym, ◌∙◌, le_trans, arith}
+use Rattle.std.proofs.Common.{Err, ap, sym, ◌∙◌, le_trans, arith}
 use Rattle.std.proofs.lemmas.Bool.{false≢true}
 use Rattle.sv_flat.specs.Views.{design_of}
 use Rattle.sv_obl.specs.Views.{obligation_of}
-use Rattle.sv_judge.proofs.ProgressFacts.{valid_done}
+use Rattle.sv_judge.proofs.ProgressFacts.{valid_done, ends_large}
 use Rattle.sv_judge.proofs.checking.decide_next.Goals as goal
 
 pub returns-in-Ok-true-clause-done : goal.returns-in-Ok-true-clause-done
@@ -16,10 +16,7 @@ returns-in-Ok-true-clause-done c =
     c.add_valid.ensures.logs
 
 pub returns-in-Err-TooLarge-clause-stop : goal.returns-in-Err-TooLarge-clause-stop
-returns-in-Err-TooLarge-clause-stop c = record {
-  before = c.args.progress.now.count;
-  obligation = obligation_of c.args.query;
-  numbered = record { counted = refl; among = c.requires.next.among };
-  earlier = c.requires.done.passed;
-  large = c.in-Err-TooLarge.ensures.too_large (ap (λ f. Err f) c.in-Err-TooLarge.field-0-is);
-}
+returns-in-Err-TooLarge-clause-stop c =
+    ends_large (design_of c.args.design.now) c.args.budget (obligation_of c.args.query)
+    c.args.progress.now c.requires.next.among c.requires.done
+    (c.in-Err-TooLarge.ensures.too_large (ap (λ f. Err f) c.in-Err-TooLarge.field-0-is))

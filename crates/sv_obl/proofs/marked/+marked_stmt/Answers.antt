@@ -2,11 +2,10 @@ use Rattle.std.proofs.Common.{◌≡◌, ◌+◌, ◌-◌, ◌<◌, length, get_
 use Rattle.std.proofs.Common.{subst, arith, rules}
 use Rattle.std.proofs.lemmas.Bool.{and_parts}
 use Rattle.std.proofs.lemmas.List.{nil_from_length, drop_all}
-use Rattle.std.specs.Prelude.{IsTrue, IfOk}
+use Rattle.std.specs.Prelude.{IfOk}
 use Rattle.sv_flat.specs.Assigned.{can_assign}
 use Rattle.sv_flat.specs.ByNumber.{signal_forms}
 use Rattle.sv_flat.specs.Design.{assign}
-use Rattle.sv_flat.specs.Soundness.{statement_sound}
 use Rattle.sv_flat.specs.Views.{typed_tree, flat_statement, flat_statements, chain_of}
 use Rattle.sv_flat.specs.declared.statements.FStmt.{the_lemmas}
 use Rattle.sv_flat.proofs.NumberedRuns.{no_branch}
@@ -15,7 +14,8 @@ use Rattle.sv_graph.specs.BitSets.{mask_in}
 use Rattle.sv_graph.proofs.EntryFacts.{nothing_in}
 use Rattle.sv_rules.specs.Surroundings.{in_surrounding}
 use Rattle.sv_rules.proofs.Passes.{sound_at, only_pieces}
-use Rattle.sv_rules.proofs.Sound.{branch_is, sound_as, block_is, next_statement}
+use Rattle.sv_rules.proofs.Sound.{branch_is, sound_as, sound_arm, sound_block, block_is}
+use Rattle.sv_rules.proofs.Sound.{next_statement}
 use Rattle.sv_obl.specs.declared.marked.Marked.{Marked}
 use Rattle.sv_obl.specs.Marked.{IsMarking}
 use Rattle.sv_obl.specs.Views.{piece_forms}
@@ -32,9 +32,8 @@ marked_stmt-marked_stmt-requires t c =
         c.requires.few,
         (
           c.requires.words,
-          sound_as signals (sym c.deref.ensures)
-              (and_parts _ _ (and_parts _ _
-              (sound_as signals c.in-If.is c.loop-rest.invariant.0.is_sound)).0).1,
+          sound_arm signals c.loop-rest.rest.now c.deref.result.now
+              (ap flat_statement c.in-If.is) c.deref.ensures c.loop-rest.invariant.0.is_sound,
         ),
       ),
     )
@@ -91,8 +90,7 @@ marked_plain-marked_block-requires t c =
         c.requires.few,
         (
           c.requires.words,
-          subst (λ b. IsTrue (statement_sound signals b))
-              (block_is _ c.in-Block.stmts _ c.in-Block.is c.deref-in-Block.ensures.value)
+          sound_block signals _ c.in-Block.stmts _ c.in-Block.is c.deref-in-Block.ensures.value
               c.requires.stmt,
         ),
       ),

@@ -1,6 +1,5 @@
 use Rattle.std.proofs.Common.{◌≡◌, ◌++◌, ◌+◌, drop, sym, ap, ap₂, subst, ◌∙◌, rules}
-use Rattle.std.specs.Prelude.{IsTrue, IfOk}
-use Rattle.sv_flat.specs.Soundness.{statement_sound}
+use Rattle.std.specs.Prelude.{IfOk}
 use Rattle.sv_flat.specs.declared.statements.FStmt.{the_lemmas}
 use Rattle.sv_flat.specs.Assignments.{targets}
 use Rattle.sv_flat.specs.Design.{branch}
@@ -9,21 +8,18 @@ use Rattle.sv_flat.specs.Views.{flat_statements, chain_of}
 use Rattle.sv_rules.specs.First.{FindsFirst, first_found}
 use Rattle.sv_rules.specs.WrongAssigns.{wrong_in}
 use Rattle.sv_rules.proofs.Firsts.{finds_both}
-use Rattle.sv_rules.proofs.Sound.{block_is, next_statement, sound_first, sound_rest}
+use Rattle.sv_rules.proofs.Sound.{block_is, next_statement, sound_block, sound_here, sound_after}
 use Rattle.sv_rules.proofs.WrongFacts.{wrong_append, one_more}
 use Rattle.sv_rules.proofs.assignments.+wrong_target.Goals as goal
 
 pub wrong_in_all-wrong_target-requires : goal.wrong_in_all-wrong_target-requires
 wrong_in_all-wrong_target-requires t c =
-    let design = design_of c.args.flat.now in
-    let next = next_statement c.args.stmts.now c.loop-stmt.stmt-index c.stmt-item.result
-    c.loop-stmt-test.true c.stmt-item.is in
-    let left = chain_of (flat_statements (drop (c.loop-stmt.stmt-index + 1) c.args.stmts.now)) in (
+    let signals = (design_of c.args.flat.now).signals in (
       search (rules, the_lemmas),
       (
         c.requires.sound,
-        sound_first design.signals (flat_statement c.stmt-item.result) left
-            (subst (λ b. IsTrue (statement_sound design.signals b)) next c.loop-stmt.invariant.3),
+        sound_here signals c.args.stmts.now c.loop-stmt.stmt-index c.stmt-item.result
+            c.loop-stmt-test.true c.stmt-item.is c.loop-stmt.invariant.3,
       ),
     )
 
@@ -42,8 +38,8 @@ wrong_in_all-loop-stmt-preserved t c =
           (finds_both done (wrong_in design kind this) 601 c.loop-stmt.found
           c.in_ok-wrong_target.field-0 c.loop-stmt.invariant.1 c.in_ok-wrong_target.ensures),
       one_more design kind all done this left _ next c.loop-stmt.invariant.2,
-      sound_rest design.signals this left
-          (subst (λ b. IsTrue (statement_sound design.signals b)) next c.loop-stmt.invariant.3),
+      sound_after design.signals c.args.stmts.now c.loop-stmt.stmt-index c.stmt-item.result
+          c.loop-stmt-test.true c.stmt-item.is c.loop-stmt.invariant.3,
     )
 
 pub wrong_target-wrong_in_all-requires : goal.wrong_target-wrong_in_all-requires
@@ -52,10 +48,8 @@ wrong_target-wrong_in_all-requires t c =
       search (rules, the_lemmas),
       (
         c.requires.sound,
-        subst (λ b. IsTrue (statement_sound signals b))
-            (block_is c.args.stmt.now c.in-Block.stmts c.deref-in-Block.result.now c.in-Block.is
-            c.deref-in-Block.ensures.value)
-            c.requires.stmt,
+        sound_block signals c.args.stmt.now c.in-Block.stmts c.deref-in-Block.result.now
+            c.in-Block.is c.deref-in-Block.ensures.value c.requires.stmt,
       ),
     )
 

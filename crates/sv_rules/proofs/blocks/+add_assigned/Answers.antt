@@ -13,7 +13,7 @@ use Rattle.sv_graph.specs.BitSets.{in_bits}
 use Rattle.sv_rules.specs.Pieces.{piece_forms}
 use Rattle.sv_rules.specs.Phases.{AddsAssigned}
 use Rattle.sv_rules.proofs.Passes.{sound_at, assigned_more, assigned_rest, assigned_end}
-use Rattle.sv_rules.proofs.Sound.{branch_is, sound_as, block_is, next_statement}
+use Rattle.sv_rules.proofs.Sound.{branch_is, sound_arm, sound_block, block_is, next_statement}
 use Rattle.sv_rules.proofs.blocks.+add_assigned.Goals as goal
 
 pub add_assigned-loop-rest-init : goal.add_assigned-loop-rest-init
@@ -25,9 +25,8 @@ add_assigned-add_assigned-requires t c =
       search (rules, the_lemmas),
       (
         c.requires.sound,
-        sound_as signals (sym c.deref.ensures)
-            (and_parts _ _ (and_parts _ _
-            (sound_as signals c.in-If.is c.loop-rest.invariant.1)).0).1,
+        sound_arm signals c.loop-rest.rest.now c.deref.result.now (ap flat_statement c.in-If.is)
+            c.deref.ensures c.loop-rest.invariant.1,
       ),
     )
 
@@ -80,8 +79,7 @@ add_assigned_plain-add_assigned_all-requires t c =
       search (rules, the_lemmas),
       (
         c.requires.sound,
-        subst (λ z. IsTrue (statement_sound signals z))
-            (block_is _ c.in-Block.stmts _ c.in-Block.is c.deref-in-Block.ensures.value)
+        sound_block signals _ c.in-Block.stmts _ c.in-Block.is c.deref-in-Block.ensures.value
             c.requires.stmt,
       ),
     )

@@ -1,12 +1,11 @@
 use Rattle.std.proofs.Common.{◌≡◌, ◌+◌, drop, refl, sym, ap, subst, rules}
 use Rattle.std.proofs.Common.{Option}
 use Rattle.std.proofs.lemmas.Bool.{and_parts}
-use Rattle.std.specs.Prelude.{IsTrue, IfOk}
+use Rattle.std.specs.Prelude.{IfOk}
 use Rattle.std.proofs.lemmas.List.{at_drop_all}
 use Rattle.sv_flat.specs.Assigned.{assigns, can_assign, always_assigns}
 use Rattle.sv_flat.specs.Design.{assign}
 use Rattle.sv_flat.specs.Readings.{readings, either}
-use Rattle.sv_flat.specs.Soundness.{statement_sound}
 use Rattle.sv_flat.specs.Views.{design_of, typed_tree, flat_statement, flat_statements, chain_of}
 use Rattle.sv_flat.specs.declared.statements.FStmt.{the_lemmas}
 use Rattle.sv_flat.proofs.NumberedRuns.{no_branch}
@@ -19,7 +18,8 @@ use Rattle.sv_rules.specs.Surroundings.{in_surrounding}
 use Rattle.sv_rules.proofs.ArmFacts.{arms_begin, arms_more, arms_end}
 use Rattle.sv_rules.proofs.Passes.{sound_at, only_pieces, forward_begin, forward_more}
 use Rattle.sv_rules.proofs.Passes.{forward_end}
-use Rattle.sv_rules.proofs.Sound.{branch_is, sound_as, block_is, next_statement}
+use Rattle.sv_rules.proofs.Sound.{branch_is, sound_as, sound_arm, sound_block, block_is}
+use Rattle.sv_rules.proofs.Sound.{next_statement}
 use Rattle.sv_rules.proofs.blocks.+forward.Goals as goal
 
 pub forward-wrong_in-requires-clause-formed : goal.forward-wrong_in-requires-clause-formed
@@ -33,9 +33,8 @@ forward-forward-requires t c =
       search (rules, the_lemmas),
       (
         c.requires.sound,
-        sound_as signals (sym c.deref.ensures)
-            (and_parts _ _ (and_parts _ _
-            (sound_as signals c.in-If.is c.loop-rest.invariant.0.is_sound)).0).1,
+        sound_arm signals c.loop-rest.rest.now c.deref.result.now (ap flat_statement c.in-If.is)
+            c.deref.ensures c.loop-rest.invariant.0.is_sound,
       ),
     )
 
@@ -92,8 +91,7 @@ forward_plain-forward_all-requires t c =
       search (rules, the_lemmas),
       (
         c.requires.sound,
-        subst (λ b. IsTrue (statement_sound signals b))
-            (block_is _ c.in-Block.stmts _ c.in-Block.is c.deref-in-Block.ensures.value)
+        sound_block signals _ c.in-Block.stmts _ c.in-Block.is c.deref-in-Block.ensures.value
             c.requires.stmt,
       ),
     )

@@ -1,15 +1,13 @@
-use Rattle.std.proofs.Common.{◌≡◌, ◌+◌, ◌||◌, length, drop, refl, sym, ap, ap₂, subst, ◌∙◌, rules}
-use Rattle.std.specs.Prelude.{IsTrue}
+use Rattle.std.proofs.Common.{◌≡◌, ◌+◌, ◌||◌, length, drop, refl, sym, ap, subst, ◌∙◌, rules}
 use Rattle.std.proofs.lemmas.List.{at_drop_all}
 use Rattle.sv_flat.specs.Assigned.{assigns}
-use Rattle.sv_flat.specs.Design.{assign, branch}
-use Rattle.sv_flat.specs.Soundness.{statement_sound}
+use Rattle.sv_flat.specs.Design.{assign}
 use Rattle.sv_flat.specs.Views.{typed_tree, flat_statement, flat_statements, chain_of}
 use Rattle.sv_flat.specs.declared.statements.FStmt.{the_lemmas}
 use Rattle.sv_rules.specs.Pieces.{piece_forms}
 use Rattle.sv_rules.specs.DriverTables.{assigned_in, Notes}
 use Rattle.sv_rules.proofs.NoteFacts.{notes_begin, notes_more, notes_end, both_notes, same_notes}
-use Rattle.sv_rules.proofs.Sound.{next_statement, sound_rest, block_is}
+use Rattle.sv_rules.proofs.Sound.{next_statement, sound_after, sound_block, block_is, branch_is}
 use Rattle.sv_rules.proofs.drivers.+note_targets.Goals as goal
 
 pub note_all-loop-stmt-init : goal.note_all-loop-stmt-init
@@ -26,25 +24,25 @@ note_all-loop-stmt-preserved t c =
     let n = length c.args.drivers.now.first.items in
     let stmts = c.args.stmts.now in
     let i = c.loop-stmt.stmt-index in
-    let this = flat_statement c.stmt-item.result in
     let rest = chain_of (flat_statements (drop (i + 1) stmts)) in
-    let next = next_statement stmts i c.stmt-item.result c.loop-stmt-test.true c.stmt-item.is in
     let sound = c.loop-stmt.invariant.2 in (
       c.note_targets.ensures.first ∙ c.loop-stmt.invariant.0,
       c.note_targets.ensures.second ∙ c.loop-stmt.invariant.0,
       (
         sound.0,
         sound.1,
-        sound_rest sound.0 this rest
-            (subst (λ b. IsTrue (statement_sound sound.0 b)) next sound.2),
+        sound_after sound.0 stmts i c.stmt-item.result c.loop-stmt-test.true c.stmt-item.is
+            sound.2,
       ),
       notes_more n c.args.driver c.args.drivers.now c.loop-stmt.drivers c.note_targets.new.drivers
           (assigns (chain_of (flat_statements stmts)))
-          (assigns (chain_of (flat_statements (drop i stmts)))) (assigns this) (assigns rest)
-          c.loop-stmt.invariant.3
-          (λ s. ap (λ b. assigns b s) next)
+          (assigns (chain_of (flat_statements (drop i stmts))))
+          (assigns (flat_statement c.stmt-item.result)) (assigns rest) c.loop-stmt.invariant.3
+          (λ s. ap (λ b. assigns b s)
+          (next_statement stmts i c.stmt-item.result c.loop-stmt-test.true c.stmt-item.is))
           (subst (λ m. Notes m c.args.driver c.loop-stmt.drivers c.note_targets.new.drivers
-          (assigns this)) c.loop-stmt.invariant.0 c.note_targets.ensures.notes),
+          (assigns (flat_statement c.stmt-item.result))) c.loop-stmt.invariant.0
+          c.note_targets.ensures.notes),
     )
 
 pub note_all-returns-clause-notes : goal.note_all-returns-clause-notes
@@ -66,9 +64,8 @@ note_targets-note_all-requires t c =
         (
           sound.0,
           sound.1,
-          subst (λ b. IsTrue (statement_sound sound.0 b))
-              (block_is c.args.stmt.now c.in-Block.stmts c.deref-in-Block.result.now c.in-Block.is
-              c.deref-in-Block.ensures.value) sound.2,
+          sound_block sound.0 c.args.stmt.now c.in-Block.stmts c.deref-in-Block.result.now
+              c.in-Block.is c.deref-in-Block.ensures.value sound.2,
         ),
         c.requires.second,
       ),
@@ -100,16 +97,11 @@ note_targets-returns-in-If-clause-notes t c =
     let n = length c.args.drivers.now.first.items in
     let first = c.deref-in-If.result.now in
     let second = c.deref-in-If-2.result.now in
-    let is : flat_statement c.args.stmt.now
-    ≡ branch c.in-If.place (typed_tree c.in-If.cond) (flat_statement c.in-If.yes.value)
-    (flat_statement c.in-If.no.value) =
-    ap flat_statement c.in-If.is in
     same_notes n c.args.driver c.args.drivers.now c.note_targets-in-If.new.drivers
     (λ s. assigns (flat_statement first) s || assigns (flat_statement second) s)
     (assigns (flat_statement c.args.stmt.now))
-    (λ s. ap₂ (λ f g. assigns (flat_statement f) s || assigns (flat_statement g) s)
-    c.deref-in-If.ensures c.deref-in-If-2.ensures
-    ∙ sym (ap (λ b. assigns b s) is))
+    (λ s. sym (ap (λ b. assigns b s) (branch_is c.args.stmt.now first second
+    (ap flat_statement c.in-If.is) c.deref-in-If.ensures c.deref-in-If-2.ensures)))
     (both_notes n c.args.driver c.args.drivers.now c.note_targets.new.drivers
     c.note_targets-in-If.new.drivers
     (assigns (flat_statement first)) (assigns (flat_statement second)) c.note_targets.ensures.notes

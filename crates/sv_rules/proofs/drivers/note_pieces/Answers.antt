@@ -1,9 +1,9 @@
-use Rattle.std.proofs.Common.{◌<◌, ◌+◌, ◌==◌, length, drop, get_or, refl, sym, ap, subst, ◌∙◌}
+use Rattle.std.proofs.Common.{◌+◌, ◌==◌, length, drop, get_or, refl, ap, subst, ◌∙◌}
 use Rattle.std.proofs.lemmas.List.{at_drop_all}
 use Rattle.sv_rules.specs.Pieces.{piece_forms}
 use Rattle.sv_rules.specs.DriverTables.{assigned_in, Notes}
 use Rattle.sv_rules.proofs.NoteFacts.{notes_begin, notes_more, notes_end}
-use Rattle.sv_rules.proofs.Sound.{no_piece, piece_at, targets_first, targets_rest}
+use Rattle.sv_rules.proofs.Sound.{no_piece, piece_at, target_below, targets_rest}
 use Rattle.sv_rules.proofs.drivers.note_pieces.Goals as goal
 
 pub loop-piece-init : goal.loop-piece-init
@@ -17,19 +17,13 @@ loop-piece-init c = (
 
 pub note-requires-clause-first : goal.note-requires-clause-first
 note-requires-clause-first c =
-    let n = length c.args.drivers.now.first.items in
-    subst (λ m. (get_or c.args.pieces.now c.loop-piece.piece-index no_piece).signal.0 < m)
-    (sym c.loop-piece.invariant.0)
-    (targets_first n c.args.pieces.now c.loop-piece.piece-index no_piece c.loop-piece-test.true
-    c.loop-piece.invariant.2)
+    target_below c.args.pieces.now c.loop-piece.piece-index no_piece c.loop-piece.invariant.0
+    c.loop-piece-test.true c.loop-piece.invariant.2
 
 pub note-requires-clause-second : goal.note-requires-clause-second
 note-requires-clause-second c =
-    let n = length c.args.drivers.now.first.items in
-    subst (λ m. (get_or c.args.pieces.now c.loop-piece.piece-index no_piece).signal.0 < m)
-    (sym c.loop-piece.invariant.1)
-    (targets_first n c.args.pieces.now c.loop-piece.piece-index no_piece c.loop-piece-test.true
-    c.loop-piece.invariant.2)
+    target_below c.args.pieces.now c.loop-piece.piece-index no_piece c.loop-piece.invariant.1
+    c.loop-piece-test.true c.loop-piece.invariant.2
 
 pub loop-piece-preserved : goal.loop-piece-preserved
 loop-piece-preserved c =

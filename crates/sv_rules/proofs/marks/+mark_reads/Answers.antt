@@ -1,13 +1,12 @@
 use Rattle.std.proofs.Common.{◌+◌, drop, refl, sym, ap, subst, ◌∙◌, rules}
-use Rattle.std.specs.Prelude.{IsTrue, OnOk}
+use Rattle.std.specs.Prelude.{OnOk}
 use Rattle.std.proofs.lemmas.List.{at_drop_all}
-use Rattle.sv_flat.specs.Soundness.{statement_sound}
 use Rattle.sv_flat.specs.Views.{design_of, flat_statement, flat_statements, chain_of}
 use Rattle.sv_flat.specs.declared.statements.FStmt.{the_lemmas}
 use Rattle.sv_graph.specs.Marks.{Marks}
 use Rattle.sv_rules.specs.ReadMarks.{reads_in}
 use Rattle.sv_graph.proofs.MarkFacts.{marks_more, marks_end}
-use Rattle.sv_rules.proofs.Sound.{next_statement, sound_first, sound_rest, block_is}
+use Rattle.sv_rules.proofs.Sound.{next_statement, sound_here, sound_after, sound_block, block_is}
 use Rattle.sv_rules.proofs.marks.+mark_reads.Goals as goal
 
 pub mark_all_reads-loop-stmt-init : goal.mark_all_reads-loop-stmt-init
@@ -16,15 +15,11 @@ mark_all_reads-loop-stmt-init t c = (c.requires.stmts, λ s below. refl)
 pub mark_all_reads-mark_reads-requires : goal.mark_all_reads-mark_reads-requires
 mark_all_reads-mark_reads-requires t c =
     let signals = (design_of c.args.flat.now).signals in
-    let stmts = c.args.stmts.now in
-    let i = c.loop-stmt.stmt-index in
-    let this = flat_statement c.stmt-item.result in
-    let rest = chain_of (flat_statements (drop (i + 1) stmts)) in
-    let next = next_statement stmts i c.stmt-item.result c.loop-stmt-test.true c.stmt-item.is in (
+    let stmts = c.args.stmts.now in (
       search (rules, the_lemmas),
       (
-        sound_first signals this rest
-            (subst (λ b. IsTrue (statement_sound signals b)) next c.loop-stmt.invariant.0),
+        sound_here signals stmts c.loop-stmt.stmt-index c.stmt-item.result c.loop-stmt-test.true
+            c.stmt-item.is c.loop-stmt.invariant.0,
         c.loop-stmt.auto.table ∙ c.requires.size,
       ),
     )
@@ -37,8 +32,8 @@ mark_all_reads-loop-stmt-preserved t c =
     let this = flat_statement c.stmt-item.result in
     let rest = chain_of (flat_statements (drop (i + 1) stmts)) in
     let next = next_statement stmts i c.stmt-item.result c.loop-stmt-test.true c.stmt-item.is in (
-      sound_rest signals this rest
-          (subst (λ b. IsTrue (statement_sound signals b)) next c.loop-stmt.invariant.0),
+      sound_after signals stmts i c.stmt-item.result c.loop-stmt-test.true c.stmt-item.is
+          c.loop-stmt.invariant.0,
       marks_more c.args.table.now c.loop-stmt.table c.mark_reads.new.table
           (reads_in signals (chain_of (flat_statements stmts)))
           (reads_in signals (chain_of (flat_statements (drop i stmts)))) (reads_in signals this)
@@ -63,9 +58,8 @@ mark_reads-mark_all_reads-requires t c =
     let signals = (design_of c.args.flat.now).signals in (
       search (rules, the_lemmas),
       (
-        subst (λ b. IsTrue (statement_sound signals b))
-            (block_is c.args.stmt.now c.in-Block.stmts c.deref.result.now c.in-Block.is
-            c.deref.ensures.value) c.requires.stmt,
+        sound_block signals c.args.stmt.now c.in-Block.stmts c.deref.result.now c.in-Block.is
+            c.deref.ensures.value c.requires.stmt,
         c.requires.size,
       ),
     )

@@ -1,16 +1,15 @@
-use Rattle.std.proofs.Common.{◌≡◌, ◌+◌, ◌||◌, drop, refl, sym, ap, ap₂, subst, ◌∙◌, rules}
-use Rattle.std.specs.Prelude.{IsTrue}
+use Rattle.std.proofs.Common.{◌≡◌, ◌+◌, ◌||◌, drop, refl, sym, ap, subst, ◌∙◌, rules}
 use Rattle.std.proofs.lemmas.List.{at_drop_all}
 use Rattle.sv_flat.specs.Assigned.{assigns}
-use Rattle.sv_flat.specs.Design.{assign, branch}
-use Rattle.sv_flat.specs.Soundness.{statement_sound}
+use Rattle.sv_flat.specs.Design.{assign}
 use Rattle.sv_flat.specs.Views.{typed_tree, flat_statement, flat_statements, chain_of}
 use Rattle.sv_flat.specs.declared.statements.FStmt.{the_lemmas}
 use Rattle.sv_rules.specs.Pieces.{piece_forms}
 use Rattle.sv_rules.specs.DriverTables.{assigned_in}
 use Rattle.sv_graph.specs.Marks.{Marks}
 use Rattle.sv_graph.proofs.MarkFacts.{marks_more, marks_end, both_marked, same_marked}
-use Rattle.sv_rules.proofs.Sound.{next_statement, sound_first, sound_rest, block_is}
+use Rattle.sv_rules.proofs.Sound.{next_statement, sound_here, sound_after, sound_block, block_is}
+use Rattle.sv_rules.proofs.Sound.{branch_is}
 use Rattle.sv_rules.proofs.marks.+mark_targets.Goals as goal
 
 pub mark_all_targets-loop-stmt-init : goal.mark_all_targets-loop-stmt-init
@@ -20,16 +19,13 @@ pub mark_all_targets-mark_targets-requires : goal.mark_all_targets-mark_targets-
 mark_all_targets-mark_targets-requires t c =
     let stmts = c.args.stmts.now in
     let i = c.loop-stmt.stmt-index in
-    let this = flat_statement c.stmt-item.result in
-    let rest = chain_of (flat_statements (drop (i + 1) stmts)) in
-    let next = next_statement stmts i c.stmt-item.result c.loop-stmt-test.true c.stmt-item.is in
     let sound = c.loop-stmt.invariant.0 in (
       search (rules, the_lemmas),
       (
         sound.0,
         sound.1 ∙ sym c.loop-stmt.auto.table,
-        sound_first sound.0 this rest
-            (subst (λ b. IsTrue (statement_sound sound.0 b)) next sound.2),
+        sound_here sound.0 stmts i c.stmt-item.result c.loop-stmt-test.true c.stmt-item.is
+            sound.2,
       ),
     )
 
@@ -37,21 +33,21 @@ pub mark_all_targets-loop-stmt-preserved : goal.mark_all_targets-loop-stmt-prese
 mark_all_targets-loop-stmt-preserved t c =
     let stmts = c.args.stmts.now in
     let i = c.loop-stmt.stmt-index in
-    let this = flat_statement c.stmt-item.result in
     let rest = chain_of (flat_statements (drop (i + 1) stmts)) in
-    let next = next_statement stmts i c.stmt-item.result c.loop-stmt-test.true c.stmt-item.is in
     let sound = c.loop-stmt.invariant.0 in (
       (
         sound.0,
         sound.1,
-        sound_rest sound.0 this rest
-            (subst (λ b. IsTrue (statement_sound sound.0 b)) next sound.2),
+        sound_after sound.0 stmts i c.stmt-item.result c.loop-stmt-test.true c.stmt-item.is
+            sound.2,
       ),
       marks_more c.args.table.now c.loop-stmt.table c.mark_targets.new.table
           (assigns (chain_of (flat_statements stmts)))
-          (assigns (chain_of (flat_statements (drop i stmts)))) (assigns this) (assigns rest)
-          c.loop-stmt.auto.table
-          (λ s. ap (λ b. assigns b s) next) c.mark_targets.ensures c.loop-stmt.invariant.1,
+          (assigns (chain_of (flat_statements (drop i stmts))))
+          (assigns (flat_statement c.stmt-item.result)) (assigns rest) c.loop-stmt.auto.table
+          (λ s. ap (λ b. assigns b s)
+          (next_statement stmts i c.stmt-item.result c.loop-stmt-test.true c.stmt-item.is))
+          c.mark_targets.ensures c.loop-stmt.invariant.1,
     )
 
 pub mark_all_targets-returns : goal.mark_all_targets-returns
@@ -71,9 +67,8 @@ mark_targets-mark_all_targets-requires t c =
       (
         sound.0,
         sound.1,
-        subst (λ b. IsTrue (statement_sound sound.0 b))
-            (block_is c.args.stmt.now c.in-Block.stmts c.deref-in-Block.result.now c.in-Block.is
-            c.deref-in-Block.ensures.value) sound.2,
+        sound_block sound.0 c.args.stmt.now c.in-Block.stmts c.deref-in-Block.result.now
+            c.in-Block.is c.deref-in-Block.ensures.value sound.2,
       ),
     )
 
@@ -100,16 +95,11 @@ pub mark_targets-returns-in-If : goal.mark_targets-returns-in-If
 mark_targets-returns-in-If t c =
     let first = c.deref-in-If.result.now in
     let second = c.deref-in-If-2.result.now in
-    let is : flat_statement c.args.stmt.now
-    ≡ branch c.in-If.place (typed_tree c.in-If.cond) (flat_statement c.in-If.yes.value)
-    (flat_statement c.in-If.no.value) =
-    ap flat_statement c.in-If.is in
     same_marked c.args.table.now c.mark_targets-in-If.new.table
     (λ s. assigns (flat_statement first) s || assigns (flat_statement second) s)
     (assigns (flat_statement c.args.stmt.now))
-    (λ s. ap₂ (λ f g. assigns (flat_statement f) s || assigns (flat_statement g) s)
-    c.deref-in-If.ensures c.deref-in-If-2.ensures
-    ∙ sym (ap (λ b. assigns b s) is))
+    (λ s. sym (ap (λ b. assigns b s) (branch_is c.args.stmt.now first second
+    (ap flat_statement c.in-If.is) c.deref-in-If.ensures c.deref-in-If-2.ensures)))
     (both_marked c.args.table.now c.mark_targets.new.table c.mark_targets-in-If.new.table
     (assigns (flat_statement first)) (assigns (flat_statement second)) c.mark_targets.auto.table
     c.mark_targets.ensures c.mark_targets-in-If.ensures)

@@ -1,16 +1,15 @@
-use Rattle.std.proofs.Common.{◌≡◌, ◌++◌, sym, ap, subst, ◌∙◌, rules}
+use Rattle.std.proofs.Common.{◌≡◌, ◌++◌, ap, subst, rules, refl}
 use Rattle.std.specs.Prelude.{OnOk}
 use Rattle.sv_flat.specs.ByNumber.{signal_forms}
 use Rattle.sv_flat.specs.declared.expressions.FNode.{the_lemmas}
-use Rattle.sv_flat.specs.Readings.{node_reads, parts_reads}
+use Rattle.sv_flat.specs.Readings.{parts_reads}
 use Rattle.sv_flat.specs.Soundness.{is_one_to, node_well_formed}
 use Rattle.sv_flat.specs.Views.{node_tree}
 use Rattle.sv_flat.proofs.Depths.{second_of}
 use Rattle.sv_flat.proofs.NodeForms.{join_few, repeat_few}
 use Rattle.sv_flat.proofs.Parts.{trees, formed_at}
-use Rattle.sv_flat.proofs.Rows.{row_parts-hidden}
 use Rattle.sv_rules.specs.ReadForms.{read_forms}
-use Rattle.sv_rules.proofs.NameFacts.{names_more}
+use Rattle.sv_rules.proofs.NameFacts.{names_more, row_reads}
 use Rattle.sv_rules.proofs.names.+add_names.Goals as goal
 
 pub add_all_names-add_names-requires : goal.add_all_names-add_names-requires
@@ -54,9 +53,7 @@ add_names-returns-in-Join t c =
     let signals = signal_forms c.args.signals.now in
     subst (λ rs. OnOk c.add_all_names.result (read_forms c.add_all_names.new.names.items ≡
     read_forms c.args.names.now.items ++ rs))
-    (ap (λ es. parts_reads signals (trees es)) c.deref-in-Join.ensures.value
-    ∙ ap (parts_reads signals) (sym (row_parts-hidden c.in-Join.parts))
-    ∙ ap (node_reads signals) (sym (ap node_tree c.in-Join.is)))
+    (row_reads signals c.in-Join.parts c.deref-in-Join.ensures.value c.in-Join.is refl)
     c.add_all_names.ensures
 
 pub add_names-returns-in-Repeat : goal.add_names-returns-in-Repeat
@@ -65,7 +62,5 @@ add_names-returns-in-Repeat t c =
     subst (λ rs. OnOk c.add_all_names-in-Repeat.result
     (read_forms c.add_all_names-in-Repeat.new.names.items ≡
     read_forms c.args.names.now.items ++ rs))
-    (ap (λ es. parts_reads signals (trees es)) c.deref-in-Repeat.ensures.value
-    ∙ ap (parts_reads signals) (sym (row_parts-hidden c.in-Repeat.parts))
-    ∙ ap (node_reads signals) (sym (ap node_tree c.in-Repeat.is)))
+    (row_reads signals c.in-Repeat.parts c.deref-in-Repeat.ensures.value c.in-Repeat.is refl)
     c.add_all_names-in-Repeat.ensures

@@ -9,8 +9,8 @@ use Rattle.sv_blast.specs.Encoders.{design_in, obligation_in}
 use Rattle.sv_blast.specs.Goals.{IsTargetReady, IsHeldReady}
 use Rattle.sv_blast.specs.LabelViews.{label_form, AreWithin}
 use Rattle.sv_blast.specs.WordTables.{words_of, StandsOf}
-use Rattle.sv_blast.proofs.LiteralFacts.{target_ready, reads_stand, held_ready, reads_more}
-use Rattle.sv_blast.proofs.LiteralFacts.{violation_more}
+use Rattle.sv_encoding_laws.proofs.Chain.{p9, p10}
+use Rattle.sv_blast.proofs.LiteralFacts.{target_ready, reads_stand, held_ready}
 use Rattle.sv_blast.proofs.LiteralSteps.{within_up, target_path, in_hand, target_gates, reads_from}
 use Rattle.sv_blast.proofs.LiteralSteps.{reads_gates, violation_from}
 use Rattle.sv_blast.proofs.QuerySignals.{reads_known}
@@ -92,12 +92,10 @@ pub returns-in_err-target-clause-full : goal.returns-in_err-target-clause-full
 returns-in_err-target-clause-full c =
     let same : IsErrOf c.from_residual.result Full →
     IsErrOf c.target_label.result Full = search rules in
-    let g = reads_more c.args.self.now.design.now c.know_design.ensures.checked
-    (obligation_in c.args.self.now)
-    c.requires.encoder.query in
-    let h = violation_more c.args.self.now.design.now c.know_design.ensures.checked
-    (obligation_in c.args.self.now)
-    c.requires.encoder.query in
+    let g = (p9 (design_in c.args.self.now) c.know_design.ensures.checked
+    (obligation_in c.args.self.now) c.requires.encoder.query).extends.begins.grows in
+    let h = (p10 (design_in c.args.self.now) c.know_design.ensures.checked
+    (obligation_in c.args.self.now) c.requires.encoder.query).extends.begins.grows in
     λ e.
     let most = subst (λ (z : Formula × LabelForm). most_variables < (z.0).variables)
     (target_path (design_in c.args.self.now) (obligation_in c.args.self.now)
@@ -110,9 +108,8 @@ pub returns-in_err-reads-clause-full : goal.returns-in_err-reads-clause-full
 returns-in_err-reads-clause-full c =
     let same : IsErrOf c.from_residual-in_err-reads.result Full →
     IsErrOf c.signal_labels.result Full = search rules in
-    let h = violation_more c.args.self.now.design.now c.know_design.ensures.checked
-    (obligation_in c.args.self.now)
-    c.requires.encoder.query in
+    let h = (p10 (design_in c.args.self.now) c.know_design.ensures.checked
+    (obligation_in c.args.self.now) c.requires.encoder.query).extends.begins.grows in
     λ e.
     let most = subst (λ (z : Formula × List LabelForm). most_variables < (z.0).variables)
     (reads_from (design_in c.args.self.now) (obligation_in c.args.self.now)

@@ -3,7 +3,6 @@ use Rattle.std.proofs.Common.{arith}
 use Rattle.std.specs.Prelude.{All, IsTrue, Contains}
 use Rattle.std.specs.Result.{IsErrOf}
 use Rattle.sv_flat.specs.Processes.{is_register}
-use Rattle.sv_design.specs.Numbers.{numbers}
 use Rattle.sv_gates.specs.Formulas.{Formula, most_variables}
 use Rattle.sv_gates.specs.declared.gates.GateFault.TheVariants.{Full}
 use Rattle.sv_encoding.specs.Cones.{registers_in, next_cone}
@@ -13,54 +12,46 @@ use Rattle.sv_blast.specs.Coded.{place_form}
 use Rattle.sv_blast.specs.Encoders.{design_in, obligation_in}
 use Rattle.sv_blast.specs.Steps.{AreReady, after_settled}
 use Rattle.sv_blast.specs.WordTables.{words_of, StandsOf}
-use Rattle.sv_blast.proofs.FrameSteps.{inputs_from, inputs_made, registers_from, registers_made}
-use Rattle.sv_blast.proofs.FrameSteps.{next_from}
+use Rattle.sv_blast.proofs.FrameSteps.{taken, taken_all, inputs_from, inputs_made, registers_from}
+use Rattle.sv_blast.proofs.FrameSteps.{registers_made, next_from}
 use Rattle.sv_blast.proofs.StepFacts.{inputs_known, inputs_narrow, registers_are, read_ready}
 use Rattle.sv_blast.proofs.StepFacts.{next_ready, registers_more, next_more}
 use Rattle.sv_blast.proofs.encoding.Encoder.words_next.Goals as goal
 
 pub make_fresh-requires : goal.make_fresh-requires
 make_fresh-requires c = record {
-  known = subst (All (λ s. s < length c.args.self.now.design.now.signals.items))
-      (sym (ap numbers c.deref-2.ensures.value ∙ c.in_ok-inputs.ensures
-      ∙ ap (inputs_in (design_in c.args.self.now)) (ap numbers c.deref.ensures.value
-      ∙ c.requires.encoder.next)))
+  known = taken_all (λ s. s < length c.args.self.now.design.now.signals.items)
+      (inputs_in (design_in c.args.self.now)) c.deref-2.ensures.value c.in_ok-inputs.ensures
+      c.deref.ensures.value c.requires.encoder.next
       (inputs_known c.args.self.now.design.now c.know_design.ensures.checked
-      (obligation_in c.args.self.now)
-      c.requires.encoder.query);
+      (obligation_in c.args.self.now) c.requires.encoder.query);
 }
 
 pub add_places-requires : goal.add_places-requires
 add_places-requires c =
     let design = design_in c.args.self.now in
-    subst (All (λ s. length (words_of c.make_fresh.new.words s) ≤ 64))
-    (sym (ap numbers c.deref-3.ensures.value ∙ c.in_ok-inputs.ensures
-    ∙ ap (inputs_in (design_in c.args.self.now)) (ap numbers c.deref.ensures.value
-    ∙ c.requires.encoder.next)))
+    let o = obligation_in c.args.self.now in
+    taken_all (λ s. length (words_of c.make_fresh.new.words s) ≤ 64) (inputs_in design)
+    c.deref-3.ensures.value c.in_ok-inputs.ensures c.deref.ensures.value c.requires.encoder.next
     (subst (λ (z : Formula × Words). All (λ s. length (z.1 s) ≤ 64)
-    (inputs_in design (next_cone design (obligation_in c.args.self.now))))
-    (inputs_made (design_in c.args.self.now) (obligation_in c.args.self.now) _
-    (ap numbers c.deref-2.ensures.value ∙ c.in_ok-inputs.ensures
-    ∙ ap (inputs_in (design_in c.args.self.now)) (ap numbers c.deref.ensures.value
-    ∙ c.requires.encoder.next))
+    (inputs_in design (next_cone design o)))
+    (inputs_made design o _
+    (taken (inputs_in design) c.deref-2.ensures.value c.in_ok-inputs.ensures c.deref.ensures.value
+    c.requires.encoder.next)
     _ c.new-words.ensures _ _ c.requires.now _ c.in_ok-make_fresh.ensures.made)
-    (inputs_narrow c.args.self.now.design.now c.know_design.ensures.checked
-    (obligation_in c.args.self.now)
+    (inputs_narrow c.args.self.now.design.now c.know_design.ensures.checked o
     c.requires.encoder.query))
 
 pub make_next-requires-clause-bodies : goal.make_next-requires-clause-bodies
-make_next-requires-clause-bodies c =
-    c.requires.encoder.bodies
+make_next-requires-clause-bodies c = c.requires.encoder.bodies
 
 pub make_next-requires-clause-registers : goal.make_next-requires-clause-registers
 make_next-requires-clause-registers c =
-    subst (All (λ s. IsTrue (is_register (design_in c.args.self.now) s)))
-    (sym (ap numbers c.deref-5.ensures.value ∙ c.in_ok-registers.ensures
-    ∙ ap (registers_in (design_in c.args.self.now)) (ap numbers c.deref-4.ensures.value
-    ∙ c.requires.encoder.next)))
+    let design = design_in c.args.self.now in
+    taken_all (λ s. IsTrue (is_register design s)) (registers_in design) c.deref-5.ensures.value
+    c.in_ok-registers.ensures c.deref-4.ensures.value c.requires.encoder.next
     (registers_are c.args.self.now.design.now c.know_design.ensures.checked
-    (obligation_in c.args.self.now)
-    c.requires.encoder.query)
+    (obligation_in c.args.self.now) c.requires.encoder.query)
 
 pub make_next-requires-clause-read : goal.make_next-requires-clause-read
 make_next-requires-clause-read c =
@@ -71,95 +62,83 @@ make_next-requires-clause-read c =
     (ap (λ (z : Formula × Words). z.1) c.requires.now)
     (subst (λ (z : Formula × Words). StandsOf design.signals (z.0).variables
     (after_settled design o).1 t)
-    (inputs_made (design_in c.args.self.now) (obligation_in c.args.self.now) _
-    (ap numbers c.deref-2.ensures.value ∙ c.in_ok-inputs.ensures
-    ∙ ap (inputs_in (design_in c.args.self.now)) (ap numbers c.deref.ensures.value
-    ∙ c.requires.encoder.next))
+    (inputs_made design o _
+    (taken (inputs_in design) c.deref-2.ensures.value c.in_ok-inputs.ensures c.deref.ensures.value
+    c.requires.encoder.next)
     _ c.new-words.ensures _ _ c.requires.now _ c.in_ok-make_fresh.ensures.made)
-    (read_ready c.args.self.now.design.now c.know_design.ensures.checked
-    (obligation_in c.args.self.now)
+    (read_ready c.args.self.now.design.now c.know_design.ensures.checked o
     c.requires.encoder.query s t
     (subst (λ z. Contains z s)
-    (ap numbers c.deref-5.ensures.value ∙ c.in_ok-registers.ensures
-    ∙ ap (registers_in (design_in c.args.self.now)) (ap numbers c.deref-4.ensures.value
-    ∙ c.requires.encoder.next)) at) reads))
+    (taken (registers_in design) c.deref-5.ensures.value c.in_ok-registers.ensures
+    c.deref-4.ensures.value c.requires.encoder.next) at) reads))
 
 pub make_settled-requires-clause-bodies : goal.make_settled-requires-clause-bodies
-make_settled-requires-clause-bodies c =
-    c.requires.encoder.bodies
+make_settled-requires-clause-bodies c = c.requires.encoder.bodies
 
 pub make_settled-requires-clause-ready : goal.make_settled-requires-clause-ready
 make_settled-requires-clause-ready c =
     let design = design_in c.args.self.now in
+    let o = obligation_in c.args.self.now in
     subst (AreReady design (StandsOf design.signals c.make_next.new.gates.variables
     (words_of c.make_next.new.words)))
-    (sym (ap numbers c.deref-7.ensures.value ∙ c.in_ok-settled.ensures
-    ∙ ap (settled_in (design_in c.args.self.now)) (ap numbers c.deref-6.ensures.value
-    ∙ c.requires.encoder.next)))
+    (sym (taken (settled_in design) c.deref-7.ensures.value c.in_ok-settled.ensures
+    c.deref-6.ensures.value c.requires.encoder.next))
     (subst (λ (z : Formula × Words). AreReady design (StandsOf design.signals (z.0).variables z.1)
-    (settled_in design (next_cone design (obligation_in c.args.self.now))))
-    (registers_made (design_in c.args.self.now) (obligation_in c.args.self.now) _
-    (ap numbers c.deref-2.ensures.value ∙ c.in_ok-inputs.ensures
-    ∙ ap (inputs_in (design_in c.args.self.now)) (ap numbers c.deref.ensures.value
-    ∙ c.requires.encoder.next))
+    (settled_in design (next_cone design o)))
+    (registers_made design o _
+    (taken (inputs_in design) c.deref-2.ensures.value c.in_ok-inputs.ensures c.deref.ensures.value
+    c.requires.encoder.next)
     _ c.new-words.ensures _ _ c.requires.now _ c.in_ok-make_fresh.ensures.made _
-    (ap numbers c.deref-5.ensures.value ∙ c.in_ok-registers.ensures
-    ∙ ap (registers_in (design_in c.args.self.now)) (ap numbers c.deref-4.ensures.value
-    ∙ c.requires.encoder.next))
+    (taken (registers_in design) c.deref-5.ensures.value c.in_ok-registers.ensures
+    c.deref-4.ensures.value c.requires.encoder.next)
     _ c.in_ok-make_next.ensures.made)
-    (next_ready c.args.self.now.design.now c.know_design.ensures.checked
-    (obligation_in c.args.self.now)
+    (next_ready c.args.self.now.design.now c.know_design.ensures.checked o
     c.requires.encoder.query))
 
 pub returns-clause-made : goal.returns-clause-made
 returns-clause-made c =
-    sym (next_from (design_in c.args.self.now) (obligation_in c.args.self.now) _
-    (ap numbers c.deref-2.ensures.value ∙ c.in_ok-inputs.ensures
-    ∙ ap (inputs_in (design_in c.args.self.now)) (ap numbers c.deref.ensures.value
-    ∙ c.requires.encoder.next))
+    let design = design_in c.args.self.now in
+    sym (next_from design (obligation_in c.args.self.now) _
+    (taken (inputs_in design) c.deref-2.ensures.value c.in_ok-inputs.ensures c.deref.ensures.value
+    c.requires.encoder.next)
     _ c.new-words.ensures _ _ c.requires.now _ c.in_ok-make_fresh.ensures.made _
-    (ap numbers c.deref-5.ensures.value ∙ c.in_ok-registers.ensures
-    ∙ ap (registers_in (design_in c.args.self.now)) (ap numbers c.deref-4.ensures.value
-    ∙ c.requires.encoder.next))
+    (taken (registers_in design) c.deref-5.ensures.value c.in_ok-registers.ensures
+    c.deref-4.ensures.value c.requires.encoder.next)
     _ c.in_ok-make_next.ensures.made _
-    (ap numbers c.deref-7.ensures.value ∙ c.in_ok-settled.ensures
-    ∙ ap (settled_in (design_in c.args.self.now)) (ap numbers c.deref-6.ensures.value
-    ∙ c.requires.encoder.next)))
+    (taken (settled_in design) c.deref-7.ensures.value c.in_ok-settled.ensures
+    c.deref-6.ensures.value c.requires.encoder.next))
     ∙ c.in_ok-make_settled.ensures.made
 
 pub returns-clause-bits : goal.returns-clause-bits
 returns-clause-bits c =
     let design = design_in c.args.self.now in
+    let o = obligation_in c.args.self.now in
     let old = map place_form c.args.bits.now.items in
     c.in_ok-add_places.ensures
     ∙ ap (λ z. old ++ bit_places true (words_of c.make_fresh.new.words) z)
-    (ap numbers c.deref-3.ensures.value ∙ c.in_ok-inputs.ensures
-    ∙ ap (inputs_in (design_in c.args.self.now)) (ap numbers c.deref.ensures.value
-    ∙ c.requires.encoder.next))
-    ∙ ap (λ (z : Formula × Words). old
-    ++ bit_places true z.1 (inputs_in design (next_cone design (obligation_in c.args.self.now))))
-    (sym (inputs_made (design_in c.args.self.now) (obligation_in c.args.self.now) _
-    (ap numbers c.deref-2.ensures.value ∙ c.in_ok-inputs.ensures
-    ∙ ap (inputs_in (design_in c.args.self.now)) (ap numbers c.deref.ensures.value
-    ∙ c.requires.encoder.next))
+    (taken (inputs_in design) c.deref-3.ensures.value c.in_ok-inputs.ensures c.deref.ensures.value
+    c.requires.encoder.next)
+    ∙ ap (λ (z : Formula × Words). old ++ bit_places true z.1 (inputs_in design (next_cone design o)))
+    (sym (inputs_made design o _
+    (taken (inputs_in design) c.deref-2.ensures.value c.in_ok-inputs.ensures c.deref.ensures.value
+    c.requires.encoder.next)
     _ c.new-words.ensures _ _ c.requires.now _ c.in_ok-make_fresh.ensures.made))
 
 pub returns-in_err-make_fresh-clause-full : goal.returns-in_err-make_fresh-clause-full
 returns-in_err-make_fresh-clause-full c =
     let same : IsErrOf c.from_residual-in_err-make_fresh.result Full →
     IsErrOf c.make_fresh.result Full = search rules in
-    let first = registers_more c.args.self.now.design.now c.know_design.ensures.checked
-    (obligation_in c.args.self.now)
+    let design = design_in c.args.self.now in
+    let o = obligation_in c.args.self.now in
+    let first = registers_more c.args.self.now.design.now c.know_design.ensures.checked o
     c.requires.encoder.query in
-    let second = next_more c.args.self.now.design.now c.know_design.ensures.checked
-    (obligation_in c.args.self.now)
+    let second = next_more c.args.self.now.design.now c.know_design.ensures.checked o
     c.requires.encoder.query in
     λ e.
     let most = subst (λ (z : Formula × Words). most_variables < (z.0).variables)
-    (inputs_from (design_in c.args.self.now) (obligation_in c.args.self.now) _
-    (ap numbers c.deref-2.ensures.value ∙ c.in_ok-inputs.ensures
-    ∙ ap (inputs_in (design_in c.args.self.now)) (ap numbers c.deref.ensures.value
-    ∙ c.requires.encoder.next))
+    (inputs_from design o _
+    (taken (inputs_in design) c.deref-2.ensures.value c.in_ok-inputs.ensures c.deref.ensures.value
+    c.requires.encoder.next)
     _ c.new-words.ensures _ _ c.requires.now) (c.make_fresh.ensures.full (same e)) in
     omega (arith, most, first, second)
 
@@ -167,19 +146,18 @@ pub returns-in_err-make_next-clause-full : goal.returns-in_err-make_next-clause-
 returns-in_err-make_next-clause-full c =
     let same : IsErrOf c.from_residual-in_err-make_next.result Full →
     IsErrOf c.make_next.result Full = search rules in
-    let second = next_more c.args.self.now.design.now c.know_design.ensures.checked
-    (obligation_in c.args.self.now)
+    let design = design_in c.args.self.now in
+    let o = obligation_in c.args.self.now in
+    let second = next_more c.args.self.now.design.now c.know_design.ensures.checked o
     c.requires.encoder.query in
     λ e.
     let most = subst (λ (z : Formula × Words). most_variables < (z.0).variables)
-    (registers_from (design_in c.args.self.now) (obligation_in c.args.self.now) _
-    (ap numbers c.deref-2.ensures.value ∙ c.in_ok-inputs.ensures
-    ∙ ap (inputs_in (design_in c.args.self.now)) (ap numbers c.deref.ensures.value
-    ∙ c.requires.encoder.next))
+    (registers_from design o _
+    (taken (inputs_in design) c.deref-2.ensures.value c.in_ok-inputs.ensures c.deref.ensures.value
+    c.requires.encoder.next)
     _ c.new-words.ensures _ _ c.requires.now _ c.in_ok-make_fresh.ensures.made _
-    (ap numbers c.deref-5.ensures.value ∙ c.in_ok-registers.ensures
-    ∙ ap (registers_in (design_in c.args.self.now)) (ap numbers c.deref-4.ensures.value
-    ∙ c.requires.encoder.next)))
+    (taken (registers_in design) c.deref-5.ensures.value c.in_ok-registers.ensures
+    c.deref-4.ensures.value c.requires.encoder.next))
     (c.make_next.ensures.full (same e)) in
     omega (arith, most, second)
 
@@ -187,17 +165,15 @@ pub returns-in_err-make_settled-clause-full : goal.returns-in_err-make_settled-c
 returns-in_err-make_settled-clause-full c =
     let same : IsErrOf c.from_residual-in_err-make_settled.result Full →
     IsErrOf c.make_settled.result Full = search rules in
+    let design = design_in c.args.self.now in
     λ e. subst (λ (z : Formula × Words). most_variables < (z.0).variables)
-    (next_from (design_in c.args.self.now) (obligation_in c.args.self.now) _
-    (ap numbers c.deref-2.ensures.value ∙ c.in_ok-inputs.ensures
-    ∙ ap (inputs_in (design_in c.args.self.now)) (ap numbers c.deref.ensures.value
-    ∙ c.requires.encoder.next))
+    (next_from design (obligation_in c.args.self.now) _
+    (taken (inputs_in design) c.deref-2.ensures.value c.in_ok-inputs.ensures c.deref.ensures.value
+    c.requires.encoder.next)
     _ c.new-words.ensures _ _ c.requires.now _ c.in_ok-make_fresh.ensures.made _
-    (ap numbers c.deref-5.ensures.value ∙ c.in_ok-registers.ensures
-    ∙ ap (registers_in (design_in c.args.self.now)) (ap numbers c.deref-4.ensures.value
-    ∙ c.requires.encoder.next))
+    (taken (registers_in design) c.deref-5.ensures.value c.in_ok-registers.ensures
+    c.deref-4.ensures.value c.requires.encoder.next)
     _ c.in_ok-make_next.ensures.made _
-    (ap numbers c.deref-7.ensures.value ∙ c.in_ok-settled.ensures
-    ∙ ap (settled_in (design_in c.args.self.now)) (ap numbers c.deref-6.ensures.value
-    ∙ c.requires.encoder.next)))
+    (taken (settled_in design) c.deref-7.ensures.value c.in_ok-settled.ensures
+    c.deref-6.ensures.value c.requires.encoder.next))
     (c.make_settled.ensures.full (same e))

@@ -1,7 +1,7 @@
-use Rattle.std.proofs.Common.{◌<◌, ◌+◌, length, sym, ap, subst, ◌∙◌}
-use Rattle.sv_flat.specs.Views.{design_of, signal_form}
+use Rattle.std.proofs.Common.{◌+◌, ap, subst, ◌∙◌}
+use Rattle.sv_flat.specs.Views.{design_of}
 use Rattle.sv_paths.specs.Driven.{IsDriven}
-use Rattle.sv_obl.proofs.FormLists.{length_mapped}
+use Rattle.sv_obl.proofs.FormLists.{signal_inside}
 use Rattle.sv_paths.proofs.WrittenFacts.{more_counted, told_counted, tells_error, paths_many}
 use Rattle.sv_paths.proofs.WrittenFacts.{no_paths}
 use Rattle.sv_paths.proofs.list_parts.Listing.next_paths.Goals as goal
@@ -9,9 +9,7 @@ use Rattle.sv_paths.proofs.list_parts.Listing.next_paths.Goals as goal
 pub returns-in_err-driven-clause-told : goal.returns-in_err-driven-clause-told
 returns-in_err-driven-clause-told c =
     let design = design_of c.args.design.now in
-    let inside : c.args.target.0 < length design.signals =
-    subst (λ n. c.args.target.0 < n)
-    (sym (length_mapped signal_form c.args.design.now.signals.items)) c.requires.known in
+    let inside = signal_inside c.args.design.now c.args.target.0 c.requires.known in
     tells_error design c.in_err-driven.field-0.0 c.from_residual.result
     c.from_residual.ensures.1
     (told_counted design c.args.target.0 c.args.self.now.count inside c.requires.at.counted
@@ -21,10 +19,8 @@ pub returns-in-Some-clause-counted : goal.returns-in-Some-clause-counted
 returns-in-Some-clause-counted c =
     let design = design_of c.args.design.now in
     let total = c.args.self.now.count in
-    let inside : c.args.target.0 < length design.signals =
-    subst (λ n. c.args.target.0 < n)
-    (sym (length_mapped signal_form c.args.design.now.signals.items)) c.requires.known in
-    more_counted design c.args.target.0 total _ inside c.requires.at.counted
+    more_counted design c.args.target.0 total _
+    (signal_inside c.args.design.now c.args.target.0 c.requires.known) c.requires.at.counted
     c.in_ok-driven.ensures.excess
     (ap (λ n. total + n) c.len.ensures
     ∙ paths_many design c.args.target.0 total c.in-Some.driven
@@ -34,12 +30,9 @@ returns-in-Some-clause-counted c =
 pub returns-in-None-clause-counted : goal.returns-in-None-clause-counted
 returns-in-None-clause-counted c =
     let design = design_of c.args.design.now in
-    let total = c.args.self.now.count in
-    let inside : c.args.target.0 < length design.signals =
-    subst (λ n. c.args.target.0 < n)
-    (sym (length_mapped signal_form c.args.design.now.signals.items)) c.requires.known in
-    more_counted design c.args.target.0 total total inside c.requires.at.counted
+    more_counted design c.args.target.0 c.args.self.now.count c.args.self.now.count
+    (signal_inside c.args.design.now c.args.target.0 c.requires.known) c.requires.at.counted
     c.in_ok-driven.ensures.excess
-    (no_paths design c.args.target.0 total
-    (subst (IsDriven design c.args.target.0 total) c.in-None.is
+    (no_paths design c.args.target.0 c.args.self.now.count
+    (subst (IsDriven design c.args.target.0 c.args.self.now.count) c.in-None.is
     c.in_ok-driven.ensures.driven))

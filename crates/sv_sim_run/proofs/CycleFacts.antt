@@ -1,26 +1,22 @@
 -- What one more cycle makes of the cycles that were run.
-use Rattle.std.proofs.Common.{◌≡◌, ℕ, ◌+◌, ◌*◌, ◌%◌, ◌^◌, ◌<◌, ◌≤◌, ◌&&◌, List, [], ◌∷◌, ◌++◌}
+use Rattle.std.proofs.Common.{◌≡◌, ℕ, ◌+◌, ◌*◌, ◌%◌, ◌^◌, ◌<◌, ◌≤◌, List, [], ◌∷◌, ◌++◌}
 use Rattle.std.proofs.Common.{length, map, refl}
 use Rattle.std.proofs.Common.{sym, ap, subst, ◌∙◌, arith, Option, Some, None, ⊎_elim}
 use Rattle.std.specs.Prelude.{Contains, IsTrue, IfSome, sum}
-use Rattle.std.proofs.lemmas.Bool.{ltb-true}
 use Rattle.std.proofs.lemmas.List.{map-append}
 use Rattle.std.proofs.lemmas.List.Sums.{fold-append}
 use Rattle.std.proofs.Math.Path.{fun_ext}
 use Rattle.sv_system.specs.System.{Environment, Settled, IsTrace}
 use Rattle.sv_system.proofs.Lists.{Contains-nil, Contains-cases}
-use Rattle.sv_flat.specs.Assigned.{assigns}
-use Rattle.sv_flat.specs.Design.{ProcessForm, FlatDesign}
+use Rattle.sv_flat.specs.Design.{FlatDesign}
 use Rattle.sv_flat.specs.FlatSystem.{flat_system}
-use Rattle.sv_flat.specs.Processes.{is_clocked, is_register}
+use Rattle.sv_flat.specs.Processes.{is_register}
 use Rattle.sv_flat.specs.Schedules.{IsOrderedRun, IsRoundCount, starting, after_tick}
 use Rattle.sv_flat.specs.Schedules.{tick_order, with_inputs, after_rounds}
 use Rattle.sv_flat.specs.SignalLists.{inputs, registers}
-use Rattle.sv_flat.proofs.AdmittedFacts.{assigned_is_signal, body_is_sound, clocked_is_process}
-use Rattle.sv_flat.proofs.Depths.{first_of, second_of}
-use Rattle.sv_flat.proofs.LeastSets.{from_some, in_those}
 use Rattle.sv_design.specs.Designs.{IsDesign}
 use Rattle.sv_flat.specs.Given.{given}
+use Rattle.sv_sim.proofs.OneDesign.{register_listed}
 use Rattle.sv_sim_run.specs.declared.runners.Runner.{Runner}
 use Rattle.sv_sim_run.specs.declared.runners.Runner.TheVariants as runner
 use Rattle.sv_sim_run.specs.Runners.{CountsRounds, values_in, order_in, rounds_in}
@@ -43,24 +39,11 @@ same_mapped (t ∷ ts) e f s same at =
     (Contains-cases t ts s at)
 
 module _ (design : FlatDesign) (is_design : IsDesign design) where
-  register_below : (s : ℕ) → IsTrue (is_register design s) → s < length design.signals
-  register_below s register =
-      let found = from_some (λ (q : ProcessForm). is_clocked q.kind && assigns q.body s)
-      design.processes register in
-      let q = found.0 in
-      let among = clocked_is_process design is_design.is_sound is_design.is_admitted q found.1
-      (first_of (is_clocked q.kind) (assigns q.body s) found.2) in
-      ltb-true s (length design.signals)
-      (assigned_is_signal design.signals q.body
-      (body_is_sound design is_design.is_sound is_design.is_admitted q among) s
-      (second_of (is_clocked q.kind) (assigns q.body s) found.2))
-
   pub same_registers : (e f : Environment ℕ) → map e (registers design) ≡ map f (registers design)
       → (s : ℕ) → IsTrue (is_register design s) → e s ≡ f s
   same_registers e f same s register =
       same_mapped (registers design) e f s same
-      (in_those (length design.signals) (is_register design) s (register_below s register)
-      register)
+      (register_listed design is_design.is_sound is_design.is_admitted s register)
 
   -- ---- one more cycle
 

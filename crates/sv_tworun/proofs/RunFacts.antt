@@ -1,8 +1,8 @@
 -- Two runs of an admitted design, side by side.
-use Rattle.std.proofs.Common.{◌≡◌, ℕ, suc, ◌<◌, ◌==◌, min, Bool, true, false, ◌&&◌, not, List}
+use Rattle.std.proofs.Common.{◌≡◌, ℕ, suc, ◌==◌, min, Bool, true, false, not, List}
 use Rattle.std.proofs.Common.{map, drop, length, Some, option_map, sym, ap, ap₂, subst, ◌∙◌}
-use Rattle.std.proofs.Common.{ltb-true, lt-ltb, refl, arith}
-use Rattle.std.specs.Prelude.{IsTrue, Contains, slice_get}
+use Rattle.std.proofs.Common.{lt-ltb, refl, arith}
+use Rattle.std.specs.Prelude.{Contains, slice_get}
 use Rattle.std.proofs.lemmas.Bool.{false≢true, eqb-true, eq-eqb}
 use Rattle.std.proofs.lemmas.List.{length-map}
 use Rattle.std.proofs.lemmas.Option.{slice_get-map}
@@ -11,20 +11,16 @@ use Rattle.sv_system.specs.Schedules.{IsTheSettled}
 use Rattle.sv_lattice.specs.declared.points.Point.{Point}
 use Rattle.sv_flat.specs.ByNumber.{by_number}
 use Rattle.sv_flat.specs.Clocks.{is_clock}
-use Rattle.sv_flat.specs.Design.{ProcessForm, FlatDesign}
-use Rattle.sv_flat.specs.Assigned.{assigns}
+use Rattle.sv_flat.specs.Design.{FlatDesign}
 use Rattle.sv_flat.specs.FlatSystem.{flat_system}
-use Rattle.sv_flat.specs.Processes.{is_clocked, is_register}
 use Rattle.sv_flat.specs.SignalLists.{inputs, registers}
 use Rattle.sv_flat.specs.Values.{signal_of}
-use Rattle.sv_flat.proofs.AdmittedFacts.{assigned_is_signal, clocked_is_process, body_is_sound}
-use Rattle.sv_flat.proofs.Depths.{first_of, second_of}
-use Rattle.sv_flat.proofs.LeastSets.{from_some, in_those, those_below}
+use Rattle.sv_flat.proofs.LeastSets.{those_below}
 use Rattle.sv_design.specs.Designs.{IsDesign}
 use Rattle.sv_flat.proofs.SelectorFacts.{label_selected, selector_is_seen}
 use Rattle.sv_flat.specs.Given.{FitListed, with_given, given}
 use Rattle.sv_sim.proofs.GivenValues.{listed_value}
-use Rattle.sv_sim.proofs.OneDesign.{design_ordered}
+use Rattle.sv_sim.proofs.OneDesign.{design_ordered, register_listed}
 use Rattle.sv_tworun.specs.declared.compared.Compared.{Compared}
 use Rattle.sv_tworun.specs.declared.compared.Compared.TheVariants.{Equal, InputsDiffer}
 use Rattle.sv_tworun.specs.declared.compared.Compared.TheVariants.{ViewsDiffer, LengthsDiffer}
@@ -65,19 +61,6 @@ HasInCycle design run cycle values =
 -- ---- an admitted design
 
 module _ (design : FlatDesign) (is : IsDesign design) where
-  -- a register is a signal
-  pub register_inside : (s : ℕ) → IsTrue (is_register design s) → s < length design.signals
-  register_inside s register =
-      let found = from_some (λ (q : ProcessForm). is_clocked q.kind && assigns q.body s)
-      design.processes register in
-      let q = found.0 in
-      let at = clocked_is_process design is.is_sound is.is_admitted q found.1
-      (first_of (is_clocked q.kind) (assigns q.body s) found.2) in
-      ltb-true s (length design.signals)
-      (assigned_is_signal design.signals q.body
-      (body_is_sound design is.is_sound is.is_admitted q at) s
-      (second_of (is_clocked q.kind) (assigns q.body s) found.2))
-
   labels_alike : (e f : Environment ℕ) (s : ℕ) → Contains (flat_system design).signals s
       → ((t : ℕ) → Contains (flat_system design).signals t → e t ≡ f t)
       → (flat_system design).label s e ≡ (flat_system design).label s f
@@ -238,8 +221,7 @@ module _ (design : FlatDesign) where
       same_start (flat_system design) (given (registers design) run.start) (by_number values)
       (map (given (inputs design)) run.cycles) trace
       (λ s register. listed_value (registers design) run.start s 0 (by_number old s) fit.count
-      (in_those (length design.signals) (is_register design) s
-      (register_inside design is s register) register)
+      (register_listed design is.is_sound is.is_admitted s register)
       ∙ sym (ap (λ e. e s) loaded))
       of_run
 

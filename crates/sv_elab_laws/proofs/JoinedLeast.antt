@@ -17,6 +17,7 @@ use Rattle.sv_lattice.specs.Flows.{Leads as NumbersLead}
 use Rattle.sv_lattice.specs.Tables.{flow_test}
 use Rattle.sv_ast.specs.Tree.{PlacedName, LatticeTree, TextTree}
 use Rattle.sv_ast.specs.SourceLabels.{points, pairs, flows, least}
+use Rattle.sv_ast.specs.Processes.{Process}
 use Rattle.sv_ast.specs.Reach.{holds, reached}
 use Rattle.sv_elab_rules.specs.Walks.{WalkStep, Steps, each}
 use Rattle.sv_elab_rules.specs.Rules.{lattice_name, circle, no_join, no_meet}
@@ -27,7 +28,9 @@ use Rattle.sv_elab_rules.specs.Lattices.{turned, pairs_below, pair_steps, order_
 use Rattle.sv_elab_rules.specs.Lattices.{pair_questions, in_textual_order, point_names}
 use Rattle.sv_elab_rules.specs.Lattices.{declared_order, two_points, lattice_walk}
 use Rattle.sv_elab_rules.specs.Lattices.{least_point}
+use Rattle.sv_elab_rules.specs.LabelSteps.{SharedTables}
 use Rattle.sv_elab_rules.proofs.WalkLemmas.{parts_done, asked_true}
+use Rattle.sv_flat.specs.Design.{FlatDesign}
 use Rattle.sv_flat.proofs.LeastSets.{range_has, some_from}
 use Rattle.sv_flat.proofs.Depths.{from_all}
 use Rattle.sv_elab_laws.proofs.PartsBindings.{name_itself}
@@ -39,9 +42,10 @@ use Rattle.sv_elab_laws.proofs.PartsDeclared.{same_ok}
 use Rattle.sv_elab_laws.proofs.PartsLinks.{find_some}
 use Rattle.sv_elab_laws.proofs.PartsNamed.{found_place, find_passes}
 use Rattle.sv_elab_laws.proofs.PartsPaths.{to_flat_map}
+use Rattle.sv_elab_laws.proofs.PartsTexts.{Beside}
 use Rattle.sv_elab_laws.proofs.JoinedLattice.{IsPointNumber, IsOrderFrom, exact_table, listed_number}
 use Rattle.sv_elab_laws.proofs.JoinedLattice.{number_at, number_in, flows_same, all_hold, ordered_has}
-use Rattle.sv_elab_laws.proofs.JoinedLattice.{points_in, pairs_in, lattice_asked}
+use Rattle.sv_elab_laws.proofs.JoinedLattice.{points_in, pairs_in, lattice_asked, order_of}
 
 each_passes : {X : Type 0} (step : X → Steps) (xs : List X) → (each step xs).end ≡ Ok tt → (x : X) →
     Contains xs x → (step x).end ≡ Ok tt
@@ -298,6 +302,14 @@ least_number text order is = by_lattice text.lattice refl
         (two_points_are order h)
         (subst (λ l. IsPointNumber two_points.points (least_from (points_in l) (pairs_in l))
         (least_point two_points.table)) (sym e) refl)
+
+-- and it is the least of the tables
+pub least_beside : (text : TextTree) (top : Option (List ℕ)) (design : FlatDesign)
+    {qs : List Process} (side : Beside text top qs design)
+    → IsPointNumber side.order.points (least text) side.tables.least
+least_beside text top design side =
+    least_number text side.order (order_of text side.order side.lattice) side.lattice
+    ∙ ap (λ (t : SharedTables). Some t.least) (sym side.tables_are)
 
 -- no point is declared twice
 pub points_apart : (l : Option LatticeTree) (order : PointOrder) → (lattice_walk l).end ≡ Ok order

@@ -1,11 +1,11 @@
 -- The rounds of an order over a stimulus are those of the text's own processes.
 use Rattle.std.proofs.Common.{◌≡◌, ℕ, ◌<◌, ◌^◌, List, [], ◌∷◌, map, length, Option, Some, None, inl}
-use Rattle.std.proofs.Common.{inr, refl, sym, ap, ap₂, subst, ◌∙◌, ⊎_elim}
+use Rattle.std.proofs.Common.{inr, refl, sym, ap, ap₂, subst, ◌∙◌}
 use Rattle.std.specs.Prelude.{◌↔◌, All, Contains, IsTrue, filter}
 use Rattle.std.specs.List.{AllZip}
 use Rattle.std.proofs.lemmas.List.Elements.{All-head, All-tail}
 use Rattle.sv_system.specs.System.{System, Environment, KindFits}
-use Rattle.sv_system.proofs.Lists.{Contains-head, Contains-later, Contains-cases, Contains-nil}
+use Rattle.sv_system.proofs.Lists.{Contains-head, Contains-later}
 use Rattle.sv_system.proofs.Lists.{map_map}
 use Rattle.sv_lattice.specs.declared.points.Point.{Point}
 use Rattle.sv_ast.specs.Parts.{Path, PartSignal}
@@ -30,6 +30,7 @@ use Rattle.sv_trace.specs.Forms.{form_of, name_in}
 use Rattle.sv_trace.specs.Stimulus.{LinesRead, start_of, cycles_of}
 use Rattle.sv_sim_run.specs.Simulated.{read_of, RunsInOrder, AreRounds}
 use Rattle.sv_sim_run.specs.Traces.{inputs_in, registers_in}
+use Rattle.sv_sim_run.proofs.CycleFacts.{agree_on}
 use Rattle.sv_sim_run.proofs.DesignForms.{form_is, inputs_are, registers_are, inputs_listed}
 use Rattle.sv_sim_run.proofs.DesignForms.{registers_listed, start_fits_kind, start_fit, cycles_fit}
 use Rattle.sv_sim_run.proofs.GivenFacts.{own_values, filter_apart, given_to_fits}
@@ -42,15 +43,6 @@ use Rattle.sv_run_laws.specs.TextRounds.{RunsTextInOrder, AreTextRounds}
 use Rattle.sv_run_laws.proofs.FalsifiedTexts.{same_by_path, in_text, number_below}
 use Rattle.sv_run_laws.proofs.SameSimulations.{filter_named, forms_same}
 use Rattle.sv_run_laws.proofs.TextNames as names
-
--- two maps that give one list agree on each member
-agree_on : {X Y : Type 0} (f g : X → Y) (xs : List X) → map f xs ≡ map g xs
-    → (x : X) → Contains xs x → f x ≡ g x
-agree_on f g [] same x at = absurd (Contains-nil x at)
-agree_on f g (y ∷ xs) same x at = ⊎_elim
-    (λ is. subst (λ z. f z ≡ g z) is (let first : f y ≡ g y = cc same in first))
-    (λ inside. agree_on f g xs (let rest : map f xs ≡ map g xs = cc same in rest) x inside)
-    (Contains-cases y xs x at)
 
 map_same : {X Y : Type 0} (f g : X → Y) (xs : List X) → ((x : X) → Contains xs x → f x ≡ g x)
     → map f xs ≡ map g xs

@@ -26,23 +26,20 @@ use Rattle.sv_sim_run.proofs.MoreCycles.{after_ordered_more}
 
 -- ---- registers
 
--- environments that agree on a list agree on its members
-same_mapped : (ss : List ℕ) (e f : Environment ℕ) (s : ℕ) → map e ss ≡ map f ss → Contains ss s →
-    e s ≡ f s
-same_mapped [] e f s same at = absurd (Contains-nil s at)
-same_mapped (t ∷ ts) e f s same at =
-    let first : e t ≡ f t = cc in
-    let later : map e ts ≡ map f ts = cc in
-    ⊎_elim
-    (λ is. subst (λ r. e r ≡ f r) is first)
-    (λ inside. same_mapped ts e f s later inside)
-    (Contains-cases t ts s at)
+-- two maps that give one list agree on each member
+pub agree_on : {X Y : Type 0} (f g : X → Y) (xs : List X) → map f xs ≡ map g xs
+    → (x : X) → Contains xs x → f x ≡ g x
+agree_on f g [] same x at = absurd (Contains-nil x at)
+agree_on f g (y ∷ xs) same x at = ⊎_elim
+    (λ is. subst (λ z. f z ≡ g z) is (let first : f y ≡ g y = cc same in first))
+    (λ inside. agree_on f g xs (let rest : map f xs ≡ map g xs = cc same in rest) x inside)
+    (Contains-cases y xs x at)
 
 module _ (design : FlatDesign) (is_design : IsDesign design) where
   pub same_registers : (e f : Environment ℕ) → map e (registers design) ≡ map f (registers design)
       → (s : ℕ) → IsTrue (is_register design s) → e s ≡ f s
   same_registers e f same s register =
-      same_mapped (registers design) e f s same
+      agree_on e f (registers design) same s
       (register_listed design is_design.is_sound is_design.is_admitted s register)
 
   -- ---- one more cycle

@@ -5,11 +5,11 @@ use Rattle.sv_ast.specs.Shape.{is_shaped_item}
 use Rattle.sv_ast.specs.Views.{item_tree, module_tree}
 use Rattle.sv_elab_rules.specs.InstanceSteps.{items_from, site_walk}
 use Rattle.sv_elab_decl.specs.Sites.{tables_of}
+use Rattle.sv_elab_decl.proofs.SiteLemmas.{shaped_items}
 use Rattle.sv_elab.specs.Instances.{Opened, built_form, opened}
 use Rattle.sv_elab.specs.Nests.{InstanceNesting, site_at}
 use Rattle.sv_elab.proofs.DeclaredLattices.{breach_on}
 use Rattle.sv_elab.proofs.InstanceEnds.{top_broken, top_end}
-use Rattle.sv_elab.proofs.InstanceCode.{items_shaped}
 use Rattle.sv_elab.proofs.instances.add_top.Goals as goal
 
 pub set_up_top-requires-clause-top : goal.set_up_top-requires-clause-top
@@ -26,7 +26,7 @@ returns-in_err-scope-clause-broken c =
 pub add_items-requires-clause-shaped : goal.add_items-requires-clause-shaped
 add_items-requires-clause-shaped c =
     ap (λ xs. list_all is_shaped_item (map item_tree xs)) c.deref.ensures.value
-    ∙ items_shaped (module_tree c.args.master.now) c.requires.shaped
+    ∙ shaped_items (module_tree c.args.master.now) c.requires.shaped
 
 pub returns-in_err-add_items-clause-broken : goal.returns-in_err-add_items-clause-broken
 returns-in_err-add_items-clause-broken c =

@@ -31,14 +31,17 @@ module _ {X Y : Type 0} (R : X → Y → Type 0) where
   zip_left (x ∷ xs) (y ∷ ys) h zero z at = (y, refl, subst (λ w. R w y) (cc at) h.0)
   zip_left (x ∷ xs) (y ∷ ys) h (suc k) z at = zip_left xs ys h.1 k z at
 
-  pub zip_right : (xs : List X) (ys : List Y) → AllZip R xs ys → (k : ℕ) (y : Y)
-      → slice_get ys k ≡ Some y
-      → (x : X) × (slice_get xs k ≡ Some x) × R x y
-  zip_right [] [] h k y at = absurd (cc at)
-  zip_right [] (y ∷ ys) h k z at = absurd h
-  zip_right (x ∷ xs) [] h k y at = absurd h
-  zip_right (x ∷ xs) (y ∷ ys) h zero z at = (x, refl, subst (R x) (cc at) h.0)
-  zip_right (x ∷ xs) (y ∷ ys) h (suc k) z at = zip_right xs ys h.1 k z at
+  zip_turned : (xs : List X) (ys : List Y) → AllZip R xs ys → AllZip (λ y x. R x y) ys xs
+  zip_turned [] [] h = tt
+  zip_turned [] (y ∷ ys) h = absurd h
+  zip_turned (x ∷ xs) [] h = absurd h
+  zip_turned (x ∷ xs) (y ∷ ys) h = (h.0, zip_turned xs ys h.1)
+
+-- and so has what stands on the right
+pub zip_right : {X Y : Type 0} (R : X → Y → Type 0) (xs : List X) (ys : List Y) → AllZip R xs ys
+    → (k : ℕ) (y : Y) → slice_get ys k ≡ Some y
+    → (x : X) × (slice_get xs k ≡ Some x) × R x y
+zip_right R xs ys h k y at = zip_left (λ y x. R x y) ys xs (zip_turned R xs ys h) k y at
 
 -- ---- members by their places
 

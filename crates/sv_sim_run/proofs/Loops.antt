@@ -382,17 +382,6 @@ all_same bytes before accepted old new same all =
     subst (λ (f : Flat). WritesAllAt (design_of f) old.level bytes before accepted) same.design
     (subst (λ (l : Option Point). WritesAllAt (flat_of new) l bytes before accepted) same.level all)
 
-pub same_twice : (a b c : Simulation) → IsSameAs a b → IsSameAs b c → IsSameAs a c
-same_twice a b c first second = record {
-  design = second.design ∙ first.design;
-  level = second.level ∙ first.level;
-  order = second.order ∙ first.order;
-  form = second.form ∙ first.form;
-}
-
-pub same_itself : (s : Simulation) → IsSameAs s s
-same_itself s = record { design = refl; level = refl; order = refl; form = refl }
-
 -- a reading begins
 pub under_way : (before : List ℕ) (s : Simulation) → IsSimulating s → IsFalse s.reader.finished
     → HasCome [] before before s → IsUnderWay [] (largest_stimulus + 1) before before s

@@ -34,7 +34,7 @@ use Rattle.sv_elab_laws.proofs.PartsLists.{contains_get, differ_places}
 use Rattle.sv_elab_laws.proofs.PartsNamed.{to_filter_map, from_filter_map}
 use Rattle.sv_elab_laws.specs.SideBySide.{kind_clock, clock_of, edges_from, edges_of}
 use Rattle.sv_elab_laws.proofs.PartsGrown.{IsLink, IsFlat, IsNumberOf}
-use Rattle.sv_elab_laws.proofs.PartsPaths.{from_flat_map, to_flat_map}
+use Rattle.sv_flat.proofs.Members.{from_flat_map, to_flat_map}
 use Rattle.sv_elab_laws.proofs.PartsTexts.{SideBySide, sources_of, paths_differ}
 use Rattle.sv_elab_laws.proofs.FormsBeside.{same_size, below_size}
 use Rattle.sv_elab_laws.proofs.JoinedSources.{edges_forth, edges_back, links_forth, links_back}

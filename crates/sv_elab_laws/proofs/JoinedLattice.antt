@@ -28,7 +28,8 @@ use Rattle.sv_elab_rules.proofs.WalkLemmas.{parts_done, asked_true}
 use Rattle.sv_elab_rules.proofs.LatticeLemmas.{table_is_exact}
 use Rattle.sv_ast.proofs.Reaching.{HasKnownPoints, flows_by_pairs}
 use Rattle.sv_elab_laws.proofs.PartsLists.{get_contains, contains_get, zip_left, zip_right, get_below}
-use Rattle.sv_elab_laws.proofs.PartsLists.{index_is, contains_right}
+use Rattle.sv_elab_laws.proofs.PartsLists.{index_is}
+use Rattle.sv_flat.proofs.Members.{Contains-right as contains_right}
 use Rattle.sv_elab_laws.proofs.PartsBindings.{same_name, name_itself}
 use Rattle.sv_elab_laws.proofs.PartsDeclared.{same_ok}
 use Rattle.sv_elab_laws.proofs.PartsLinks.{find_some}

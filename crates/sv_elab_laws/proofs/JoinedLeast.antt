@@ -34,14 +34,15 @@ use Rattle.sv_flat.specs.Design.{FlatDesign}
 use Rattle.sv_flat.proofs.LeastSets.{range_has, some_from}
 use Rattle.sv_flat.proofs.Depths.{from_all}
 use Rattle.sv_elab_laws.proofs.PartsBindings.{name_itself}
-use Rattle.sv_elab_laws.proofs.LatticeTests.{same_sets, and_test, some_below, apart_test}
+use Rattle.sv_elab_laws.proofs.LatticeTests.{same_sets, some_below, apart_test}
+use Rattle.sv_lattice.proofs.BoundLemmas.{and_test}
 use Rattle.sv_elab_laws.proofs.LatticeTests.{turned_length, turned_test}
 use Rattle.sv_elab_laws.proofs.PartsLists.{get_contains, below_get, AllDiffer, differ_places}
-use Rattle.sv_elab_laws.proofs.PartsLists.{index_is, contains_left}
+use Rattle.sv_elab_laws.proofs.PartsLists.{index_is}
+use Rattle.sv_flat.proofs.Members.{Contains-left as contains_left, to_flat_map}
 use Rattle.sv_elab_laws.proofs.PartsDeclared.{same_ok}
 use Rattle.sv_elab_laws.proofs.PartsLinks.{find_some}
 use Rattle.sv_elab_laws.proofs.PartsNamed.{found_place, find_passes}
-use Rattle.sv_elab_laws.proofs.PartsPaths.{to_flat_map}
 use Rattle.sv_elab_laws.proofs.PartsTexts.{Beside}
 use Rattle.sv_elab_laws.proofs.JoinedLattice.{IsPointNumber, IsOrderFrom, exact_table, listed_number}
 use Rattle.sv_elab_laws.proofs.JoinedLattice.{number_at, number_in, flows_same, all_hold, ordered_has}

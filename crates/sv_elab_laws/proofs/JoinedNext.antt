@@ -31,7 +31,7 @@ use Rattle.sv_elab_laws.specs.SameStates.{by_number}
 use Rattle.sv_elab_laws.proofs.PartsLists.{zip_right, contains_get}
 use Rattle.sv_elab_laws.proofs.PartsMaps.{map_twice_same}
 use Rattle.sv_elab_laws.proofs.PartsGrown.{IsBody, IsFlat, number_of_name}
-use Rattle.sv_elab_laws.proofs.PartsPaths.{from_flat_map}
+use Rattle.sv_flat.proofs.Members.{from_flat_map}
 use Rattle.sv_elab_laws.proofs.PartsTexts.{SideBySide, sources_of}
 use Rattle.sv_elab_laws.proofs.JoinedClocks.{IsNumber, number_below, clocked_no_link}
 use Rattle.sv_elab_laws.proofs.JoinedNumbers.{to_is, At, at_number, flat_signals, signal_below}

@@ -1,9 +1,10 @@
 -- Lists side by side, lists that stand in others, and lists of which no two members are the same.
 use Rattle.std.proofs.Common.{◌≡◌, ℕ, zero, suc, ◌+◌, ◌<◌, List, [], ◌∷◌, ◌++◌, map, length, Option}
-use Rattle.std.proofs.Common.{Some, None, refl, ap, subst, ◌∙◌, arith, ◌⊎◌, inl, inr, ⊎_elim}
+use Rattle.std.proofs.Common.{Some, None, refl, ap, subst, ◌∙◌, arith, ◌⊎◌, ⊎_elim}
 use Rattle.std.specs.Prelude.{slice_index_or, Contains}
 use Rattle.std.specs.List.{slice_get, filter_map, cons_option, AllZip}
 use Rattle.sv_system.proofs.Lists.{Contains-head, Contains-later, Contains-cases, Contains-nil}
+use Rattle.sv_flat.proofs.Members.{Contains-either as contains_either}
 
 -- ---- side by side
 
@@ -122,26 +123,6 @@ module _ {X : Type 0} where
   abbrev pub AllDiffer : List X → Type 0
   AllDiffer [] = Unit {0}
   AllDiffer (x ∷ xs) = (Contains xs x → ⊥) × AllDiffer xs
-
-  pub contains_left : (xs ys : List X) (x : X) → Contains xs x → Contains (xs ++ ys) x
-  contains_left [] ys x at = absurd (Contains-nil x at)
-  contains_left (z ∷ xs) ys x at = ⊎_elim
-      (λ e. subst (Contains (z ∷ xs ++ ys)) e (Contains-head z (xs ++ ys)))
-      (λ inside. Contains-later z (xs ++ ys) x (contains_left xs ys x inside))
-      (Contains-cases z xs x at)
-
-  pub contains_right : (xs ys : List X) (x : X) → Contains ys x → Contains (xs ++ ys) x
-  contains_right [] ys x at = at
-  contains_right (z ∷ xs) ys x at = Contains-later z (xs ++ ys) x (contains_right xs ys x at)
-
-  pub contains_either : (xs ys : List X) (x : X) → Contains (xs ++ ys) x →
-      Contains xs x ⊎ Contains ys x
-  contains_either [] ys x at = inr at
-  contains_either (z ∷ xs) ys x at = ⊎_elim
-      (λ e. inl (subst (Contains (z ∷ xs)) e (Contains-head z xs)))
-      (λ inside. ⊎_elim (λ l. inl (Contains-later z xs x l)) (λ r.
-      inr r) (contains_either xs ys x inside))
-      (Contains-cases z (xs ++ ys) x at)
 
   pub differ_append : (xs ys : List X) → AllDiffer xs → AllDiffer ys
       → ((x : X) → Contains xs x → Contains ys x → ⊥)

@@ -30,7 +30,8 @@ use Rattle.sv_elab_rules.proofs.WalkLemmas.{parts_done}
 use Rattle.sv_elab_rules.proofs.DeclarationLemmas.{declared_in_two, until_done}
 use Rattle.sv_width.specs.Agreement.{AllDeclared, IsLength}
 use Rattle.sv_flat.proofs.Depths.{from_all}
-use Rattle.sv_elab_laws.proofs.PartsLists.{StandsAt, contains_left, contains_right, filter_map_append}
+use Rattle.sv_elab_laws.proofs.PartsLists.{StandsAt, filter_map_append}
+use Rattle.sv_flat.proofs.Members.{Contains-left as contains_left, Contains-right as contains_right}
 use Rattle.sv_elab_laws.proofs.PartsBindings.{same_name, last_entry}
 use Rattle.sv_elab_laws.proofs.PartsDeclared.{Declares, walked, known, only_declared, still_bound}
 use Rattle.sv_elab_laws.proofs.PartsDeclared.{still_numbered, source_bindings, SetIsOpen, KnownAt}

@@ -33,13 +33,13 @@ use Rattle.sv_elab_rules.specs.InstanceSteps.{items_from, module_walk, site_walk
 use Rattle.sv_elab_rules.proofs.WalkLemmas.{parts_done}
 use Rattle.sv_elab_laws.proofs.PartsShapes.{IsFlattenedItem, IsFlattenedModule}
 use Rattle.sv_elab_laws.proofs.PartsLists.{StandsAt, stands_split, zip_length, AllDiffer}
-use Rattle.sv_elab_laws.proofs.PartsLists.{contains_left, contains_right}
+use Rattle.sv_flat.proofs.Members.{Contains-left as contains_left, Contains-right as contains_right}
+use Rattle.sv_flat.proofs.Members.{to_flat_map}
 use Rattle.sv_elab_laws.proofs.PartsBindings.{name_itself}
 use Rattle.sv_elab_laws.proofs.PartsDeclared.{same_ok, forms, form_in}
 use Rattle.sv_elab_laws.proofs.PartsNamed.{IsNamed, IsSound, part_of, site_named, same_scope}
 use Rattle.sv_elab_laws.proofs.PartsNamed.{port_ahead}
 use Rattle.sv_elab_laws.proofs.PartsNamed.{from_filter_map, to_filter_map}
-use Rattle.sv_elab_laws.proofs.PartsPaths.{to_flat_map}
 use Rattle.sv_elab_laws.proofs.PartsGrown.{LabelFound, IsForm, Grown, grown_none, grown_join}
 use Rattle.sv_elab_laws.specs.SideBySide.{item_made, made_from, item_edges, edges_from}
 use Rattle.sv_elab_laws.proofs.PartsGrown.{instance_names_in, ChildrenIn}

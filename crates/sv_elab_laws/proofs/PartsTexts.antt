@@ -34,7 +34,8 @@ use Rattle.sv_elab_laws.proofs.PartsGrown.{IsForm, IsFlat, IsNumberOf, Grown, Ch
 use Rattle.sv_elab_laws.proofs.PartsMade.{all_made}
 use Rattle.sv_elab_laws.proofs.PartsSites.{sites_grown}
 use Rattle.sv_elab_laws.proofs.PartsPaths.{path_of, InstancesDiffer, DeclaredDiffer, parts_differ}
-use Rattle.sv_elab_laws.proofs.PartsPaths.{places_differ, signals_differ, to_flat_map}
+use Rattle.sv_elab_laws.proofs.PartsPaths.{places_differ, signals_differ}
+use Rattle.sv_flat.proofs.Members.{to_flat_map}
 
 -- all signals of a text, in order
 abbrev pub sources_of : TextTree → Option (List ℕ) → List PartSignal

@@ -26,7 +26,7 @@ use Rattle.sv_elab_rules.proofs.WalkLemmas.{parts_done}
 use Rattle.sv_width.specs.Agreement.{HaveLengths}
 use Rattle.sv_elab_laws.proofs.PartsShapes.{IsFlattenedModule}
 use Rattle.sv_width.specs.WrittenLengths.{ModuleHasLengths}
-use Rattle.sv_elab_laws.proofs.PartsLists.{contains_either}
+use Rattle.sv_flat.proofs.Members.{Contains-either as contains_either}
 use Rattle.sv_elab_laws.proofs.PartsNamed.{IsSound, part_of, same_scope}
 use Rattle.sv_elab_laws.proofs.PartsEntered.{inner_site, with_instance, entered}
 use Rattle.sv_elab_laws.proofs.PartsOpened.{opened}

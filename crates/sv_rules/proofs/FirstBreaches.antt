@@ -2,7 +2,7 @@
 use Rattle.std.proofs.Common.{◌≡◌, ◌⊎◌, inl, inr, ⊎_elim, ℕ, ◌<◌, Bool, ◌==◌, ◌&&◌, not, nat_lt}
 use Rattle.std.proofs.Common.{ltb-true, List, [], ◌∷◌, ◌++◌, length, map, refl, sym, ap, ap₂, subst}
 use Rattle.std.proofs.Common.{arith, Some, None, Option}
-use Rattle.std.specs.Prelude.{IsTrue, IsFalse, IfSome, Contains, filter, flat_map, option_map}
+use Rattle.std.specs.Prelude.{IsTrue, IsFalse, IfSome, Contains, filter, option_map}
 use Rattle.std.specs.Prelude.{unwrap_or}
 use Rattle.std.specs.List.{list_all, filter_map, cons_option}
 use Rattle.std.proofs.lemmas.Bool.{eqb-true}
@@ -31,7 +31,7 @@ use Rattle.sv_flat.proofs.AdmittedFacts.{some_is_some, assigned_is_signal}
 use Rattle.sv_flat.proofs.Depths.{first_of, second_of, from_all, is_below}
 use Rattle.sv_flat.proofs.LeastSets.{or_cases, Contains-from_filter, those_below}
 use Rattle.sv_flat.proofs.LeastSets.{least_set_below}
-use Rattle.sv_flat.proofs.Members.{Contains-left, Contains-either}
+use Rattle.sv_flat.proofs.Members.{Contains-left, Contains-either, from_flat_map}
 use Rattle.sv_flat.proofs.SameRuns.{none_found}
 use Rattle.sv_rules.specs.declared.found.Found.{Found}
 use Rattle.sv_rules.specs.First.{breach_of, IsFirst, FindsFirst}
@@ -41,18 +41,8 @@ use Rattle.sv_rules.proofs.Sound.{process_is_sound, piece_is_signal}
 
 -- ---- where members of lists come from
 
-pub from_flat_map : {X Y : Type 0} (f : X → List Y) (xs : List X) (y : Y) → Contains (flat_map f xs) y
-    → (x : X) × Contains xs x × Contains (f x) y
-from_flat_map f [] y at = absurd (Contains-nil y at)
-from_flat_map f (x ∷ xs) y at = ⊎_elim
-    (λ l. (x, Contains-head x xs, l))
-    (λ r.
-    let found = from_flat_map f xs y r in
-    (found.0, Contains-later x xs found.0 found.1, found.2))
-    (Contains-either (f x) (flat_map f xs) y at)
-
-pub from_option : {Y : Type 0} (o : Option Y) (ys : List Y) (y : Y) → Contains (cons_option o ys) y →
-    (o ≡ Some y) ⊎ Contains ys y
+pub from_option : {Y : Type 0} (o : Option Y) (ys : List Y) (y : Y) → Contains (cons_option o ys) y
+    → (o ≡ Some y) ⊎ Contains ys y
 from_option None ys y at = inr at
 from_option (Some z) ys y at = ⊎_elim (λ e. inl (ap Some e)) (λ l. inr l) (Contains-cases z ys y at)
 

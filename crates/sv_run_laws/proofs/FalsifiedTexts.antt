@@ -36,9 +36,8 @@ use Rattle.sv_elab_laws.proofs.JoinedNumbers.{at_number, to_is, from_is}
 use Rattle.sv_elab_laws.proofs.JoinedRuns.{source_system, path_to}
 use Rattle.sv_elab_laws.proofs.JoinedSchedules.{settled_alike}
 use Rattle.sv_elab_laws.proofs.JoinedWhole.{flattened_named}
-use Rattle.sv_elab_laws.proofs.PartsLists.{contains_either}
+use Rattle.sv_flat.proofs.Members.{Contains-either as contains_either, from_flat_map}
 use Rattle.sv_elab_laws.proofs.PartsMaps.{same_some}
-use Rattle.sv_elab_laws.proofs.PartsPaths.{from_flat_map}
 use Rattle.sv_elab_laws.proofs.PartsShapes.{flattened}
 use Rattle.sv_elab_laws.proofs.PartsTexts.{SideBySide, side_by_side}
 use Rattle.sv_elab_laws.proofs.SoundDesigns.{design_sound}

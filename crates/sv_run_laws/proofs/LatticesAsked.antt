@@ -21,10 +21,11 @@ use Rattle.sv_elab_rules.specs.Lattices.{pairs_below, pair_steps, order_steps}
 use Rattle.sv_elab_rules.specs.Lattices.{declared_order}
 use Rattle.sv_elab_rules.specs.Lattices.{two_points, lattice_walk}
 use Rattle.sv_elab_rules.proofs.WalkLemmas.{parts_done, asked_true}
-use Rattle.sv_elab_laws.proofs.LatticeTests.{and_test, some_below, apart_test, turned_length}
+use Rattle.sv_lattice.proofs.BoundLemmas.{and_test}
+use Rattle.sv_elab_laws.proofs.LatticeTests.{some_below, apart_test, turned_length}
 use Rattle.sv_elab_laws.proofs.LatticeTests.{turned_test}
 use Rattle.sv_elab_laws.proofs.PartsDeclared.{same_ok}
-use Rattle.sv_elab_laws.proofs.PartsPaths.{to_flat_map}
+use Rattle.sv_flat.proofs.Members.{to_flat_map}
 use Rattle.sv_elab_laws.proofs.JoinedLattice.{IsOrderFrom, order_of, exact_table, lattice_asked}
 
 -- ---- questions that are passed

@@ -8,7 +8,7 @@ use Rattle.std.proofs.lemmas.Bool.{cases_Bool, false≢true, or_cases, eqb-true,
 use Rattle.std.proofs.lemmas.Bool.{cond-true, cond-false, false_from_ne_true}
 use Rattle.std.proofs.lemmas.Nat.{mod_below, pow_pos}
 use Rattle.sv_system.specs.System.{Environment, put}
-use Rattle.sv_ast.specs.Scopes.{signal, width_of}
+use Rattle.sv_ast.specs.Scopes.{width_of}
 use Rattle.sv_ast.specs.Tree.{StatementTree, TextTree, named}
 use Rattle.sv_ast.specs.Values.{assigned_value}
 use Rattle.sv_ast.specs.Instances.{is_signal, whole_signal}
@@ -46,7 +46,8 @@ use Rattle.sv_elab_laws.proofs.FormsBeside.{same_size}
 use Rattle.sv_elab_laws.proofs.StatementsSame.{body_same}
 use Rattle.sv_elab_laws.proofs.LinksSame.{input_link_same, output_link_same}
 use Rattle.sv_elab_laws.proofs.AssignedNames.{assigned_name, assigned_are_signals}
-use Rattle.sv_elab_laws.proofs.JoinedLinks.{port_at, port_listed, port_numbered, outer_numbered}
+use Rattle.sv_elab_laws.proofs.JoinedLinks.{port_at, port_stands, some_bits, port_numbered}
+use Rattle.sv_elab_laws.proofs.JoinedLinks.{outer_numbered}
 use Rattle.sv_elab_laws.proofs.JoinedLinks.{IsInput, IsOutput, link_is}
 use Rattle.sv_elab_laws.proofs.JoinedClocks.{same_bool}
 use Rattle.sv_elab_laws.proofs.JoinedNumbers.{same_paths, path_itself}
@@ -333,23 +334,15 @@ module _ (text : TextTree) (top : Option (List ℕ)) (design : FlatDesign)
     abbrev port : ℕ
     port = port_at side.tables sources (parts text top) l f link
 
-    port_stands : (width : ℕ) × (link.inner.scope l.port.name ≡ Some (signal width l.port.signed))
-    port_stands =
-        let place = port_listed side.tables sources (parts text top) l f link in
-        link.inner_named.signs place.0 l.port place.1
-
     abbrev port_bits : ℕ
     port_bits = port_width link.ports l.port
-
-    bits_are : port_bits ≡ port_stands.0
-    bits_are = ap width_of (link.stands ∙ port_stands.1)
 
     port_length : flat_width design.signals (port_number link.ports l.port.name) ≡ port_bits
     port_length =
         ap (flat_width design.signals) link.number
         ∙ (name_width side.tables sources (parts text top) design.signals side.forms l.inner
-        link.inner link.inner_named l.port.name port_stands.0 l.port.signed port_stands.1).1
-        ∙ sym bits_are
+        link.inner link.inner_named l.port.name port_bits l.port.signed
+        (port_stands side.tables sources (parts text top) l f link)).1
 
     input_changes : IsInput side.tables sources (parts text top) l f link
         → SameChange sources (run_alone design.signals f.body) (source_link_in l)
@@ -371,8 +364,7 @@ module _ (text : TextTree) (top : Option (List ℕ)) (design : FlatDesign)
         (names_listed side.tables sources (parts text top) design.signals side.forms l.outer
         link.outer link.outer_named)
         link.ports l.port l.expression f input.walked
-        (subst (λ w. 1 ≤ w) (sym bits_are)
-        (link.inner_named.widths l.port.name port_stands.0 l.port.signed port_stands.1).0)
+        (some_bits side.tables sources (parts text top) l f link)
         port_length (values_in l.outer g) e
         (values_alike l.outer link.outer link.outer_named e g alike)
         ∙ ap (λ m. put ◌==◌ m
@@ -403,7 +395,7 @@ module _ (text : TextTree) (top : Option (List ℕ)) (design : FlatDesign)
         (names_listed side.tables sources (parts text top) design.signals side.forms l.inner
         link.inner link.inner_named)
         link.ports l.port l.expression f output.walked
-        (port_stands.1 ∙ ap (λ w. Some (signal w l.port.signed)) (sym bits_are))
+        (port_stands side.tables sources (parts text top) l f link)
         (sym link.number) (values_in l.inner g) e
         (values_alike l.inner link.inner link.inner_named e g alike) in
         let same : run.0 ≡ n = let e : Some run.0 ≡ Some n = sym run.1 ∙ output.whole in cc e in

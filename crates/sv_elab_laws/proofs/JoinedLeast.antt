@@ -121,7 +121,8 @@ checked_from t order h =
           subst (λ n. 1 ≤ n) (sym (Rattle.std.proofs.lemmas.List.length-map t.points (λ p. p.name)))
           (leb-true 1 (length t.points) count.0);
       differ =
-          (points_differ [] t.points (λ q at. all_hold (in_textual_order questions) asked.answered_all q
+          (points_differ [] t.points (λ q at.
+          all_hold (in_textual_order questions) asked.answered_all q
           (ordered_has questions q
           (contains_left (point_questions [] t.points) (pair_questions (point_names t) t.pairs)
           q at)))).0;

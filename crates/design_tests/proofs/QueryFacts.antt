@@ -27,6 +27,15 @@ pub asked_at : (design : FlatDesign) (queries : List Query) (k : ℕ) (d : Query
     → IsQueryOf design (obligation_of (get_or queries k d))
 asked_at design queries k d all inside = held_at (IsQueryOf design) queries k d all inside
 
+-- what stands at a place of the obligations of a design, listed, is one of them
+pub asked_item : (design : FlatDesign) (listed queries : List Query) (k : ℕ) (q : Query)
+    → listed ≡ queries → All (IsQueryOf design) (map obligation_of queries)
+    → q ≡ get_or listed k q → k < length listed → IsQueryOf design (obligation_of q)
+asked_item design listed queries k q same all is inside =
+    let kept = subst (λ qs. All (IsQueryOf design) (map obligation_of qs)) (sym same) all in
+    subst (λ x. IsQueryOf design (obligation_of x)) (sym is)
+    (asked_at design listed k q kept inside)
+
 pub placed_at : (queries : List Query) (k : ℕ) (d : Query)
     → All IsPlaced (map obligation_of queries) → k < length queries
     → IsPlaced (obligation_of (get_or queries k d))

@@ -1,7 +1,7 @@
 // What is said to a person on standard error. Where it cannot be said nothing else changes.
 use std::alloc::Global;
 use std::io::{self, Stderr};
-use sv_cli::{Broken, Outcome, UsageKind};
+use sv_cli::{Broken, Outcome, UsageKind, file_in, top_in};
 use sv_hints::{Origin, file_name};
 use sv_messages::{Given, OutOfMemory, message, spent_message};
 use sv_words::{Command, read_words};
@@ -65,29 +65,8 @@ fn command_of(person: Person, words: &[String]) -> Option<Command> {
 }
 
 // FILE of a command; `gen` has none, and its text is the sample.
-fn file_in(command: &Command) -> &str {
-    match command {
-        Command::Check { file, .. } => file.as_str(),
-        Command::Verify { file, .. } => file.as_str(),
-        Command::List { file, .. } => file.as_str(),
-        Command::Cnf { file, .. } => file.as_str(),
-        Command::Sim { file, .. } => file.as_str(),
-        Command::Compare { file, .. } => file.as_str(),
-        Command::Gen { .. } => "sample",
-    }
-}
-
-// The module that is asked for as the top.
-fn top_in(command: &Command) -> Option<&str> {
-    match command {
-        Command::Check { top, .. } => top.as_deref(),
-        Command::Verify { top, .. } => top.as_deref(),
-        Command::List { top, .. } => top.as_deref(),
-        Command::Cnf { top, .. } => top.as_deref(),
-        Command::Sim { top, .. } => top.as_deref(),
-        Command::Compare { top, .. } => top.as_deref(),
-        Command::Gen { .. } => None,
-    }
+fn text_in(command: &Command) -> &str {
+    file_in(command).unwrap_or("sample")
 }
 
 // The file that a command reads once it has read so many.
@@ -96,7 +75,7 @@ fn next_file(command: &Command, files_read: u32) -> &str {
         Command::Verify { proof, .. } if files_read > 0 => proof.as_str(),
         Command::Compare { a, .. } if files_read == 1 => a.as_str(),
         Command::Compare { b, .. } if files_read > 1 => b.as_str(),
-        _ => file_in(command),
+        _ => text_in(command),
     }
 }
 
@@ -107,14 +86,14 @@ fn stored_file(command: &Command) -> &str {
             proof: Some(name),
             ..
         } => name.as_str(),
-        _ => file_in(command),
+        _ => text_in(command),
     }
 }
 
 // The text that the words ask about.
 fn origin_of<'a>(command: &'a Command, text: &'a [u8]) -> Origin<'a> {
     Origin {
-        file: file_in(command),
+        file: text_in(command),
         top: top_in(command),
         text,
     }

@@ -1,19 +1,17 @@
 -- Which rule of admission a design breaks first.
-use Rattle.std.proofs.Common.{◌≡◌, ◌⊎◌, inl, inr, ⊎_elim, ℕ, ◌<◌, Bool, ◌==◌, ◌&&◌, ◌||◌, nat_lt}
-use Rattle.std.proofs.Common.{true, false, ltb-true, lt-ltb, List, [], ◌∷◌, ◌++◌, map, refl, sym}
+use Rattle.std.proofs.Common.{◌≡◌, ◌⊎◌, inl, inr, ⊎_elim, ℕ, ◌<◌, Bool, ◌==◌, ◌&&◌, nat_lt}
+use Rattle.std.proofs.Common.{lt-ltb, List, [], ◌∷◌, ◌++◌, map, sym}
 use Rattle.std.proofs.Common.{ap, subst, ◌∙◌}
-use Rattle.std.proofs.Common.{arith, Some, None, Option}
-use Rattle.std.specs.Prelude.{not, IsTrue, IsFalse, Contains, filter, flat_map, option_map}
-use Rattle.std.specs.Prelude.{unwrap_or}
-use Rattle.std.specs.List.{filter_map, cons_option}
+use Rattle.std.proofs.Common.{arith}
+use Rattle.std.specs.Prelude.{not, IsFalse, Contains, filter}
 use Rattle.std.proofs.lemmas.Bool.{false≢true, eq-eqb}
-use Rattle.sv_system.proofs.Lists.{Contains-nil, Contains-cases}
+use Rattle.sv_system.proofs.Lists.{Contains-nil}
 use Rattle.sv_system.proofs.Lists.{Contains-from_map}
 use Rattle.sv_num.specs.declared.faults.Place.{Place}
 use Rattle.sv_flat.specs.Admission.{breaches, Breaks, names_of, IsRefused}
 use Rattle.sv_flat.specs.Admission.{IsAdmitted}
-use Rattle.sv_flat.specs.Assignments.{targets, is_wrong_target, target_breach, wrong_assigns}
-use Rattle.sv_flat.specs.Blocks.{blocks, is_latched, latches, is_out_of_phase, phase_breach}
+use Rattle.sv_flat.specs.Assignments.{wrong_assigns}
+use Rattle.sv_flat.specs.Blocks.{latches}
 use Rattle.sv_flat.specs.Blocks.{phase_faults}
 use Rattle.sv_flat.specs.Breaches.{Breach, breach, then_by, comes_before, first_signal}
 use Rattle.sv_flat.specs.Clocks.{clocks, is_proper_clock}
@@ -21,80 +19,32 @@ use Rattle.sv_flat.specs.Design.{ProcessForm, FlatDesign}
 use Rattle.sv_flat.specs.Drivers.{clock_faults, extra_driver, driver_fault, driver_faults}
 use Rattle.sv_flat.specs.Drivers.{is_undriven, undriven}
 use Rattle.sv_flat.specs.Processes.{declared_at, signal_numbers, signals_that}
-use Rattle.sv_flat.specs.Readings.{readings, no_bits}
 use Rattle.sv_flat.specs.Values.{signal_of}
 use Rattle.sv_flat.proofs.LeastSets.{either_way}
 use Rattle.sv_flat.proofs.Members.{Contains-either}
 use Rattle.sv_flat.proofs.Orders.{no_circle}
-
--- ---- where members of lists come from
-
-from_flat_map : {X Y : Type 0} (f : X → List Y) (xs : List X) (y : Y) → Contains (flat_map f xs) y
-    → (x : X) × Contains (f x) y
-from_flat_map f [] y at = absurd (Contains-nil y at)
-from_flat_map f (x ∷ xs) y at = ⊎_elim
-    (λ l. (x, l))
-    (λ r. from_flat_map f xs y r)
-    (Contains-either (f x) (flat_map f xs) y at)
-
-from_option : {Y : Type 0} (o : Option Y) (ys : List Y) (y : Y) → Contains (cons_option o ys) y →
-    (o ≡ Some y) ⊎ Contains ys y
-from_option None ys y at = inr at
-from_option (Some z) ys y at = ⊎_elim (λ e. inl (ap Some e)) (λ l. inr l) (Contains-cases z ys y at)
-
-from_filter_map : {X Y : Type 0} (f : X → Option Y) (xs : List X) (y : Y)
-    → Contains (filter_map f xs) y → (x : X) × (f x ≡ Some y)
-from_filter_map f [] y at = absurd (Contains-nil y at)
-from_filter_map f (x ∷ xs) y at = ⊎_elim
-    (λ e. (x, e))
-    (λ r. from_filter_map f xs y r)
-    (from_option (f x) (filter_map f xs) y at)
-
--- what is made of some element is made of one
-made_of : {X Y : Type 0} (f : X → Y) (o : Option X) (y : Y) → option_map f o ≡ Some y →
-    (x : X) × (f x ≡ y)
-made_of f None y e = absurd cc
-made_of f (Some x) y e = (x, ap (λ o. unwrap_or o (f x)) e)
+use Rattle.sv_rules.proofs.FirstBreaches.{from_filter_map, made_of, wrong_assign_at, latch_at}
+use Rattle.sv_rules.proofs.FirstBreaches.{phase_fault_at}
+use Rattle.sv_rules.proofs.Firsts.{or_left, or_right, and_both, compare}
 
 -- ---- numbers in order
 
 same_number : (a b : ℕ) (x y : Bool) → IsFalse (then_by a b x) → IsFalse (then_by b a y) → a ≡ b
-same_number a b x y h k = elim (cases a b) [
-  | inl l ↦ absurd (false≢true (sym h ∙ left (nat_lt a b) ((a == b) && x) (lt-ltb a b l)))
+same_number a b x y h k = elim (compare a b) [
+  | inl l ↦ absurd (false≢true (sym h ∙ or_left (nat_lt a b) ((a == b) && x) (lt-ltb a b l)))
   | inr m ↦ elim m [
     | inl e ↦ e
-    | inr l ↦ absurd (false≢true (sym k ∙ left (nat_lt b a) ((b == a) && y) (lt-ltb b a l)))
+    | inr l ↦ absurd (false≢true (sym k ∙ or_left (nat_lt b a) ((b == a) && y) (lt-ltb b a l)))
   ]
 ]
-  where
-    left : (p q : Bool) → IsTrue p → IsTrue (p || q)
-    left true q h = refl
-    left false q h = absurd (false≢true h)
-
-    cases : (a b : ℕ) → (a < b) ⊎ ((a ≡ b) ⊎ (b < a))
-    cases a b = ⊎_elim
-        (λ l. inl (ltb-true a b l))
-        (λ n. ⊎_elim
-        (λ l. inr (inr (ltb-true b a l)))
-        (λ m. inr (inl (grind (arith, n, m))))
-        (either_way (nat_lt b a)))
-        (either_way (nat_lt a b))
 
 -- what is not before by two numbers and by the rest is not before by the rest where they are equal
 behind : (a b : ℕ) (next : Bool) → a ≡ b → IsFalse (then_by a b next) → IsFalse next
 behind a b next e h = elim (either_way next) [
-  | inl yes' ↦ absurd (false≢true (sym h ∙ right (nat_lt a b) ((a == b) && next)
-      (both (a == b) next (eq-eqb a b e) yes')))
+  | inl yes' ↦ absurd (false≢true (sym h ∙ or_right (nat_lt a b) ((a == b) && next)
+      (and_both (a == b) next (eq-eqb a b e) yes')))
   | inr no' ↦ no'
 ]
-  where
-    right : (p q : Bool) → IsTrue q → IsTrue (p || q)
-    right true q h = refl
-    right false q h = h
-
-    both : (p q : Bool) → IsTrue p → IsTrue q → IsTrue (p && q)
-    both true q h k = k
-    both false q h k = h
 
 -- two breaches of which neither comes before the other
 record AreLevel (a b : Breach) : Type 0 where
@@ -143,94 +93,45 @@ pub record AreFromOne (number : ℕ) (names others : List (List ℕ)) : Type 0 w
   pub one : names ≡ first ∷ rest
   pub other : others ≡ first ∷ rest_of_others
 
+plain_at : (number : ℕ) (place : Place) (signal : ℕ) (b : Breach)
+    → breach number place signal ≡ b → number < 607 → IsPlain b
+plain_at number place signal b is early =
+    record { number = number; place = place; signal = signal; is = is; early = early }
+
 module _ (design : FlatDesign) where
   wrong_assigns_plain : (b : Breach) → Contains (wrong_assigns design) b → IsPlain b
   wrong_assigns_plain b at =
-      let process = from_flat_map (λ (p : ProcessForm).
-      map target_breach (filter (is_wrong_target design p.kind) (targets p.body)))
-      design.processes b at in
-      let p = process.0 in
-      let target = Contains-from_map target_breach
-      (filter (is_wrong_target design p.kind) (targets p.body)) b process.1 in
-      let t = target.0 in
-      record {
-        number = 601;
-        place = t.piece.place;
-        signal = t.piece.signal;
-        is = target.2;
-        early = omega arith;
-      }
+      let found = wrong_assign_at design b at in
+      plain_at 601 found.2.piece.place found.2.piece.signal b found.4 (omega arith)
 
   clock_faults_plain : (b : Breach) → Contains (clock_faults design) b → IsPlain b
   clock_faults_plain b at =
       let clock = Contains-from_map (λ s. breach 602 (declared_at design s) s)
       (filter (λ s. not (is_proper_clock design s)) (clocks design)) b at in
-      record {
-        number = 602;
-        place = declared_at design clock.0;
-        signal = clock.0;
-        is = clock.2;
-        early = omega arith;
-      }
+      plain_at 602 (declared_at design clock.0) clock.0 b clock.2 (omega arith)
 
   driver_faults_plain : (b : Breach) → Contains (driver_faults design) b → IsPlain b
   driver_faults_plain b at =
       let signal = from_filter_map (driver_fault design) (signal_numbers design) b at in
       let process = made_of (λ (p : ProcessForm). breach 603 p.place signal.0)
-      (extra_driver design signal.0) b signal.1 in
-      record {
-        number = 603;
-        place = process.0.place;
-        signal = signal.0;
-        is = process.1;
-        early = omega arith;
-      }
+      (extra_driver design signal.0) b signal.2 in
+      plain_at 603 process.0.place signal.0 b process.1 (omega arith)
 
   undriven_plain : (b : Breach) → Contains (undriven design) b → IsPlain b
   undriven_plain b at =
       let signal = Contains-from_map (λ s. breach 604 (declared_at design s) s)
       (signals_that design (is_undriven design)) b at in
-      record {
-        number = 604;
-        place = declared_at design signal.0;
-        signal = signal.0;
-        is = signal.2;
-        early = omega arith;
-      }
+      plain_at 604 (declared_at design signal.0) signal.0 b signal.2 (omega arith)
 
   latches_plain : (b : Breach) → Contains (latches design) b → IsPlain b
   latches_plain b at =
-      let block = from_flat_map (λ (p : ProcessForm).
-      map (breach 605 p.place) (signals_that design (is_latched design.signals p.body)))
-      (blocks design) b at in
-      let p = block.0 in
-      let signal = Contains-from_map (breach 605 p.place)
-      (signals_that design (is_latched design.signals p.body)) b block.1 in
-      record {
-        number = 605;
-        place = p.place;
-        signal = signal.0;
-        is = signal.2;
-        early = omega arith;
-      }
+      let found = latch_at design b at in
+      plain_at 605 found.0.place found.2 b found.4 (omega arith)
 
   phase_faults_plain : (b : Breach) → Contains (phase_faults design) b → IsPlain b
   phase_faults_plain b at =
-      let block = from_flat_map (λ (p : ProcessForm). map phase_breach
-      (filter (is_out_of_phase design.signals p.body)
-      (readings design.signals p.body no_bits no_bits)))
-      (blocks design) b at in
-      let p = block.0 in
-      let read = Contains-from_map phase_breach
-      (filter (is_out_of_phase design.signals p.body)
-      (readings design.signals p.body no_bits no_bits)) b block.1 in
-      record {
-        number = 606;
-        place = read.0.name.place;
-        signal = read.0.name.signal;
-        is = read.2;
-        early = omega arith;
-      }
+      let found = phase_fault_at design b at in
+      plain_at 606 found.2.name.place found.2.name.signal b found.4 (omega arith)
 
   breaches_plain : (b : Breach) → Contains (breaches design) b → IsPlain b
   breaches_plain b at = ⊎_elim
@@ -256,6 +157,14 @@ module _ (design : FlatDesign) where
       ++ latches design)
       (phase_faults design) b at)
 
+  -- a breach of one of these rules is no circle
+  plain_or_circle : (b : Breach) → Contains (breaches design) b → b.number ≡ 607 → ⊥
+  plain_or_circle b at is =
+      let p = breaches_plain b at in
+      let e : p.number ≡ b.number = ap (λ (o : Breach). o.number) p.is in
+      let h = p.early in
+      absurd (omega (arith, is))
+
   -- ---- first breaches
 
   -- the name of a signal
@@ -273,19 +182,9 @@ module _ (design : FlatDesign) where
       inl (sym (ap (names_of design) p.is) ∙ ap (λ s. name_at s ∷ []) one
       ∙ ap (names_of design) q.is)
   same_names b c l (inl at) (inr (first, signals, circle, is)) =
-      let p = breaches_plain b at in
-      let e : p.number ≡ b.number = ap (λ (b : Breach). b.number) p.is in
-      let f : c.number ≡ 607 = ap (λ (b : Breach). b.number) is in
-      let g = l.numbers in
-      let h = p.early in
-      absurd (omega arith)
+      absurd (plain_or_circle b at (l.numbers ∙ ap (λ (o : Breach). o.number) is))
   same_names b c l (inr (first, signals, circle, is)) (inl at) =
-      let p = breaches_plain c at in
-      let e : p.number ≡ c.number = ap (λ (b : Breach). b.number) p.is in
-      let f : b.number ≡ 607 = ap (λ (b : Breach). b.number) is in
-      let g = l.numbers in
-      let h = p.early in
-      absurd (omega arith)
+      absurd (plain_or_circle c at (sym l.numbers ∙ ap (λ (o : Breach). o.number) is))
   same_names b c l (inr (first, signals, circle, is)) (inr (first', signals', circle', is')) =
       let one : first ≡ first' = sym (ap first_signal is) ∙ l.signals ∙ ap first_signal is' in
       inr (record {

@@ -1,15 +1,14 @@
 -- What is reported of the bytes of a certificate.
 use Rattle.std.proofs.Common.{◌≡◌, ℕ, ◌+◌, ◌≤◌, List, [], ◌∷◌, Bool, length, Some, None, refl, ap}
-use Rattle.std.proofs.Common.{subst, ◌∙◌, arith, inl, inr}
-use Rattle.std.specs.Prelude.{All, Result, Ok, Err, IfOk, vec_len, decimal}
+use Rattle.std.proofs.Common.{◌∙◌, arith, inl, inr}
+use Rattle.std.specs.Prelude.{Result, Ok, Err, IfOk, vec_len, decimal}
 use Rattle.std.specs.declared.alloc.AllocError.{AllocError}
 use Rattle.std.specs.Global.{Vec}
-use Rattle.std.proofs.lemmas.List.Elements.{All-nil, All-cons}
 use Rattle.sv_flat.specs.Design.{FlatDesign}
 use Rattle.sv_io.specs.Cabinet.{IfAnswered}
 use Rattle.sv_io.specs.Count.{Rose}
-use Rattle.sv_io.specs.Exchange.{Exchange, Fetched, fetched, fetched_of, whole, too_long, nothing}
-use Rattle.sv_io.specs.Traffic.{Files, Passed, IsFailed}
+use Rattle.sv_io.specs.Exchange.{Exchange, Fetched, fetched, fetched_of, whole}
+use Rattle.sv_io.specs.Traffic.{Files, Passed}
 use Rattle.sv_io.specs.declared.faults.FetchFault.{FetchFault}
 use Rattle.sv_io.specs.declared.faults.FetchFault.TheVariants.{Failed, Long}
 use Rattle.sv_io.specs.declared.faults.FetchFault.TheVariants as faults
@@ -29,6 +28,7 @@ use Rattle.sv_cli.specs.Prepared.{Readies, Reports, Says, MayFetchOwn, VerifiesF
 use Rattle.sv_cli.specs.Runs.{KeepsCounts}
 use Rattle.sv_cli.specs.Verifies.{largest_proof, Judges, accepts, refuses, too_large, Verifies}
 use Rattle.sv_cli.specs.Verifies.{exceeds, oversized, judges}
+use Rattle.sv_cli.proofs.OneFetch.{fetch_readied, long_readied, failed_unread, unfetched_spent}
 
 -- ---- its bytes
 
@@ -92,13 +92,6 @@ module _ (design : FlatDesign) (bytes : List ℕ) where
 
 -- ---- its fetch
 
--- a fetch that hands something out did not fail
-none_failed : (name : List ℕ) (got : Fetched) → (IsFailed (fetched name got) → ⊥)
-    → All (λ (e : Exchange). IsFailed e → ⊥) (fetched name got ∷ [])
-none_failed name got handed =
-    All-cons (λ (e : Exchange). IsFailed e → ⊥) (fetched name got) [] handed
-    (All-nil (λ (e : Exchange). IsFailed e → ⊥))
-
 pub err_is : (f g : FetchFault) → f ≡ g → ◌≡◌ {A = Result (Vec ℕ) FetchFault} (Err f) (Err g)
 err_is f g same = cc
 
@@ -119,33 +112,17 @@ module _ (proof : List ℕ) (design : FlatDesign) (few : excess design ≡ None)
       (λ exchanges. Says (VerifiesFetched proof design exchanges)) tells old new r)
   judged_readied bytes passed within kept report (answer, answered, told) =
       let small : length bytes.items ≤ largest_proof = grind (arith, within) in
-      record {
-        exchanges = fetched proof (whole bytes.items) ∷ [];
-        passed = passed;
-        may = may_fetch proof design few (whole bytes.items);
-        made = (
-          (
-            answer,
-            answered,
-            inr (record { bytes = bytes.items; within = small; fetches = refl; judges = told }),
-          ),
-          none_failed proof (whole bytes.items) (λ none. none),
-        );
-        unfailed = kept;
-        fault = tt;
-      }
+      fetch_readied (MayFetchOwn proof design)
+      (λ exchanges. Says (VerifiesFetched proof design exchanges)) tells old new proof
+      (may_fetch proof design few) (whole bytes.items) passed (λ none. none) kept report (
+        answer,
+        answered,
+        inr (record { bytes = bytes.items; within = small; fetches = refl; judges = told }),
+      )
 
   module _ (fault : FetchFault)
       (passed : (let r : Result (Vec ℕ) FetchFault = Err fault in
       Passed tells old new (fetched proof (fetched_of r) ∷ []))) where
-    pub passed_by : (other : FetchFault) → fault ≡ other
-        → (let r : Result (Vec ℕ) FetchFault = Err other in
-        Passed tells old new (fetched proof (fetched_of r) ∷ []))
-    passed_by other is =
-        subst (λ (f : FetchFault).
-        let r : Result (Vec ℕ) FetchFault = Err f in
-        Passed tells old new (fetched proof (fetched_of r) ∷ [])) is passed
-
     -- what is told where more bytes were handed out than may be
     pub oversized_readied : (bytes : Vec ℕ) → fault ≡ Long bytes
         → length bytes.items ≡ largest_proof + 1
@@ -155,23 +132,14 @@ module _ (proof : List ℕ) (design : FlatDesign) (few : excess design ≡ None)
         → (let r : Result Report NoReport = Ok report in
         Readies (MayFetchOwn proof design)
         (λ exchanges. Says (VerifiesFetched proof design exchanges)) tells old new r)
-    oversized_readied bytes is long kept report (answer, answered, told) = record {
-      exchanges = fetched proof (too_long bytes.items) ∷ [];
-      passed = passed_by (Long bytes) is;
-      may = may_fetch proof design few (too_long bytes.items);
-      made = (
-        (
+    oversized_readied bytes is long kept report (answer, answered, told) =
+        long_readied (MayFetchOwn proof design)
+        (λ exchanges. Says (VerifiesFetched proof design exchanges)) tells old new proof
+        (may_fetch proof design few) fault passed bytes is kept report (
           answer,
           answered,
           inl (record { bytes = bytes.items; long = long; fetches = refl; tells = told }),
-        ),
-        none_failed proof (too_long bytes.items) (λ none. none),
-      );
-      unfailed =
-          subst (λ (f : FetchFault). let r : Result (Vec ℕ) FetchFault = Err f in
-          IfAnswered r (KeepsCounts old new)) is kept;
-      fault = tt;
-    }
+        )
 
     module _ {T : Type 0} (Makes : List Exchange → T → Type 0) where
       -- what is not made where the fetch failed
@@ -179,27 +147,17 @@ module _ (proof : List ℕ) (design : FlatDesign) (few : excess design ≡ None)
           → Rose (old.fetch_faults proof) (new.fetch_faults proof)
           → (let r : Result T NoReport = Err Unread in
           Readies (MayFetchOwn proof design) Makes tells old new r)
-      unread_readied is rose = record {
-        exchanges = fetched proof nothing ∷ [];
-        passed = passed_by Failed is;
-        may = may_fetch proof design few nothing;
-        made = tt;
-        unfailed = tt;
-        fault = record { before = []; name = proof; last = refl; rose = rose };
-      }
+      unread_readied is rose =
+          failed_unread (MayFetchOwn proof design) Makes tells old new proof
+          (may_fetch proof design few) fault passed is rose
 
       -- or where memory ran out over it
       pub spent_fetching : fault ≡ faults.OutOfMemory
           → (let r : Result T NoReport = Err OutOfMemory in
           Readies (MayFetchOwn proof design) Makes tells old new r)
-      spent_fetching is = record {
-        exchanges = fetched proof nothing ∷ [];
-        passed = passed_by faults.OutOfMemory is;
-        may = may_fetch proof design few nothing;
-        made = tt;
-        unfailed = tt;
-        fault = tt;
-      }
+      spent_fetching is =
+          unfetched_spent (MayFetchOwn proof design) Makes tells old new proof
+          (may_fetch proof design few) fault passed is
 
 -- ---- verdicts
 

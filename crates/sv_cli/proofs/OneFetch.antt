@@ -18,7 +18,8 @@ use Rattle.sv_cli.specs.declared.report.Report.{Report}
 use Rattle.sv_cli.specs.Answer.{Answer}
 use Rattle.sv_cli.specs.Prepared.{Explains, Readies, Reports, Says}
 use Rattle.sv_cli.specs.Runs.{KeepsCounts}
-use Rattle.sv_cli.proofs.Passing.{passed_after, explained_after, counts_after, spent_readied}
+use Rattle.sv_cli.proofs.Passing.{passed_as, passed_after, explained_after, counts_after}
+use Rattle.sv_cli.proofs.Passing.{spent_readied}
 
 -- no exchange failed
 abbrev NoneFailed : List Exchange → Type 0
@@ -58,21 +59,14 @@ module _ {T : Type 0} (May : List Exchange → Type 0) (Makes : List Exchange �
   module _ (fault : FetchFault)
       (passed : (let r : Result (Vec ℕ) FetchFault = Err fault in
       Passed tells old new (fetched name (fetched_of r) ∷ []))) where
-    passed_by : (other : FetchFault) → fault ≡ other
-        → (let r : Result (Vec ℕ) FetchFault = Err other in
-        Passed tells old new (fetched name (fetched_of r) ∷ []))
-    passed_by other is =
-        subst (λ (f : FetchFault).
-        let r : Result (Vec ℕ) FetchFault = Err f in
-        Passed tells old new (fetched name (fetched_of r) ∷ [])) is passed
-
     -- it handed out more bytes than it may
     pub long_readied : (bytes : Vec ℕ) → fault ≡ Long bytes
         → (let r : Result (Vec ℕ) FetchFault = Err fault in IfAnswered r (KeepsCounts old new))
         → (made : T) → Makes (fetched name (too_long bytes.items) ∷ []) made
         → (let r : Result T NoReport = Ok made in Readies May Makes tells old new r)
     long_readied bytes is kept made makes =
-        fetch_readied (too_long bytes.items) (passed_by (Long bytes) is) (λ none. none)
+        fetch_readied (too_long bytes.items)
+        (passed_as tells old new name fault (Long bytes) is passed) (λ none. none)
         (subst (λ (f : FetchFault).
         let r : Result (Vec ℕ) FetchFault = Err f in IfAnswered r (KeepsCounts old new)) is kept)
         made makes
@@ -80,14 +74,15 @@ module _ {T : Type 0} (May : List Exchange → Type 0) (Makes : List Exchange �
     pub long_spent : (bytes : Vec ℕ) → fault ≡ Long bytes → (r : Result T NoReport)
         → IsErrAnd r (λ (f : NoReport). f ≡ OutOfMemory) → Readies May Makes tells old new r
     long_spent bytes is r spent =
-        fetch_spent (too_long bytes.items) (passed_by (Long bytes) is) r spent
+        fetch_spent (too_long bytes.items)
+        (passed_as tells old new name fault (Long bytes) is passed) r spent
 
     -- it failed
     pub failed_unread : fault ≡ Failed → Rose (old.fetch_faults name) (new.fetch_faults name)
         → (let r : Result T NoReport = Err Unread in Readies May Makes tells old new r)
     failed_unread is rose = record {
       exchanges = fetched name nothing ∷ [];
-      passed = passed_by Failed is;
+      passed = passed_as tells old new name fault Failed is passed;
       may = may nothing;
       made = tt;
       unfailed = tt;
@@ -99,7 +94,7 @@ module _ {T : Type 0} (May : List Exchange → Type 0) (Makes : List Exchange �
         → (let r : Result T NoReport = Err OutOfMemory in Readies May Makes tells old new r)
     unfetched_spent is = record {
       exchanges = fetched name nothing ∷ [];
-      passed = passed_by faults.OutOfMemory is;
+      passed = passed_as tells old new name fault faults.OutOfMemory is passed;
       may = may nothing;
       made = tt;
       unfailed = tt;

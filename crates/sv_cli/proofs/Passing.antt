@@ -41,6 +41,18 @@ left_by : {T E : Type 0} (r : Result T E) (old new : List ℕ → Option (List �
 left_by (Ok x) old new name bytes is_stored refused = is_stored
 left_by (Err e) old new name bytes is_stored refused = refused
 
+-- a fetch that ended in a fault ended in this one
+pub passed_as : (tells : Bool) (old new : Files) (name : List ℕ) (fault other : FetchFault)
+    → fault ≡ other
+    → (let r : Result (Vec ℕ) FetchFault = Err fault in
+    Passed tells old new (fetched name (fetched_of r) ∷ []))
+    → (let r : Result (Vec ℕ) FetchFault = Err other in
+    Passed tells old new (fetched name (fetched_of r) ∷ []))
+passed_as tells old new name fault other is passed =
+    subst (λ (f : FetchFault).
+    let r : Result (Vec ℕ) FetchFault = Err f in
+    Passed tells old new (fetched name (fetched_of r) ∷ [])) is passed
+
 module _ (tells : Bool) where
   -- nothing is exchanged
   pub none_passed : (files : Files) → Passed tells files files []

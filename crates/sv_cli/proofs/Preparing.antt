@@ -1,10 +1,9 @@
 -- What is prepared of a text is what is answered for it.
 use Rattle.std.proofs.Common.{◌≡◌, ℕ, ◌+◌, ◌≤◌, List, [], ◌∷◌, length, Option, Some, None, refl, sym}
 use Rattle.std.proofs.Common.{ap, subst, ◌∙◌, inl, inr, arith}
-use Rattle.std.specs.Prelude.{Bool, IsSome, IsTrue, IfOk, IfErr, IsErrAnd, Result, Ok, Err, All}
+use Rattle.std.specs.Prelude.{Bool, IsSome, IsTrue, IfOk, IsErrAnd, Result, Ok, Err, All}
 use Rattle.std.specs.Prelude.{MatchOption, ◌⊎◌}
 use Rattle.std.specs.Prelude.{option_map, string_bytes}
-use Rattle.std.proofs.lemmas.List.Elements.{All-nil, All-cons}
 use Rattle.sv_flat.specs.Design.{FlatDesign}
 use Rattle.sv_flat.specs.Views.{design_of}
 use Rattle.sv_io.specs.Exchange.{Exchange, Fetched, fetched, whole, too_long, nothing}
@@ -53,8 +52,9 @@ use Rattle.sv_cli.specs.Text.{usage_text}
 use Rattle.sv_cli.specs.Texts.{largest_file, BreaksFirst, RefusesText, Passes}
 use Rattle.sv_cli.specs.Verifies.{Verifies}
 use Rattle.sv_cli.proofs.Compared.{compares_over, level_is}
-use Rattle.sv_cli.proofs.Passing.{passed_after, explained_after, made_readied, fault_readied}
-use Rattle.sv_cli.proofs.Passing.{counts_after}
+use Rattle.sv_cli.proofs.OneFetch as one_fetch
+use Rattle.sv_cli.proofs.Passing.{made_readied, fault_readied}
+use Rattle.sv_cli.proofs.Passing.{passed_as}
 use Rattle.sv_cli.proofs.Simulating.{simulates_text}
 
 -- ---- a report of an answer is all that is to be done
@@ -503,42 +503,17 @@ module _ (request : Request) (file : List ℕ) (is_file : file_in request ≡ So
     (old mid new : Files) (text : List ℕ) (within : length text ≤ largest_file)
     (first : Passed tells old mid (fetched file (whole text) ∷ [])) (kept : KeepsCounts old mid)
   where
-    made_after : (r : Result Prepared NoReport) (rest : List Exchange)
-        → IfOk r (λ made. PreparesText request text rest made × NoneFailed rest)
-        → IfOk r (λ made. PreparesFor request (fetched file (whole text) ∷ rest) made
-        × NoneFailed (fetched file (whole text) ∷ rest))
-    made_after (Ok prepared) rest is = (
-      text_prepared file text within rest prepared request is_file is.0,
-      All-cons (λ (e : Exchange). IsFailed e → ⊥) (fetched file (whole text)) rest (λ fails. fails)
-          is.1,
-    )
-    made_after (Err fault) rest is = tt
-
-    kept_after : (r : Result Prepared NoReport) → IfOk r (λ _. KeepsCounts mid new)
-        → IfOk r (λ _. KeepsCounts old new)
-    kept_after (Ok prepared) is = counts_after old mid new kept is
-    kept_after (Err fault) is = tt
-
-    fault_after : (r : Result Prepared NoReport) (rest : List Exchange)
-        → IfErr r (Explains mid new rest)
-        → IfErr r (Explains old new (fetched file (whole text) ∷ rest))
-    fault_after (Ok prepared) rest fails = tt
-    fault_after (Err fault) rest fails =
-        explained_after old mid new (fetched file (whole text)) rest
-        (λ name. let same = kept.fetches name in omega arith)
-        (λ name. let same = kept.stores name in omega arith) fault fails
-
     pub text_readied : (r : Result Prepared NoReport)
         → Readies (MayExchangeOf request text) (PreparesText request text) tells mid new r
         → ReadiesFor request tells old new r
-    text_readied r is = record {
-      exchanges = fetched file (whole text) ∷ is.exchanges;
-      passed = passed_after tells old mid new file (whole text) is.exchanges first is.passed;
-      may = text_exchanged text is.exchanges request file is_file within is.may;
-      made = made_after r is.exchanges is.made;
-      unfailed = kept_after r is.unfailed;
-      fault = fault_after r is.exchanges is.fault;
-    }
+    text_readied =
+        one_fetch.readied_after (MayExchangeOf request text) (MayExchange request)
+        (PreparesText request text) (PreparesFor request) tells old mid new file (whole text)
+        first (λ fails. fails) kept
+        (λ name. let same = kept.fetches name in omega arith)
+        (λ name. let same = kept.stores name in omega arith)
+        (λ rest may. text_exchanged text rest request file is_file within may)
+        (λ rest prepared is. text_prepared file text within rest prepared request is_file is)
 
 -- nothing follows the fetch
 module _ (request : Request) (file : List ℕ) (is_file : file_in request ≡ Some file) (tells : Bool)
@@ -554,18 +529,10 @@ module _ (request : Request) (file : List ℕ) (is_file : file_in request ≡ So
   fetch_readied : (prepared : Prepared) → (IsFailed (fetched file got) → ⊥)
       → KeepsCounts old new → PreparesFor request (fetched file got ∷ []) prepared
       → (let r : Result Prepared NoReport = Ok prepared in ReadiesFor request tells old new r)
-  fetch_readied prepared done kept made = record {
-    exchanges = fetched file got ∷ [];
-    passed = passed;
-    may = may_with request file is_file (fetched file got ∷ []) (dialogues.text got refl);
-    made = (
-      made,
-      All-cons (λ (e : Exchange). IsFailed e → ⊥) (fetched file got) [] done
-          (All-nil (λ (e : Exchange). IsFailed e → ⊥)),
-    );
-    unfailed = kept;
-    fault = tt;
-  }
+  fetch_readied prepared done kept made =
+      one_fetch.fetch_readied (MayExchange request) (PreparesFor request) tells old new file
+      (λ other. may_with request file is_file (fetched file other ∷ [])
+      (dialogues.text other refl)) got passed done kept prepared made
 
 -- the fetch handed out more bytes than a text may have
 module _ (request : Request) (file : List ℕ) (is_file : file_in request ≡ Some file) (tells : Bool)
@@ -595,13 +562,6 @@ module _ (request : Request) (file : List ℕ) (is_file : file_in request ≡ So
     (old new : Files) (fault : FetchFault)
     (passed : (let r : Result (Vec ℕ) FetchFault = Err fault in
     Passed tells old new (fetched file (fetched_of r) ∷ []))) where
-  passed_by : (other : FetchFault) → fault ≡ other
-      → (let r : Result (Vec ℕ) FetchFault = Err other in
-      Passed tells old new (fetched file (fetched_of r) ∷ []))
-  passed_by other is =
-      subst (λ (f : FetchFault). let r : Result (Vec ℕ) FetchFault = Err f in
-      Passed tells old new (fetched file (fetched_of r) ∷ [])) is passed
-
   pub long_readied : (bytes : Vec ℕ) → fault ≡ Long bytes
       → (let r : Result (Vec ℕ) FetchFault = Err fault in
       IfLong r (λ text. length text ≡ largest_file + 1))
@@ -610,7 +570,8 @@ module _ (request : Request) (file : List ℕ) (is_file : file_in request ≡ So
       → (let r : Result Prepared NoReport = Ok (Whole report) in
       ReadiesFor request tells old new r)
   long_readied bytes is long kept report says =
-      large_readied request file is_file tells old new bytes.items (passed_by (Long bytes) is)
+      large_readied request file is_file tells old new bytes.items
+      (passed_as tells old new file fault (Long bytes) is passed)
       (subst (λ (f : FetchFault). let r : Result (Vec ℕ) FetchFault = Err f in
       IfLong r (λ text. length text ≡ largest_file + 1)) is long)
       (subst (λ (f : FetchFault). let r : Result (Vec ℕ) FetchFault = Err f in
@@ -621,20 +582,22 @@ module _ (request : Request) (file : List ℕ) (is_file : file_in request ≡ So
       → IsErrAnd r (λ (f : NoReport). f ≡ OutOfMemory) → ReadiesFor request tells old new r
   long_unreadied bytes is r err =
       fetch_unreadied request file is_file tells old new (too_long bytes.items)
-      (passed_by (Long bytes) is) OutOfMemory r tt err
+      (passed_as tells old new file fault (Long bytes) is passed) OutOfMemory r tt err
 
   pub failed_unreadied : fault ≡ Failed
       → Rose (old.fetch_faults file) (new.fetch_faults file)
       → (let r : Result Prepared NoReport = Err Unread in ReadiesFor request tells old new r)
   failed_unreadied is rose =
-      fetch_unreadied request file is_file tells old new nothing (passed_by Failed is) Unread
-      (Err Unread) (record { before = []; name = file; last = refl; rose = rose }) refl
+      fetch_unreadied request file is_file tells old new nothing
+      (passed_as tells old new file fault Failed is passed) Unread (Err Unread)
+      (record { before = []; name = file; last = refl; rose = rose }) refl
 
   pub spent_unreadied : fault ≡ faults.OutOfMemory
       → (let r : Result Prepared NoReport = Err OutOfMemory in ReadiesFor request tells old new r)
   spent_unreadied is =
       fetch_unreadied request file is_file tells old new nothing
-      (passed_by faults.OutOfMemory is) OutOfMemory (Err OutOfMemory) tt refl
+      (passed_as tells old new file fault faults.OutOfMemory is passed) OutOfMemory
+      (Err OutOfMemory) tt refl
 
 -- ---- without a file
 

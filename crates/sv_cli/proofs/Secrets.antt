@@ -1,12 +1,13 @@
 -- A text that is accepted keeps its secrets.
-use Rattle.std.proofs.Common.{◌≡◌, ℕ, Bool, List, [], ◌∷◌, Option, None, refl}
+use Rattle.std.proofs.Common.{◌≡◌, ℕ, ℤ, Bool, List, [], ◌∷◌, Option, None, refl}
 use Rattle.std.specs.Prelude.{All, IsTrue}
 use Rattle.std.specs.List.{AllZip}
 use Rattle.std.proofs.lemmas.Bool.{both_ways}
 use Rattle.std.proofs.lemmas.List.Elements.{All-nil, All-cons, All-head, All-tail}
 use Rattle.sv_num.specs.declared.faults.Place.{Place}
 use Rattle.sv_parse_machine.proofs.OneText.{one_meaning}
-use Rattle.sv_clause.specs.Logs.{Step}
+use Rattle.sv_clause.specs.Literals.{HaveNoSolution}
+use Rattle.sv_clause.specs.Logs.{Step, Refutes}
 use Rattle.sv_flat.specs.Design.{FlatDesign}
 use Rattle.sv_elab_laws.specs.FlattenedTexts.{CanBeFlattened}
 use Rattle.sv_obl.specs.DesignQueries.{IsQueryOf}
@@ -14,7 +15,9 @@ use Rattle.sv_obl.specs.Noninterference.{IsChecked}
 use Rattle.sv_obl.specs.Obligations.{Obligation, obligations}
 use Rattle.sv_obl.specs.Validity.{IsValid, AllValid}
 use Rattle.sv_paths.proofs.DesignQueryFacts.{all_are}
+use Rattle.sv_encoding.specs.BothWays.{UnmetClausesMeanValid}
 use Rattle.sv_encoding.specs.Deciding.{IsRefutedBy, IsProved}
+use Rattle.sv_encoding.specs.Encoding.{encoding}
 use Rattle.sv_judge.specs.Certified.{IsShown}
 use Rattle.sv_judge.specs.Verdicts.{IsProvedFor}
 use Rattle.sv_run_laws.proofs.CheckedDesigns.{admitted_checked}
@@ -50,6 +53,14 @@ abbrev pub RefutedAreValid : FlatDesign → Type 0
 RefutedAreValid design =
     IsChecked design → (o : Obligation) (steps : List Step) → IsQueryOf design o
     → IsRefutedBy design o steps → IsValid design o
+
+-- since its clauses have no solution, and what has such clauses is valid
+pub refuted_valid : UnmetClausesMeanValid
+    → ((clauses : List (List ℤ)) (steps : List Step) → Refutes clauses steps →
+    HaveNoSolution clauses)
+    → (design : FlatDesign) → RefutedAreValid design
+refuted_valid unmet unsolved design checked o steps asked refutes =
+    unmet design o checked asked (unsolved (encoding design o).clauses steps refutes)
 
 module _ (design : FlatDesign) (checked : IsChecked design) (law : RefutedAreValid design) where
   proved_valid : (os : List Obligation) → All (IsQueryOf design) os

@@ -38,6 +38,7 @@ pub use laws::{
     secret_keepers_show_no_leak, stored_certificates_are_accepted,
 };
 pub use outcome::Outcome;
+pub use prepared::{file_in, top_in};
 pub use sv_judge::Spent;
 pub use sv_obl::Valuation;
 pub use sv_report::{Broken, StimSource};

@@ -88,8 +88,8 @@ fn style_of(json: bool) -> Style
     if json { Style::Json } else { Style::Lines }
 }
 
-// The module that is asked for as the top.
-fn top_in(command: &Command) -> Option<&str>
+/// The module that is asked for as the top.
+pub fn top_in(command: &Command) -> Option<&str>
     ensures { option_copied result ≡ top_in (plain command.now) }
 {
     match command {

@@ -25,6 +25,56 @@ map_back to from (x ∷ xs) back =
     ap₂ (λ y ys. y ∷ ys) (back x (Contains-head x xs))
     (map_back to from xs (λ y at. back y (Contains-later x xs y at)))
 
+-- what is found of a system is found of another, where its traces are carried over and say alike
+module _ {Signal Point Other OtherPoint : Type 0} (first : System Signal Point)
+    (second : System Other OtherPoint) (to : Signal → Other) (names : SameNames first second to)
+    (point : Point) (other : OtherPoint) (carry : Environment Signal → Environment Other)
+    (alike : (e : Environment Signal) → Fits first e
+    → SayAlike first second to point other e (carry e)) where
+  all_alike : (inputs es : List (Environment Signal)) (state : Environment Signal)
+      → IsTrace first state inputs es
+      → AllZip (λ e f. SayAlike first second to point other e f) es (map carry es)
+  all_alike inputs [] state trace = tt
+  all_alike [] (e ∷ es) state trace = absurd trace
+  all_alike (now ∷ more) (e ∷ es) state trace =
+      (alike e trace.0.fits, all_alike more es (first.next e) trace.1)
+
+  module _ (name : Signal → List ℕ) (other_name : Other → List ℕ)
+      (forms : form_in name first ≡ form_in other_name second)
+      (traces : (start : List ℕ) (cycles : List (List ℕ)) (es : List (Environment Signal))
+      → IsTraceFrom first start cycles es → IsTraceFrom second start cycles (map carry es)) where
+    abbrev IsAsked : StimForm → (bytes : List ℕ) → List (Environment Other) → Type 0
+    IsAsked form bytes trace =
+        IsTraceFrom second (start_of form (read_whole form bytes).right)
+        (cycles_of (read_whole form bytes).right) trace
+
+    asked_carried : (bytes : List ℕ) (es : List (Environment Signal))
+        → IsTraceFrom first
+        (start_of (form_in name first) (read_whole (form_in name first) bytes).right)
+        (cycles_of (read_whole (form_in name first) bytes).right) es
+        → IsAsked (form_in other_name second) bytes (map carry es)
+    asked_carried bytes es is =
+        let form = form_in name first in
+        let right = (read_whole form bytes).right in
+        subst (λ f. IsAsked f bytes (map carry es)) forms
+        (traces (start_of form right) (cycles_of right) es is)
+
+    comparison_carried : (one two : List ℕ) (found : Finding Signal)
+        → IsComparisonOf name first point one two found
+        → IsComparisonOf other_name second other one two (with_names to found)
+    comparison_carried one two found is = record {
+      one = map carry is.one;
+      other = map carry is.other;
+      of_first = asked_carried one is.one is.of_first;
+      of_second = asked_carried two is.other is.of_second;
+      finds =
+          found_over first second to names point other is.one is.other
+          (map carry is.one) (map carry is.other)
+          (all_alike is.of_first.inputs is.one is.of_first.state is.of_first.follows)
+          (all_alike is.of_second.inputs is.other is.of_second.state is.of_second.follows)
+          found is.finds;
+    }
+
 module _ {Signal Point Other OtherPoint : Type 0} (first : System Signal Point)
     (second : System Other OtherPoint) (joined : Joined first second) where
   -- ---- names
@@ -84,20 +134,6 @@ module _ {Signal Point Other OtherPoint : Type 0} (first : System Signal Point)
               ∙ ap (λ r. first.flows (first.label r e) point) (sym (joined.from_to s at)));
         }
 
-    all_over : (inputs es : List (Environment Signal)) (state : Environment Signal)
-        → IsTrace first state inputs es → AllZip Over es (map (renamed joined.from) es)
-    all_over inputs [] state trace = tt
-    all_over [] (e ∷ es) state trace = absurd trace
-    all_over (now ∷ more) (e ∷ es) state trace =
-        (alike_over e trace.0.fits, all_over more es (first.next e) trace.1)
-
-    all_back : (inputs fs : List (Environment Other)) (state : Environment Other)
-        → IsTrace second state inputs fs → AllZip Back fs (map (renamed joined.to) fs)
-    all_back inputs [] state trace = tt
-    all_back [] (f ∷ fs) state trace = absurd trace
-    all_back (now ∷ more) (f ∷ fs) state trace =
-        (alike_back f trace.0.fits, all_back more fs (second.next f) trace.1)
-
     -- ---- comparisons
 
     module _ (name : Signal → List ℕ) (other_name : Other → List ℕ)
@@ -106,64 +142,18 @@ module _ {Signal Point Other OtherPoint : Type 0} (first : System Signal Point)
       same : form_in other_name second ≡ form_in name first
       same = forms_same first second joined name other_name names
 
-      abbrev IsAsked : StimForm → (bytes : List ℕ) → List (Environment Other) → Type 0
-      IsAsked form bytes trace =
-          IsTraceFrom second (start_of form (read_whole form bytes).right)
-          (cycles_of (read_whole form bytes).right) trace
-
-      abbrev WasAsked : StimForm → (bytes : List ℕ) → List (Environment Signal) → Type 0
-      WasAsked form bytes trace =
-          IsTraceFrom first (start_of form (read_whole form bytes).right)
-          (cycles_of (read_whole form bytes).right) trace
-
-      asked_over : (bytes : List ℕ) (es : List (Environment Signal))
-          → WasAsked (form_in name first) bytes es
-          → IsAsked (form_in other_name second) bytes (map (renamed joined.from) es)
-      asked_over bytes es is =
-          let form = form_in name first in
-          let right = (read_whole form bytes).right in
-          subst (λ f. IsAsked f bytes (map (renamed joined.from) es)) (sym same)
-          (trace_from_over first second joined name other_name names (start_of form right)
-          (cycles_of right) es is)
-
-      asked_back : (bytes : List ℕ) (fs : List (Environment Other))
-          → IsAsked (form_in other_name second) bytes fs
-          → WasAsked (form_in name first) bytes (map (renamed joined.to) fs)
-      asked_back bytes fs is =
-          let form = form_in other_name second in
-          let right = (read_whole form bytes).right in
-          subst (λ f. WasAsked f bytes (map (renamed joined.to) fs)) same
-          (trace_from_back first second joined name other_name names (start_of form right)
-          (cycles_of right) fs is)
-
       pub comparison_over : (found : Finding Signal)
           → IsComparisonOf name first point one two found
           → IsComparisonOf other_name second other one two (with_names joined.to found)
-      comparison_over found is = record {
-        one = map (renamed joined.from) is.one;
-        other = map (renamed joined.from) is.other;
-        of_first = asked_over one is.one is.of_first;
-        of_second = asked_over two is.other is.of_second;
-        finds =
-            found_over first second joined.to names_over point other is.one is.other
-            (map (renamed joined.from) is.one) (map (renamed joined.from) is.other)
-            (all_over is.of_first.inputs is.one is.of_first.state is.of_first.follows)
-            (all_over is.of_second.inputs is.other is.of_second.state is.of_second.follows)
-            found is.finds;
-      }
+      comparison_over =
+          comparison_carried first second joined.to names_over point other
+          (renamed joined.from) alike_over name other_name (sym same)
+          (trace_from_over first second joined name other_name names) one two
 
       pub comparison_back : (found : Finding Other)
           → IsComparisonOf other_name second other one two found
           → IsComparisonOf name first point one two (with_names joined.from found)
-      comparison_back found is = record {
-        one = map (renamed joined.to) is.one;
-        other = map (renamed joined.to) is.other;
-        of_first = asked_back one is.one is.of_first;
-        of_second = asked_back two is.other is.of_second;
-        finds =
-            found_over second first joined.from names_back other point is.one is.other
-            (map (renamed joined.to) is.one) (map (renamed joined.to) is.other)
-            (all_back is.of_first.inputs is.one is.of_first.state is.of_first.follows)
-            (all_back is.of_second.inputs is.other is.of_second.state is.of_second.follows)
-            found is.finds;
-      }
+      comparison_back =
+          comparison_carried second first joined.from names_back other point
+          (renamed joined.to) alike_back other_name name same
+          (trace_from_back first second joined name other_name names) one two

@@ -6,24 +6,23 @@ use Rattle.std.specs.Prelude.{All, Contains, IsTrue, filter}
 use Rattle.std.specs.Bool.{beq}
 use Rattle.std.proofs.lemmas.Bool.{false≢true, eqb-true}
 use Rattle.std.proofs.lemmas.List.Elements.{All-weaker}
-use Rattle.sv_system.specs.System.{Environment, put}
-use Rattle.sv_system.proofs.Lists.{Contains-nil, Contains-cases}
+use Rattle.sv_system.specs.System.{Environment}
 use Rattle.sv_system.proofs.Pointwise.{either_way as contained_or_not}
 use Rattle.sv_flat.specs.Clocks.{is_clock}
 use Rattle.sv_flat.specs.Design.{FlatDesign}
 use Rattle.sv_flat.specs.FlatSystem.{flat_system}
-use Rattle.sv_flat.specs.Given.{with_given, given}
+use Rattle.sv_flat.specs.Given.{given}
 use Rattle.sv_flat.specs.Processes.{is_register, is_top_input}
 use Rattle.sv_flat.specs.SignalLists.{registers, inputs}
 use Rattle.sv_flat.proofs.Depths.{second_of}
 use Rattle.sv_flat.proofs.LeastSets.{either_way, or_cases}
-use Rattle.sv_flat.proofs.SameRuns.{none_found, put_there}
+use Rattle.sv_flat.proofs.SameRuns.{none_found}
 use Rattle.sv_obl.specs.Noninterference.{IsChecked}
 use Rattle.sv_obl.specs.Obligations.{Obligation}
 use Rattle.sv_obl.specs.Validity.{Valuation}
 use Rattle.sv_obl.specs.Valuations.{valuation_of}
 use Rattle.sv_obl.specs.declared.valuations.Valuation.{Valuation as Listed}
-use Rattle.sv_sim.proofs.GivenValues.{other_value}
+use Rattle.sv_sim.proofs.GivenValues.{mapped_value, other_value}
 use Rattle.sv_sim.proofs.OneDesign.{register_no_clock}
 use Rattle.sv_sim.proofs.Simulated.{input_listed}
 use Rattle.sv_encoding.specs.BothWays.{IsGiven, IsPlace, IsWhole}
@@ -33,20 +32,6 @@ use Rattle.sv_blast.specs.Decoded.{ListsValues}
 use Rattle.sv_decide.proofs.DesignSignals.{register_listed}
 
 -- ---- values of a list
-
--- each listed signal has its value in the environment that the values were taken from
-mapped_value : (listed : List ℕ) (f e : Environment ℕ) (s : ℕ) → Contains listed s →
-    with_given listed (map f listed) e s ≡ f s
-mapped_value [] f e s at = absurd (Contains-nil s at)
-mapped_value (t ∷ ts) f e s at =
-    let g : Environment ℕ = put ◌==◌ t (f t) e in
-    contained_or_not (with_given ts (map f ts) g s) (f s) (Contains ts s)
-    (λ later. mapped_value ts f g s later)
-    (λ none. other_value ts (map f ts) s (g s) none
-    ∙ ⊎_elim
-    (λ same. subst (λ r. g r ≡ f r) same (put_there t (f t) e))
-    (λ later. absurd (none later))
-    (Contains-cases t ts s at))
 
 -- so they make the environment, where it has 0 elsewhere
 mapped_is : (listed : List ℕ) (f : Environment ℕ) → ((s : ℕ) → (Contains listed s → ⊥) → f s ≡ 0) →

@@ -1,15 +1,13 @@
 -- Where the walk of an instance ends, from what the code has in hand.
 use Rattle.std.proofs.Common.{◌≡◌, ℕ, ◌+◌, Bool, true, false, not, List, [], ◌∷◌, ◌++◌, length}
 use Rattle.std.proofs.Common.{Option, Some, None, append_assoc, refl, sym, ap, ◌∙◌}
-use Rattle.std.specs.Prelude.{Result, Ok, Err, ◌&&◌, nat_lt}
-use Rattle.std.specs.List.{list_all, list_any}
+use Rattle.std.specs.Prelude.{Result, Ok, Err, nat_lt}
+use Rattle.std.specs.List.{list_any}
 use Rattle.std.specs.Str.{bytes_eq}
 use Rattle.std.proofs.lemmas.List.Folds.{list_any-append}
 use Rattle.indexmap.specs.IndexSet.{insert_key}
-use Rattle.std.proofs.lemmas.Bool.{and_parts, or_parts}
+use Rattle.std.proofs.lemmas.Bool.{or_parts}
 use Rattle.sv_ast.specs.Scopes.{Number}
-use Rattle.sv_ast.specs.Shape.{is_shaped_item, is_shaped_module, are_header_parameters}
-use Rattle.sv_ast.specs.Shape.{is_shaped_parameter, are_ports, is_shaped_declaration}
 use Rattle.sv_ast.specs.Tree.{InstanceTree, ItemTree, ModuleTree}
 use Rattle.sv_ast.specs.Instances.{module_named}
 use Rattle.sv_flat.specs.Design.{ProcessForm}
@@ -120,13 +118,6 @@ module _ (tables : SharedTables) (outer : Names) (path : List (List ℕ)) (m : M
         from_links
         ∙ end_after (linked there (length built.signals)) (opening there) ps
         (ap (λ b. (linked there b).end) sized ∙ h)
-
-pub items_shaped : (m : ModuleTree) → is_shaped_module m ≡ true →
-    list_all is_shaped_item m.items ≡ true
-items_shaped m h =
-    (and_parts (are_header_parameters m.parameters && list_all is_shaped_parameter m.parameters
-    && are_ports m.ports
-    && list_all is_shaped_declaration m.ports) (list_all is_shaped_item m.items) h).1
 
 -- ---- items one after another
 

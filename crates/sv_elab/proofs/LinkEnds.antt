@@ -12,7 +12,7 @@ use Rattle.sv_ast.specs.ClockPaths.{is_input_kind}
 use Rattle.sv_ast.specs.Instances.{port_named, whole_signal}
 use Rattle.sv_ast.specs.Scopes.{width_of}
 use Rattle.sv_ast.specs.Tree.{ExpressionTree, DeclarationTree, NamedLink, named_links}
-use Rattle.sv_ast.specs.Tree.{ordered_links}
+use Rattle.sv_ast.specs.Tree.{LinkTrees, ordered_links}
 use Rattle.sv_flat.specs.Design.{TypedTree, port_in, port_out, ProcessForm}
 use Rattle.sv_elab_rules.specs.Walks.{WalkStep, Walk, ask, done, found, ◌>>=◌}
 use Rattle.sv_elab_rules.specs.Rules.{wrong_link, links_over}
@@ -178,14 +178,14 @@ module _ (outer : Names) (ports : Ports) (processes : List ProcessForm) where
 -- ---- links of either form
 
 module _ (outer : Names) (ports : Ports) (processes : List ProcessForm) where
-  pub links_by_name : (ls : List NamedLink) →
-      (links_walk outer ports processes (named_links ls)).end ≡
+  pub links_by_name : (t : LinkTrees) (ls : List NamedLink) → t ≡ named_links ls
+      → (links_walk outer ports processes t).end ≡
       (named_links_walk outer ports [] processes ls).end
   unfolding links_walk
-  links_by_name ls = refl
+  links_by_name t ls is = ap (λ k. (links_walk outer ports processes k).end) is
 
-  pub links_by_order : (es : List ExpressionTree)
-      → (links_walk outer ports processes (ordered_links es)).end ≡
+  pub links_by_order : (t : LinkTrees) (es : List ExpressionTree) → t ≡ ordered_links es
+      → (links_walk outer ports processes t).end ≡
       (ordered_links_walk outer ports ports.master.ports processes es).end
   unfolding links_walk
-  links_by_order es = refl
+  links_by_order t es is = ap (λ k. (links_walk outer ports processes k).end) is

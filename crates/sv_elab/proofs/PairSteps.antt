@@ -10,6 +10,37 @@ use Rattle.sv_elab_rules.specs.CaseChains.{numbers_below}
 use Rattle.sv_elab_rules.specs.Lattices.{pair_steps}
 use Rattle.sv_elab_rules.proofs.WalkLemmas.{end_after, end_broken}
 
+-- ---- what stands in turn
+
+-- of what is walked from a number on, so many numbers: no number ends it well, the first that
+-- passes leaves it to the rest, and the first that breaks a rule ends it
+record InTurn (all : ℕ → ℕ → Steps) (one : ℕ → Steps) : Type 0 where
+  pub none : (c : ℕ) → (all c zero).end ≡ Ok tt
+  pub after : (c m : ℕ) → (one c).end ≡ Ok tt → (all c (suc m)).end ≡ (all (c + 1) m).end
+  pub stops : (c m : ℕ) (s : WalkStep) → (one c).end ≡ Err s → (all c (suc m)).end ≡ Err s
+
+module _ {all : ℕ → ℕ → Steps} {one : ℕ → Steps} (turn : InTurn all one) where
+  all_done : (c m : ℕ) → ((b : ℕ) → c ≤ b → b < c + m → (one b).end ≡ Ok tt)
+      → (all c m).end ≡ Ok tt
+  all_done c zero h = turn.none c
+  all_done c (suc m) h =
+      turn.after c m (h c (omega arith) (omega arith))
+      ∙ all_done (c + 1) m (λ b p q. h b (omega arith) (omega arith))
+
+  all_broken : (c m b : ℕ) (s : WalkStep) → c ≤ b → b < c + m
+      → ((j : ℕ) → c ≤ j → j < b → (one j).end ≡ Ok tt)
+      → (one b).end ≡ Err s → (all c m).end ≡ Err s
+  all_broken c zero b s p q before h = absurd (omega arith)
+  all_broken c (suc m) b s p q before h =
+      by (cases_eq c b) (λ lt.
+      all_broken (c + 1) m b s lt (omega arith) (λ j u v. before j (omega arith) v) h)
+    where
+      by : (c ≡ b) ⊎ (c ≡ b → ⊥) → (c + 1 ≤ b → (all (c + 1) m).end ≡ Err s)
+          → (all c (suc m)).end ≡ Err s
+      by (inl e) rest = turn.stops c m s (subst (λ k. (one k).end ≡ Err s) (sym e) h)
+      by (inr ne) rest =
+          turn.after c m (before c (omega arith) (omega arith)) ∙ rest (omega arith)
+
 -- ---- a walk over a list
 
 module _ {X : Type 0} (f : X → Steps) where
@@ -55,58 +86,41 @@ module _ {X : Type 0} (f : X → Steps) where
   -- ---- numbers in a row
 
   module _ (g : ℕ → X) where
+    row_in_turn : InTurn (λ c m. each f (map g (range_with_len c m))) (λ b. f (g b))
+    row_in_turn = record {
+      none = λ c. each_none;
+      after = λ c m h. each_after (g c) (map g (range_with_len (c + 1) m)) h;
+      stops = λ c m s h. each_broken (g c) (map g (range_with_len (c + 1) m)) s h;
+    }
+
     pub row_done : (c m : ℕ) → ((b : ℕ) → c ≤ b → b < c + m → (f (g b)).end ≡ Ok tt)
         → (each f (map g (range_with_len c m))).end ≡ Ok tt
-    row_done c zero h = each_none
-    row_done c (suc m) h =
-        each_after (g c) (map g (range_with_len (c + 1) m)) (h c (omega arith) (omega arith))
-        ∙ row_done (c + 1) m (λ b p q. h b (omega arith) (omega arith))
+    row_done c m h = all_done row_in_turn c m h
 
     pub row_broken : (c m b : ℕ) (s : WalkStep) → c ≤ b → b < c + m
         → ((j : ℕ) → c ≤ j → j < b → (f (g j)).end ≡ Ok tt)
         → (f (g b)).end ≡ Err s → (each f (map g (range_with_len c m))).end ≡ Err s
-    row_broken c zero b s p q before h = absurd (omega arith)
-    row_broken c (suc m) b s p q before h =
-        by (cases_eq c b) (λ lt.
-        row_broken (c + 1) m b s lt (omega arith) (λ j u v. before j (omega arith) v) h)
-      where
-        by : (c ≡ b) ⊎ (c ≡ b → ⊥)
-            → (c + 1 ≤ b → (each f (map g (range_with_len (c + 1) m))).end ≡ Err s)
-            → (each f (map g (range_with_len c (suc m)))).end ≡ Err s
-        by (inl e) rest =
-            each_broken (g c) (map g (range_with_len (c + 1) m)) s
-            (subst (λ k. (f (g k)).end ≡ Err s) (sym e) h)
-        by (inr ne) rest =
-            each_after (g c) (map g (range_with_len (c + 1) m))
-            (before c (omega arith) (omega arith)) ∙ rest (omega arith)
+    row_broken c m b s p q before h = all_broken row_in_turn c m b s p q before h
 
   -- ---- rows of rows
 
   module _ (g : ℕ → List X) where
+    rows_in_turn :
+        InTurn (λ c m. each f (flat_map g (range_with_len c m))) (λ a. each f (g a))
+    rows_in_turn = record {
+      none = λ c. each_none;
+      after = λ c m h. append_after (g c) (flat_map g (range_with_len (c + 1) m)) h;
+      stops = λ c m s h. append_broken (g c) (flat_map g (range_with_len (c + 1) m)) s h;
+    }
+
     pub rows_done : (c m : ℕ) → ((a : ℕ) → c ≤ a → a < c + m → (each f (g a)).end ≡ Ok tt)
         → (each f (flat_map g (range_with_len c m))).end ≡ Ok tt
-    rows_done c zero h = each_none
-    rows_done c (suc m) h =
-        append_after (g c) (flat_map g (range_with_len (c + 1) m)) (h c (omega arith) (omega arith))
-        ∙ rows_done (c + 1) m (λ a p q. h a (omega arith) (omega arith))
+    rows_done c m h = all_done rows_in_turn c m h
 
     pub rows_broken : (c m a : ℕ) (s : WalkStep) → c ≤ a → a < c + m
         → ((j : ℕ) → c ≤ j → j < a → (each f (g j)).end ≡ Ok tt)
         → (each f (g a)).end ≡ Err s → (each f (flat_map g (range_with_len c m))).end ≡ Err s
-    rows_broken c zero a s p q before h = absurd (omega arith)
-    rows_broken c (suc m) a s p q before h =
-        by (cases_eq c a) (λ lt.
-        rows_broken (c + 1) m a s lt (omega arith) (λ j u v. before j (omega arith) v) h)
-      where
-        by : (c ≡ a) ⊎ (c ≡ a → ⊥)
-            → (c + 1 ≤ a → (each f (flat_map g (range_with_len (c + 1) m))).end ≡ Err s)
-            → (each f (flat_map g (range_with_len c (suc m)))).end ≡ Err s
-        by (inl e) rest =
-            append_broken (g c) (flat_map g (range_with_len (c + 1) m)) s
-            (subst (λ k. (each f (g k)).end ≡ Err s) (sym e) h)
-        by (inr ne) rest =
-            append_after (g c) (flat_map g (range_with_len (c + 1) m))
-            (before c (omega arith) (omega arith)) ∙ rest (omega arith)
+    rows_broken c m a s p q before h = all_broken rows_in_turn c m a s p q before h
 
 -- ---- pairs of points
 

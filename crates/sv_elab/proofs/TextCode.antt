@@ -35,19 +35,25 @@ use Rattle.sv_elab.proofs.TextLemmas.{top_passes, maps_length}
 
 -- ---- shapes
 
+-- the maps of a shaped text are shaped, and its modules
+shaped_parts : (text : Text) → IsTrue (is_shaped (text_tree text))
+    → IsTrue (list_all is_shaped_map (text_tree text).maps)
+    × IsTrue (list_all is_shaped_module (text_tree text).modules)
+shaped_parts text shaped =
+    and_parts (list_all is_shaped_map (text_tree text).maps)
+    (list_all is_shaped_module (text_tree text).modules) shaped
+
 pub maps_shaped : (text : Text) (ts : List MapText) → ts ≡ text.maps.items
     → IsTrue (is_shaped (text_tree text)) → IsTrue (list_all is_shaped_map (map map_tree ts))
 maps_shaped text ts all shaped =
     ap (λ ts. list_all is_shaped_map (map map_tree ts)) all
-    ∙ (and_parts (list_all is_shaped_map (text_tree text).maps)
-    (list_all is_shaped_module (text_tree text).modules) shaped).0
+    ∙ (shaped_parts text shaped).0
 
 pub modules_shaped : (text : Text) (ms : List Module) → ms ≡ text.modules.items
     → IsTrue (is_shaped (text_tree text)) → IsTrue (list_all is_shaped_module (map module_tree ms))
 modules_shaped text ms all shaped =
     ap (λ ms. list_all is_shaped_module (map module_tree ms)) all
-    ∙ (and_parts (list_all is_shaped_map (text_tree text).maps)
-    (list_all is_shaped_module (text_tree text).modules) shaped).1
+    ∙ (shaped_parts text shaped).1
 
 pub maps_few : (text : Text) (points : List (List ℕ)) (ts : List MapText) → ts ≡ text.maps.items
     → (maps : List (List ℕ × MapRows)) → (maps_walk points [] (map map_tree ts)).end ≡ Ok maps

@@ -33,4 +33,4 @@ mod wrong_names;
 pub use lattices::{Points, lattice};
 pub use maps::label_maps;
 pub use modules::{module_names, top_module};
-pub use texts::elaborate;
+pub use texts::{elaborate, has_few};

@@ -4,6 +4,7 @@ ghost use Rattle.std.specs.Prelude.{IsTrue};
 ghost use Rattle.sv_ast.specs.Shape.{is_shaped};
 ghost use Rattle.sv_ast.specs.Tree.{ModuleTree};
 ghost use Rattle.sv_ast.specs.Views.{text_tree};
+ghost use Rattle.sv_ast.specs.declared.modules.LatticeText.{LatticeText};
 ghost use Rattle.sv_flat.specs.Soundness.{sound};
 ghost use Rattle.sv_flat.specs.Views.{design_of};
 ghost use Rattle.sv_elab_rules.specs.Texts as texts;
@@ -95,6 +96,19 @@ fn built_under(
         names: &names,
     };
     top_instance(&shared, master)
+}
+
+/// Whether the text has fewer pairs of points and label maps than elaboration can count.
+pub fn has_few(text: &Text) -> bool
+    ensures pairs { IsTrue result → IfSome text.now.lattice (λ (l : LatticeText).
+        length l.pairs.items < 2 ^ 32) }
+    ensures maps { IsTrue result → length text.now.maps.items < 2 ^ 32 }
+{
+    let few_pairs = match &text.lattice {
+        Some(lattice) => lattice.pairs.len() < 0x1_0000_0000,
+        None => true,
+    };
+    few_pairs && text.maps.len() < 0x1_0000_0000
 }
 
 // As `elaborate`, with the name of the module that is asked for.

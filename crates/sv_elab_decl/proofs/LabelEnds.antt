@@ -1,5 +1,5 @@
 -- Where the walk of a label ends, by its steps.
-use Rattle.std.proofs.Common.{◌≡◌, ℕ, Bool, true, false, List, [], ◌∷◌, ◌++◌, map, length, Option}
+use Rattle.std.proofs.Common.{◌≡◌, ℕ, Bool, true, false, List, [], ◌∷◌, ◌++◌, map, Option}
 use Rattle.std.proofs.Common.{Some, None, refl, sym, ap, ◌∙◌, append_assoc, eq-eqb}
 use Rattle.std.specs.Prelude.{Result, Ok, Err, position, option_map, ◌==◌}
 use Rattle.std.specs.Str.{bytes_eq}
@@ -8,7 +8,7 @@ use Rattle.sv_num.specs.declared.faults.Place.{Place}
 use Rattle.sv_lattice.specs.declared.labels.Label.{Label}
 use Rattle.sv_lattice.specs.declared.labels.Label.TheVariants.{Point as Declared_point, Table}
 use Rattle.sv_lattice.specs.Labels.{map_of}
-use Rattle.sv_ast.specs.Scopes.{Binding, width_of}
+use Rattle.sv_ast.specs.Scopes.{width_of}
 use Rattle.sv_ast.specs.Tree.{LabelTree, point_label, table_label, DeclarationTree}
 use Rattle.sv_ast.specs.Instances.{is_signal}
 use Rattle.sv_flat.specs.Design.{SignalForm}
@@ -22,7 +22,7 @@ use Rattle.sv_elab_rules.proofs.WalkLemmas.{end_after, end_broken}
 use Rattle.sv_width.specs.declared.meanings.KnownSignal.{KnownSignal}
 use Rattle.sv_width.specs.declared.meanings.Meaning.{Meaning}
 use Rattle.sv_width.specs.declared.meanings.Meaning.TheVariants as meaning
-use Rattle.sv_width.specs.Scopes.{Known, binding_of, meaning_of, bindings_of, number_in}
+use Rattle.sv_width.specs.Scopes.{Known, binding_of, bindings_of, number_in}
 use Rattle.sv_width.specs.Scopes.{signal_number, names_of}
 use Rattle.sv_elab_decl.specs.declared.labelling.FoundMap.{FoundMap}
 use Rattle.sv_elab_decl.specs.declared.labelling.MapLabel.{MapLabel}
@@ -367,6 +367,13 @@ module _ (xs : List SignalForm) (first : SignalForm) (w : Walk (List SignalForm)
       by (Err s) = refl
 
 module _ (tables : SharedTables) (names : Names) where
+  -- the labels of the others, behind a signal that has its own
+  abbrev others_behind : List DeclarationTree → List SignalForm → SignalForm
+      → Walk (List SignalForm)
+  others_behind ds ss =
+      λ (x : SignalForm). labels_walk tables names ds ss >>= λ (rest : List SignalForm).
+      done (x ∷ rest)
+
   pub labels_more : (xs : List SignalForm) (d : DeclarationTree) (ds : List DeclarationTree)
       (s first : SignalForm) (ss : List SignalForm)
       → (given_label tables names d.label s).end ≡ Ok first
@@ -375,9 +382,7 @@ module _ (tables : SharedTables) (names : Names) where
   unfolding labels_walk
   labels_more xs d ds s first ss h =
       ap (λ (r : Result (List SignalForm) WalkStep). behind xs r)
-      (end_after (given_label tables names d.label s)
-      (λ (x : SignalForm). labels_walk tables names ds ss >>= λ (rest : List SignalForm).
-      done (x ∷ rest)) first h)
+      (end_after (given_label tables names d.label s) (others_behind ds ss) first h)
       ∙ behind_more xs first (labels_walk tables names ds ss)
 
   pub labels_stop : (xs : List SignalForm) (d : DeclarationTree) (ds : List DeclarationTree)
@@ -387,9 +392,7 @@ module _ (tables : SharedTables) (names : Names) where
   unfolding labels_walk
   labels_stop xs d ds s ss u h =
       ap (λ (r : Result (List SignalForm) WalkStep). behind xs r)
-      (end_broken (given_label tables names d.label s)
-      (λ (x : SignalForm). labels_walk tables names ds ss >>= λ (rest : List SignalForm).
-      done (x ∷ rest)) u h)
+      (end_broken (given_label tables names d.label s) (others_behind ds ss) u h)
 
   pub labels_none : (xs ss : List SignalForm) →
       behind xs (labels_walk tables names [] ss).end ≡ Ok (xs ++ ss)

@@ -19,7 +19,7 @@ use Rattle.sv_width.specs.Scopes.{Known, names_ahead, meaning_of, bindings_of, I
 use Rattle.sv_elab_decl.specs.Ranges.{IsRange}
 use Rattle.sv_elab_decl.specs.declared.sites.Declared.{Declared as CodeDeclared}
 use Rattle.sv_elab_decl.specs.Sites.{AreAnnounced, IsAhead, IsSoFar, bindings_in}
-use Rattle.sv_elab_decl.specs.Steps.{Binds, BindsNone}
+use Rattle.sv_elab_decl.specs.Steps.{BindsNone}
 use Rattle.sv_elab_decl.proofs.NameLemmas.{bindings_more, bindings_same, bound_is, range_there}
 use Rattle.sv_elab_decl.proofs.NameLemmas.{width_is}
 use Rattle.sv_elab_decl.proofs.StepLemmas.{signal_range_stops, signal_twice, signal_found}
@@ -112,9 +112,6 @@ module _ (base least : ℕ) (site : Site) (old : Known) (announced : AreAnnounce
             bindings = bindings_in new;
             signals = so_far.signals ++ declared_signal site k least t ∷ [];
           })) (wide so_far same)
-
-      pub signal_binds : Binds ends old new
-      signal_binds so_far same = (made so_far, signal_made_so so_far same, refl)
 
 -- the names and numbers of the walk are its names
 pub is_ahead : (base : ℕ) (m : ModuleTree) (d : CodeDeclared) → IsSoFar base m d → IsAhead base m d

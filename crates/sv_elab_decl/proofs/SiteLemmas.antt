@@ -12,7 +12,7 @@ use Rattle.sv_ast.specs.declared.declarations.Decl.{Decl}
 use Rattle.sv_ast.specs.declared.declarations.Param.{Param}
 use Rattle.sv_ast.specs.declared.modules.Item.{Item}
 use Rattle.sv_ast.specs.declared.modules.Item.TheVariants as item
-use Rattle.sv_ast.specs.Tree.{ParameterTree, DeclarationTree, ItemTree, parameter_item, declared}
+use Rattle.sv_ast.specs.Tree.{ParameterTree, ItemTree, parameter_item}
 use Rattle.sv_ast.specs.Tree.{ModuleTree}
 use Rattle.sv_ast.specs.Shape.{are_header_parameters, is_shaped_parameter, are_ports}
 use Rattle.sv_ast.specs.Shape.{is_shaped_declaration, is_shaped_item, is_shaped_module}
@@ -121,9 +121,12 @@ module _ (base least : ℕ) (s : Site) (d : WalkDeclared) where
 
 -- ---- modules
 
-pub shaped_parameters : (m : ModuleTree) → is_shaped_module m ≡ true
-    → list_all is_shaped_parameter m.parameters ≡ true
-shaped_parameters m h =
+-- the parts of a shaped module are shaped: its parameters, its ports and its items
+shaped_parts : (m : ModuleTree) → is_shaped_module m ≡ true
+    → (list_all is_shaped_parameter m.parameters ≡ true)
+    × (list_all is_shaped_declaration m.ports ≡ true)
+    × (list_all is_shaped_item m.items ≡ true)
+shaped_parts m h =
     let a = and_parts (are_header_parameters m.parameters
     && list_all is_shaped_parameter m.parameters
     && are_ports m.ports
@@ -134,25 +137,21 @@ shaped_parameters m h =
     let c = and_parts (are_header_parameters m.parameters
     && list_all is_shaped_parameter m.parameters)
     (are_ports m.ports) b.0 in
-    (and_parts (are_header_parameters m.parameters)
-    (list_all is_shaped_parameter m.parameters) c.0).1
+    let d = and_parts (are_header_parameters m.parameters)
+    (list_all is_shaped_parameter m.parameters) c.0 in
+    (d.1, b.1, a.1)
+
+pub shaped_parameters : (m : ModuleTree) → is_shaped_module m ≡ true
+    → list_all is_shaped_parameter m.parameters ≡ true
+shaped_parameters m h = (shaped_parts m h).0
 
 pub shaped_ports : (m : ModuleTree) → is_shaped_module m ≡ true
     → list_all is_shaped_declaration m.ports ≡ true
-shaped_ports m h =
-    let a = and_parts (are_header_parameters m.parameters
-    && list_all is_shaped_parameter m.parameters
-    && are_ports m.ports
-    && list_all is_shaped_declaration m.ports) (list_all is_shaped_item m.items) h in
-    (and_parts (are_header_parameters m.parameters && list_all is_shaped_parameter m.parameters
-    && are_ports m.ports) (list_all is_shaped_declaration m.ports) a.0).1
+shaped_ports m h = (shaped_parts m h).1.0
 
 pub shaped_items : (m : ModuleTree) → is_shaped_module m ≡ true →
     list_all is_shaped_item m.items ≡ true
-shaped_items m h =
-    (and_parts (are_header_parameters m.parameters && list_all is_shaped_parameter m.parameters
-    && are_ports m.ports
-    && list_all is_shaped_declaration m.ports) (list_all is_shaped_item m.items) h).1
+shaped_items m h = (shaped_parts m h).1.1
 
 -- where the header breaks a rule, the whole does
 pub header_broken : (base least : ℕ) (s : Site) (t : WalkStep)

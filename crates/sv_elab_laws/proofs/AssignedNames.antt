@@ -5,7 +5,7 @@ use Rattle.std.specs.Prelude.{◌==◌, not, ◌&&◌, ◌||◌, nat_le, Option,
 use Rattle.std.specs.Prelude.{Ok}
 use Rattle.std.specs.List.{list_any, list_all, filter}
 use Rattle.std.specs.Str.{bytes_eq}
-use Rattle.std.proofs.lemmas.Bool.{and_parts, leb-true}
+use Rattle.std.proofs.lemmas.Bool.{and_parts, eqb-true, leb-true}
 use Rattle.std.proofs.lemmas.List.Folds.{list_any-append}
 use Rattle.std.proofs.lemmas.List.Elements.{Contains-append_cases}
 use Rattle.sv_num.specs.declared.faults.Place.{Place}
@@ -21,6 +21,7 @@ use Rattle.sv_ast.specs.Runs.{targets_width, assigned, assigned_in, assigned_by}
 use Rattle.sv_flat.specs.Design.{SignalForm, TypedTree, PieceForm, FlatStatement, nothing, after}
 use Rattle.sv_flat.specs.Design.{assign, branch}
 use Rattle.sv_flat.specs.Assigned.{assigns}
+use Rattle.sv_flat.proofs.LeastSets.{from_some}
 use Rattle.sv_elab_rules.specs.Names.{Names}
 use Rattle.sv_elab_rules.specs.ExpressionSteps.{typed_walk, expression_walk}
 use Rattle.sv_elab_rules.specs.Targets.{pieces_of, targets_steps, assignment_walk}
@@ -332,6 +333,23 @@ module _ (names : Names) where
         both_signals (assigned body) (assigned_by arms)
         (assigned_are_signals body arm.first arm.first_is)
         (assigned_by_signals n s arms arm.rest arm.rest_is) m at
+
+module _ (names : Names) where
+  -- what the flat form of a statement assigns is the number of a name that the statement assigns
+  pub assigned_name : (s : StatementTree) (f : FlatStatement)
+      → (statement_walk names s).end ≡ Ok f → IsTrue (is_shaped_statement s) → (k : ℕ)
+      → assigns f k ≡ true
+      → (n : List ℕ) × Contains (assigned s) n × IsTrue (is_signal (names.scope n))
+      × (names.number n ≡ k)
+  assigned_name s f walked shaped k h =
+      let n = from_some (λ (m : List ℕ).
+      names.number m == k) (assigned s)
+      (sym (assigned_same names s f walked shaped k) ∙ h) in (
+        n.0,
+        n.1,
+        assigned_are_signals names s f walked n.0 n.1,
+        eqb-true (names.number n.0) k n.2,
+      )
 
 -- ---- by names
 

@@ -11,9 +11,9 @@ use Rattle.sv_ast.specs.Tree.{instance_item, ModuleTree}
 use Rattle.sv_ast.specs.Parts.{Part, child, parts_from, links_to}
 use Rattle.sv_ast.specs.Processes.{combinational, clocked, linking, combinational_body}
 use Rattle.sv_ast.specs.Processes.{clocked_body, item_processes, processes_from}
-use Rattle.sv_elab_laws.proofs.PartsLists.{contains_either, contains_right}
+use Rattle.sv_flat.proofs.Members.{Contains-either as contains_either}
+use Rattle.sv_flat.proofs.Members.{Contains-right as contains_right, from_flat_map, to_flat_map}
 use Rattle.sv_elab_laws.proofs.PartsNamed.{from_filter_map, to_filter_map}
-use Rattle.sv_elab_laws.proofs.PartsPaths.{from_flat_map, to_flat_map}
 use Rattle.sv_elab_laws.proofs.JoinedSources.{from_some_list, to_some_list, from_option, to_option}
 use Rattle.sv_elab_laws.proofs.JoinedSources.{inner_parts, inner_instance}
 

@@ -34,7 +34,7 @@ use Rattle.sv_elab_laws.proofs.PartsLists.{contains_get, differ_places}
 use Rattle.sv_elab_laws.proofs.PartsNamed.{to_filter_map, from_filter_map}
 use Rattle.sv_elab_laws.specs.SideBySide.{kind_clock, clock_of, edges_from, edges_of}
 use Rattle.sv_elab_laws.proofs.PartsGrown.{IsLink, IsFlat, IsNumberOf}
-use Rattle.sv_elab_laws.proofs.PartsPaths.{from_flat_map, to_flat_map}
+use Rattle.sv_flat.proofs.Members.{from_flat_map, to_flat_map}
 use Rattle.sv_elab_laws.proofs.PartsTexts.{SideBySide, sources_of, paths_differ}
 use Rattle.sv_elab_laws.proofs.FormsBeside.{same_size, below_size}
 use Rattle.sv_elab_laws.proofs.JoinedSources.{edges_forth, edges_back, links_forth, links_back}
@@ -346,46 +346,33 @@ module _ (text : TextTree) (top : Option (List ℕ)) (design : FlatDesign)
       let f = from_filter_map link design.processes p.0 p.1 in
       (f.0, f.1, f.2 ∙ ap (λ x. Some (x, p.0.1)) p.2 ∙ ap (λ y. Some (a, y)) p.3)
 
+  paired_by : (a b : ℕ) (l : PortLink) → Contains all_links l → (x y : Path)
+      → Contains {X = Path × Path} (clock_pairs l) (x, y) → IsNumber x a → IsNumber y b
+      → ArePaired a b
+  paired_by a b l at x y pair x_is y_is = record {
+    first = x;
+    second = y;
+    first_is = x_is;
+    second_is = y_is;
+    pair = to_flat_map clock_pairs all_links l (x, y) at pair;
+  }
+
   made_paired : (a b : ℕ) → makes_clock design a b ≡ true → ArePaired a b
   made_paired a b h = ⊎_elim
       (λ two. ⊎_elim
       (λ x.
       let f = link_listed link_in a b x in
       let l = input_pair f.0 f.1 a b f.2 in
-      record {
-        first = port_path l.0;
-        second = l.3;
-        first_is = l.5;
-        second_is = l.6;
-        pair =
-            to_flat_map clock_pairs all_links l.0 (port_path l.0, l.3) l.1
-            (first_pair l.0 l.3 l.4);
-      })
+      paired_by a b l.0 l.1 (port_path l.0) l.3 (first_pair l.0 l.3 l.4) l.5 l.6)
       (λ x.
       let f = link_listed link_out b a x in
       let l = output_pair f.0 f.1 b a f.2 in
-      record {
-        first = port_path l.0;
-        second = l.2;
-        first_is = l.5;
-        second_is = l.4;
-        pair =
-            to_flat_map clock_pairs all_links l.0 (port_path l.0, l.2) l.1
-            (first_pair l.0 l.2 l.3);
-      })
+      paired_by a b l.0 l.1 (port_path l.0) l.2 (first_pair l.0 l.2 l.3) l.5 l.4)
       (or_cases (lists_pair (links_in design) a b) (lists_pair (links_out design) b a) two))
       (λ x.
       let f = link_listed link_in b a x in
       let l = input_pair f.0 f.1 b a f.2 in
-      record {
-        first = l.3;
-        second = port_path l.0;
-        first_is = l.6;
-        second_is = l.5;
-        pair =
-            to_flat_map clock_pairs all_links l.0 (l.3, port_path l.0) l.1
-            (second_pair l.0 l.3 l.4 l.2);
-      })
+      paired_by a b l.0 l.1 l.3 (port_path l.0) (second_pair l.0 l.3 l.4 l.2) l.6 l.5)
       (or_cases (lists_pair (links_in design) a b || lists_pair (links_out design) b a)
       (lists_pair (links_in design) b a) h)
 

@@ -2,9 +2,8 @@
 use Rattle.std.proofs.Common.{◌≡◌, ℕ, ◌+◌, ◌^◌, ◌<◌, Bool, true, false, cond}
 use Rattle.std.proofs.Common.{List, [], ◌∷◌, ◌++◌, map, length, Option, Some, None, refl, sym, ap}
 use Rattle.std.proofs.Common.{subst, ◌∙◌, arith}
-use Rattle.std.specs.Prelude.{not, ◌==◌, ◌&&◌, nat_lt, position, unwrap_or}
+use Rattle.std.specs.Prelude.{not, ◌==◌, nat_lt, position, unwrap_or}
 use Rattle.std.specs.Prelude.{option_and_then, Contains, Ok, IsTrue}
-use Rattle.std.specs.Prelude.{IsFalse}
 use Rattle.std.specs.List.{slice_get, list_any, AllZip, position_or_len}
 use Rattle.std.specs.Str.{bytes_eq}
 use Rattle.std.proofs.lemmas.Bool.{false≢true, both_ways, or_left, or_right, eqb-true}
@@ -25,24 +24,15 @@ use Rattle.sv_ast.specs.SourceLabels.{least, map_named, row_at, label_point}
 use Rattle.sv_ast.specs.Reach.{holds}
 use Rattle.sv_ast.specs.Parts.{Path, same_path, Part, within, parts, PartSignal}
 use Rattle.sv_ast.specs.Processes.{values_in}
-use Rattle.sv_flat.specs.Design.{SignalForm, InvariantForm, FlatDesign}
+use Rattle.sv_flat.specs.Design.{SignalForm, FlatDesign}
 use Rattle.sv_flat.specs.Admission.{IsAdmitted}
 use Rattle.sv_flat.specs.Soundness.{sound}
 use Rattle.sv_flat.specs.Values.{signal_of}
-use Rattle.sv_flat.specs.Processes.{declared_at}
-use Rattle.sv_flat.specs.Readings.{names_signal}
-use Rattle.sv_flat.specs.Clocks.{clocks, is_clock, is_one_bit_input, is_linked, agrees_with_earlier}
-use Rattle.sv_flat.specs.Clocks.{uses_as_signal, selects_by, is_clock_alone, is_least_label}
-use Rattle.sv_flat.specs.Clocks.{is_proper_clock}
-use Rattle.sv_flat.specs.Breaches.{breach}
-use Rattle.sv_flat.specs.Assignments.{wrong_assigns}
-use Rattle.sv_flat.specs.Drivers.{clock_faults, driver_faults, undriven}
-use Rattle.sv_flat.specs.Blocks.{latches, phase_faults}
+use Rattle.sv_flat.specs.Clocks.{is_clock}
+use Rattle.sv_flat.specs.Clocks.{selects_by}
 use Rattle.sv_flat.specs.FlatSystem.{label_in, flat_system}
-use Rattle.sv_flat.proofs.LeastSets.{some_from, Contains-from_holds}
-use Rattle.sv_flat.proofs.Depths.{first_of, second_of}
-use Rattle.sv_flat.proofs.AdmittedFacts.{empty_left, empty_right, none_pass, negated_false}
-use Rattle.sv_flat.proofs.AdmittedFacts.{negated_true}
+use Rattle.sv_flat.proofs.LeastSets.{some_from}
+use Rattle.sv_flat.proofs.SelectorFacts.{no_selector}
 use Rattle.sv_elab_rules.specs.Walks.{ask, found}
 use Rattle.sv_elab_rules.specs.Rules.{bad_label}
 use Rattle.sv_elab_rules.specs.Names.{Names}
@@ -103,41 +93,11 @@ module _ (text : TextTree) (top : Option (List ℕ)) (design : FlatDesign)
 
   -- ---- no clock selects a label
 
-  no_clock_faults : clock_faults design ≡ []
-  no_clock_faults = empty_right (wrong_assigns design) (clock_faults design)
-      (empty_left (wrong_assigns design ++ clock_faults design) (driver_faults design)
-      (empty_left (wrong_assigns design ++ clock_faults design ++ driver_faults design)
-      (undriven design)
-      (empty_left (wrong_assigns design ++ clock_faults design ++ driver_faults design
-      ++ undriven design) (latches design)
-      (empty_left (wrong_assigns design ++ clock_faults design ++ driver_faults design
-      ++ undriven design ++ latches design)
-      (phase_faults design) admitted.unbroken))))
-
-  no_selector : (t : ℕ) → IsTrue (is_clock design t)
-      → IsFalse (list_any (λ (signal : SignalForm). selects_by t signal.label) design.signals)
-  no_selector t clock =
-      let shape = is_one_bit_input design t && is_linked design t && agrees_with_earlier design t in
-      let proper = negated_false (is_proper_clock design t)
-      (none_pass (λ z. breach 602 (declared_at design z) z) (λ z.
-      not (is_proper_clock design z)) (clocks design) no_clock_faults t
-      (Contains-from_holds (clocks design) t clock)) in
-      let alone = second_of shape (is_clock_alone design t)
-      (first_of (shape && is_clock_alone design t)
-      (is_least_label design.lattice (signal_of design.signals t).label) proper) in
-      let used = not (list_any (uses_as_signal design t) design.processes) in
-      let selects = not (list_any (λ (signal : SignalForm).
-      selects_by t signal.label) design.signals) in
-      let invariants = not (list_any (λ (i : InvariantForm).
-      names_signal design.signals i.expression t) design.invariants) in
-      negated_true (list_any (λ (signal : SignalForm). selects_by t signal.label) design.signals)
-      (second_of used selects (first_of (used && selects) invariants alone))
-
   selector_is_no_clock : (s : SignalForm) → Contains design.signals s → (t : ℕ) →
       selects_by t s.label ≡ true → is_clock design t ≡ false
   selector_is_no_clock s at t h = false_from_ne_true (is_clock design t) (λ clock.
       both_ways (list_any (λ (signal : SignalForm). selects_by t signal.label) design.signals)
-      (no_selector t clock)
+      (no_selector design is_sound admitted t clock)
       (some_from (λ (signal : SignalForm). selects_by t signal.label) design.signals s at h))
 
   -- ---- maps

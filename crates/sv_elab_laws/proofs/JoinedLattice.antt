@@ -8,7 +8,7 @@ use Rattle.std.specs.List.{slice_get, AllZip, All, position_or_len}
 use Rattle.std.specs.Option.{option_map_or}
 use Rattle.std.specs.Str.{bytes_eq}
 use Rattle.std.proofs.lemmas.Nat.Bits.{bit_at_above}
-use Rattle.std.proofs.lemmas.Bool.{cases_Bool, false≢true, and_parts, false_from_ne_true}
+use Rattle.std.proofs.lemmas.Bool.{false_from_ne_true}
 use Rattle.std.proofs.lemmas.List.Folds.{find_at}
 use Rattle.sv_system.proofs.Lists.{Contains-head, Contains-later, Contains-cases, Contains-nil}
 use Rattle.sv_lattice.specs.declared.points.Point.{Point}
@@ -28,7 +28,8 @@ use Rattle.sv_elab_rules.proofs.WalkLemmas.{parts_done, asked_true}
 use Rattle.sv_elab_rules.proofs.LatticeLemmas.{table_is_exact}
 use Rattle.sv_ast.proofs.Reaching.{HasKnownPoints, flows_by_pairs}
 use Rattle.sv_elab_laws.proofs.PartsLists.{get_contains, contains_get, zip_left, zip_right, get_below}
-use Rattle.sv_elab_laws.proofs.PartsLists.{index_is, contains_left, contains_right}
+use Rattle.sv_elab_laws.proofs.PartsLists.{index_is}
+use Rattle.sv_flat.proofs.Members.{Contains-right as contains_right}
 use Rattle.sv_elab_laws.proofs.PartsBindings.{same_name, name_itself}
 use Rattle.sv_elab_laws.proofs.PartsDeclared.{same_ok}
 use Rattle.sv_elab_laws.proofs.PartsLinks.{find_some}
@@ -183,17 +184,19 @@ pairs_in l =
     option_map_or (λ (t : LatticeTree).
     map (λ (p : PairTree). (p.lower.name, p.upper.name)) t.pairs) l ((codes "L", codes "H") ∷ [])
 
-order_from : (l : Option LatticeTree) (order : PointOrder) → (lattice_walk l).end ≡ Ok order →
-    IsOrderFrom (points_in l) (pairs_in l) order
+-- what the walk of a lattice that is declared has asked
+pub record LatticeAsked (t : LatticeTree) (order : PointOrder) : Type 0 where
+  pub counted : (nat_le 1 (length t.points) && nat_le (length t.points) 32) ≡ true
+  pub answered_all : (each answered (in_textual_order
+      (point_questions [] t.points ++ pair_questions (point_names t) t.pairs))).end ≡ Ok tt
+  pub ordered : (order_steps t.place (declared_order t).points (declared_order t).table
+      (turned (declared_order t).table)).end ≡ Ok tt
+  pub is : declared_order t ≡ order
+
+pub lattice_asked : (t : LatticeTree) (order : PointOrder)
+    → (lattice_walk (Some t)).end ≡ Ok order → LatticeAsked t order
 unfolding lattice_walk checked_order
-order_from None order h =
-    subst (IsOrderFrom (points_in None) (pairs_in None)) (same_ok two_points order h) (record {
-      points_are = refl;
-      numbers = (0, 1) ∷ [];
-      numbered = ((refl, refl), tt);
-      table = refl;
-    })
-order_from (Some t) order h =
+lattice_asked t order h =
     let size = parts_done
     (ask (nat_le 1 (length t.points) && nat_le (length t.points) 32) (lattice_size t.place)) _
     order h in
@@ -203,12 +206,34 @@ order_from (Some t) order h =
     let steps = parts_done
     (order_steps t.place declared.points declared.table (turned declared.table)) _ order
     asked_all.2 in
-    subst (IsOrderFrom (points_in (Some t)) (pairs_in (Some t))) (same_ok declared order steps.2)
+    record {
+      counted =
+          asked_true (nat_le 1 (length t.points) && nat_le (length t.points) 32)
+          (lattice_size t.place) size.1;
+      answered_all = asked_all.1;
+      ordered = steps.1;
+      is = same_ok declared order steps.2;
+    }
+
+order_from : (l : Option LatticeTree) (order : PointOrder) → (lattice_walk l).end ≡ Ok order →
+    IsOrderFrom (points_in l) (pairs_in l) order
+unfolding lattice_walk
+order_from None order h =
+    subst (IsOrderFrom (points_in None) (pairs_in None)) (same_ok two_points order h) (record {
+      points_are = refl;
+      numbers = (0, 1) ∷ [];
+      numbered = ((refl, refl), tt);
+      table = refl;
+    })
+order_from (Some t) order h =
+    let questions = point_questions [] t.points ++ pair_questions (point_names t) t.pairs in
+    let asked = lattice_asked t order h in
+    subst (IsOrderFrom (points_in (Some t)) (pairs_in (Some t))) asked.is
     (record {
       points_are = refl;
       numbers = map (numbered_pair (point_names t)) t.pairs;
       numbered = pairs_numbered (point_names t) t.pairs
-          (λ q at. all_hold (in_textual_order questions) asked_all.1 q
+          (λ q at. all_hold (in_textual_order questions) asked.answered_all q
           (ordered_has questions q
           (contains_right (point_questions [] t.points) (pair_questions (point_names t) t.pairs)
           q at)));

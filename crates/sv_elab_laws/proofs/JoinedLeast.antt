@@ -17,31 +17,36 @@ use Rattle.sv_lattice.specs.Flows.{Leads as NumbersLead}
 use Rattle.sv_lattice.specs.Tables.{flow_test}
 use Rattle.sv_ast.specs.Tree.{PlacedName, LatticeTree, TextTree}
 use Rattle.sv_ast.specs.SourceLabels.{points, pairs, flows, least}
+use Rattle.sv_ast.specs.Processes.{Process}
 use Rattle.sv_ast.specs.Reach.{holds, reached}
-use Rattle.sv_elab_rules.specs.Walks.{WalkStep, Steps, ask, each}
-use Rattle.sv_elab_rules.specs.Rules.{lattice_size, lattice_name, circle, no_join, no_meet}
+use Rattle.sv_elab_rules.specs.Walks.{WalkStep, Steps, each}
+use Rattle.sv_elab_rules.specs.Rules.{lattice_name, circle, no_join, no_meet}
 use Rattle.sv_elab_rules.specs.CaseChains.{numbers_below}
 use Rattle.sv_elab_rules.specs.Lattices.{PointOrder, Question, is_point, contains, are_apart}
 use Rattle.sv_elab_rules.specs.Lattices.{have_join}
 use Rattle.sv_elab_rules.specs.Lattices.{turned, pairs_below, pair_steps, order_steps, point_questions}
-use Rattle.sv_elab_rules.specs.Lattices.{pair_questions, in_textual_order, point_names, answered}
-use Rattle.sv_elab_rules.specs.Lattices.{declared_order, checked_order, two_points, lattice_walk}
+use Rattle.sv_elab_rules.specs.Lattices.{pair_questions, in_textual_order, point_names}
+use Rattle.sv_elab_rules.specs.Lattices.{declared_order, two_points, lattice_walk}
 use Rattle.sv_elab_rules.specs.Lattices.{least_point}
+use Rattle.sv_elab_rules.specs.LabelSteps.{SharedTables}
 use Rattle.sv_elab_rules.proofs.WalkLemmas.{parts_done, asked_true}
+use Rattle.sv_flat.specs.Design.{FlatDesign}
 use Rattle.sv_flat.proofs.LeastSets.{range_has, some_from}
 use Rattle.sv_flat.proofs.Depths.{from_all}
 use Rattle.sv_elab_laws.proofs.PartsBindings.{name_itself}
-use Rattle.sv_elab_laws.proofs.LatticeTests.{same_sets, and_test, some_below, apart_test}
+use Rattle.sv_elab_laws.proofs.LatticeTests.{same_sets, some_below, apart_test}
+use Rattle.sv_lattice.proofs.BoundLemmas.{and_test}
 use Rattle.sv_elab_laws.proofs.LatticeTests.{turned_length, turned_test}
 use Rattle.sv_elab_laws.proofs.PartsLists.{get_contains, below_get, AllDiffer, differ_places}
-use Rattle.sv_elab_laws.proofs.PartsLists.{index_is, contains_left}
+use Rattle.sv_elab_laws.proofs.PartsLists.{index_is}
+use Rattle.sv_flat.proofs.Members.{Contains-left as contains_left, to_flat_map}
 use Rattle.sv_elab_laws.proofs.PartsDeclared.{same_ok}
 use Rattle.sv_elab_laws.proofs.PartsLinks.{find_some}
 use Rattle.sv_elab_laws.proofs.PartsNamed.{found_place, find_passes}
-use Rattle.sv_elab_laws.proofs.PartsPaths.{to_flat_map}
+use Rattle.sv_elab_laws.proofs.PartsTexts.{Beside}
 use Rattle.sv_elab_laws.proofs.JoinedLattice.{IsPointNumber, IsOrderFrom, exact_table, listed_number}
 use Rattle.sv_elab_laws.proofs.JoinedLattice.{number_at, number_in, flows_same, all_hold, ordered_has}
-use Rattle.sv_elab_laws.proofs.JoinedLattice.{points_in, pairs_in}
+use Rattle.sv_elab_laws.proofs.JoinedLattice.{points_in, pairs_in, lattice_asked, order_of}
 
 each_passes : {X : Type 0} (step : X → Steps) (xs : List X) → (each step xs).end ≡ Ok tt → (x : X) →
     Contains xs x → (step x).end ≡ Ok tt
@@ -100,30 +105,24 @@ record IsChecked (order : PointOrder) : Type 0 where
 
 checked_from : (t : LatticeTree) (order : PointOrder) → (lattice_walk (Some t)).end ≡ Ok order →
     IsChecked order
-unfolding lattice_walk checked_order order_steps
+unfolding order_steps
 checked_from t order h =
-    let size = parts_done
-    (ask (nat_le 1 (length t.points) && nat_le (length t.points) 32) (lattice_size t.place)) _
-    order h in
     let questions = point_questions [] t.points ++ pair_questions (point_names t) t.pairs in
-    let asked_all = parts_done (each answered (in_textual_order questions)) _ order size.2 in
     let declared = declared_order t in
-    let steps = parts_done
-    (order_steps t.place declared.points declared.table (turned declared.table)) _ order
-    asked_all.2 in
+    let asked = lattice_asked t order h in
     let aparts = parts_done (pair_steps (are_apart declared.table) (circle t.place) declared.points)
-    _ tt steps.1 in
+    _ tt asked.ordered in
     let joins = parts_done (pair_steps (have_join declared.table) (no_join t.place) declared.points)
     _ tt aparts.2 in
     let count = and_parts (nat_le 1 (length t.points)) (nat_le (length t.points) 32)
-    (asked_true (nat_le 1 (length t.points) && nat_le (length t.points) 32) (lattice_size t.place)
-    size.1) in
-    subst IsChecked (same_ok declared order steps.2) (record {
+    asked.counted in
+    subst IsChecked asked.is (record {
       some =
           subst (λ n. 1 ≤ n) (sym (Rattle.std.proofs.lemmas.List.length-map t.points (λ p. p.name)))
           (leb-true 1 (length t.points) count.0);
       differ =
-          (points_differ [] t.points (λ q at. all_hold (in_textual_order questions) asked_all.1 q
+          (points_differ [] t.points (λ q at.
+          all_hold (in_textual_order questions) asked.answered_all q
           (ordered_has questions q
           (contains_left (point_questions [] t.points) (pair_questions (point_names t) t.pairs)
           q at)))).0;
@@ -305,6 +304,14 @@ least_number text order is = by_lattice text.lattice refl
         (two_points_are order h)
         (subst (λ l. IsPointNumber two_points.points (least_from (points_in l) (pairs_in l))
         (least_point two_points.table)) (sym e) refl)
+
+-- and it is the least of the tables
+pub least_beside : (text : TextTree) (top : Option (List ℕ)) (design : FlatDesign)
+    {qs : List Process} (side : Beside text top qs design)
+    → IsPointNumber side.order.points (least text) side.tables.least
+least_beside text top design side =
+    least_number text side.order (order_of text side.order side.lattice) side.lattice
+    ∙ ap (λ (t : SharedTables). Some t.least) (sym side.tables_are)
 
 -- no point is declared twice
 pub points_apart : (l : Option LatticeTree) (order : PointOrder) → (lattice_walk l).end ≡ Ok order

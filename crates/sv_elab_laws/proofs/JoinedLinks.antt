@@ -1,6 +1,6 @@
 -- What a flat process of a link links: the numbers of the port and of the signal that is linked as
 -- a whole.
-use Rattle.std.proofs.Common.{◌≡◌, ℕ, max, Bool, true, false, cond, List}
+use Rattle.std.proofs.Common.{◌≡◌, ◌≤◌, ℕ, max, Bool, true, false, cond, List}
 use Rattle.std.proofs.Common.{Option, Some, None, refl, sym, ap, subst, ◌∙◌, ◌⊎◌, inl}
 use Rattle.std.proofs.Common.{inr, ⊎_elim}
 use Rattle.std.specs.Prelude.{if◌then◌else◌, Ok, IsTrue}
@@ -89,6 +89,19 @@ module _ (tables : SharedTables) (sources : List PartSignal) (everything : List 
 
   pub port_is_signal : IsTrue (is_signal (link.inner.scope l.port.name))
   port_is_signal = (link.inner_named.known port_listed.0 l.port port_listed.1).0
+
+  -- the port stands among the names inside with its bits, of which there are some
+  pub port_stands : link.inner.scope l.port.name
+      ≡ Some (signal (port_width link.ports l.port) l.port.signed)
+  port_stands =
+      let there = link.inner_named.signs port_listed.0 l.port port_listed.1 in
+      there.1
+      ∙ ap (λ w. Some (signal w l.port.signed)) (sym (ap width_of (link.stands ∙ there.1)))
+
+  pub some_bits : 1 ≤ port_width link.ports l.port
+  some_bits =
+      (link.inner_named.widths l.port.name (port_width link.ports l.port) l.port.signed
+      port_stands).0
 
   pub port_numbered : IsNumberOf tables sources everything (port_path l) port_at
   port_numbered =

@@ -198,6 +198,9 @@ keys_same points first second v w fits r row is =
 -- a flat map is that of a map of the text
 pub record IsMapOf (points : List (List ℕ)) (t : MapTree) (m : List ℕ × MapRows) : Type 0 where
   pub name : m.0 ≡ t.name
+  pub first_is : m.1.first ≡ span_width no_names (Some t.span)
+  pub second_is : m.1.second ≡
+      option_map (λ (s : SpanTree). span_width no_names (Some s)) t.second
   pub rows : List (ℕ × ℕ)
   pub each_row : AllZip (IsRowOf points m.1.first m.1.second) t.rows rows
   pub other : Option ℕ
@@ -226,6 +229,8 @@ map_done points earlier t m h =
     record { first = first; second = second; rows = all_rows bits rows.0 other.0 } in
     subst (λ (z : MapRows). IsMapOf points t (t.name, z)) (same_ok made m whole.2) (record {
       name = refl;
+      first_is = refl;
+      second_is = refl;
       rows = rows.0;
       each_row = subst (AllZip (IsRowOf points first second) t.rows) (sym built.1) built.2;
       other = other.0;

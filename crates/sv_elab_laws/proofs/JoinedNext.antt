@@ -3,7 +3,7 @@ use Rattle.std.proofs.Common.{◌≡◌, ℕ, ◌<◌, Bool, true, false, cond, 
 use Rattle.std.proofs.Common.{map, length, Option, refl, sym, ap, subst, ◌∙◌}
 use Rattle.std.specs.Prelude.{not, ◌==◌, flat_map, filter, Contains, IsTrue}
 use Rattle.std.specs.List.{list_any, AllZip}
-use Rattle.std.proofs.lemmas.Bool.{cases_Bool, false≢true, and_left, ltb-true}
+use Rattle.std.proofs.lemmas.Bool.{and_left, ltb-true}
 use Rattle.std.proofs.lemmas.List.{map-append}
 use Rattle.sv_system.specs.System.{System, Environment, last_update}
 use Rattle.sv_system.specs.Joining.{Agree}
@@ -21,21 +21,17 @@ use Rattle.sv_flat.specs.Assigned.{assigns}
 use Rattle.sv_flat.specs.Admission.{IsAdmitted}
 use Rattle.sv_flat.specs.Soundness.{sound}
 use Rattle.sv_flat.specs.Runs.{Updates, updates_of as flat_updates_of}
-use Rattle.sv_flat.specs.Readings.{Reading, readings, no_bits}
 use Rattle.sv_flat.specs.Processes.{is_clocked}
 use Rattle.sv_flat.specs.Clocks.{is_port_in, is_clock_link, clocks, processes_of}
 use Rattle.sv_flat.specs.FlatSystem.{clocked_processes, all_updates, flat_system}
-use Rattle.sv_flat.proofs.LeastSets.{some_from, Contains-from_filter}
-use Rattle.sv_flat.proofs.AdmittedFacts.{is_process, body_is_sound, assigned_is_signal}
-use Rattle.sv_flat.proofs.AdmittedFacts.{assigns_no_clock, some_width}
-use Rattle.sv_flat.proofs.ClockFacts.{reads_no_clock}
-use Rattle.sv_flat.proofs.ReadSignals.{readings_signals}
+use Rattle.sv_flat.proofs.LeastSets.{Contains-from_filter}
+use Rattle.sv_flat.proofs.AdmittedFacts.{is_process}
 use Rattle.sv_ast.specs.TextSystem.{text_clocks}
 use Rattle.sv_elab_laws.specs.SameStates.{by_number}
 use Rattle.sv_elab_laws.proofs.PartsLists.{zip_right, contains_get}
 use Rattle.sv_elab_laws.proofs.PartsMaps.{map_twice_same}
 use Rattle.sv_elab_laws.proofs.PartsGrown.{IsBody, IsFlat, number_of_name}
-use Rattle.sv_elab_laws.proofs.PartsPaths.{from_flat_map}
+use Rattle.sv_flat.proofs.Members.{from_flat_map}
 use Rattle.sv_elab_laws.proofs.PartsTexts.{SideBySide, sources_of}
 use Rattle.sv_elab_laws.proofs.JoinedClocks.{IsNumber, number_below, clocked_no_link}
 use Rattle.sv_elab_laws.proofs.JoinedNumbers.{to_is, At, at_number, flat_signals, signal_below}
@@ -45,15 +41,8 @@ use Rattle.sv_elab_laws.proofs.JoinedRuns.{source_system, path_to, unclocked_val
 use Rattle.sv_elab_laws.proofs.JoinedRuns.{numbered_values, numbered_same}
 use Rattle.sv_elab_laws.proofs.JoinedRuns.{numbering, have_values, values_fit, to_name}
 use Rattle.sv_elab_laws.proofs.JoinedProcesses.{same_place, link_unclocked}
-use Rattle.sv_flat.proofs.SameUpdates.{run_alike}
+use Rattle.sv_flat.proofs.AlikeUpdates.{flat_map_same, updates_hang}
 use Rattle.sv_elab_laws.proofs.StatementsSame.{body_same}
-
-pub flat_map_same : {X Y : Type 0} (f g : X → List Y) (xs : List X) →
-    ((x : X) → Contains xs x → f x ≡ g x) → flat_map f xs ≡ flat_map g xs
-flat_map_same f g [] same = refl
-flat_map_same f g (x ∷ xs) same =
-    ap (λ ys. ys ++ flat_map f xs) (same x (Contains-head x xs))
-    ∙ ap (λ ys. g x ++ ys) (flat_map_same f g xs (λ y at. same y (Contains-later x xs y at)))
 
 clocked_test : ProcessForm → Bool
 clocked_test p = is_clocked p.kind
@@ -105,21 +94,9 @@ module _ (text : TextTree) (top : Option (List ℕ)) (design : FlatDesign)
   pub updates_alike : (f : ProcessForm) → Contains (processes_of design) f → (d e : Environment ℕ)
       → ((k : ℕ) → Given k → d k ≡ e k)
       → flat_updates_of design.signals f.body d ≡ flat_updates_of design.signals f.body e
-  updates_alike f at d e same =
-      let sound_body = body_is_sound design is_sound admitted f at in
-      (run_alike design.signals (some_width design is_sound admitted) Given f.body sound_body
-      no_bits no_bits
-      (λ r r_at. is_flat_signal text top design side r.name.signal
-      (ltb-true r.name.signal (length design.signals)
-      (readings_signals design.signals f.body no_bits no_bits sound_body r r_at))
-      (reads_no_clock design is_sound admitted f r.name.signal at
-      (some_from (λ (z : Reading).
-      z.name.signal == r.name.signal) (readings design.signals f.body no_bits no_bits) r r_at
-      (Rattle.std.proofs.lemmas.Bool.eq-eqb r.name.signal r.name.signal refl))))
-      (λ s h. is_flat_signal text top design side s
-      (ltb-true s (length design.signals) (assigned_is_signal design.signals f.body sound_body s h))
-      (assigns_no_clock design is_sound admitted f s at h))
-      (d, []) (e, []) (same, refl)).1
+  updates_alike =
+      updates_hang design is_sound admitted Given (λ s inside no_clock.
+      is_flat_signal text top design side s (ltb-true s (length design.signals) inside) no_clock)
 
   all_alike : (d e : Environment ℕ) → ((k : ℕ) → Given k → d k ≡ e k)
       → all_updates design (clocked_processes design) d ≡

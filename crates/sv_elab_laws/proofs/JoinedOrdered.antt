@@ -2,7 +2,7 @@
 use mathlib.Core.Path.{fun_ext}
 use Rattle.std.proofs.Common.{◌≡◌, ℕ, zero, suc, ◌+◌, ◌%◌, ◌^◌, List, [], ◌∷◌, map, length}
 use Rattle.std.proofs.Common.{Option, Some, refl, sym, ap, subst, ◌∙◌}
-use Rattle.std.specs.Prelude.{IsTrue, IsFalse, ◌↔◌}
+use Rattle.std.specs.Prelude.{IsTrue, IsFalse}
 use Rattle.std.specs.List.{AllZip}
 use Rattle.std.proofs.lemmas.List.{length-map}
 use Rattle.sv_system.specs.System.{System, Environment}
@@ -19,13 +19,14 @@ use Rattle.sv_flat.specs.Design.{FlatDesign}
 use Rattle.sv_flat.specs.FlatSystem.{combinational_processes, run_of, flat_system}
 use Rattle.sv_flat.specs.Schedules.{numbered_run, round, process_count, state_after, after_rounds}
 use Rattle.sv_flat.specs.Schedules.{IsRoundCount, after_tick, tick_order}
-use Rattle.sv_flat.specs.Schedules.{with_inputs, starting, IsOrderedRun, OrderedRun}
+use Rattle.sv_flat.specs.Schedules.{with_inputs, starting, IsOrderedRun}
 use Rattle.sv_flat.specs.Soundness.{sound}
 use Rattle.sv_elab_rules.specs.Texts.{flat_of}
 use Rattle.sv_elab_laws.specs.FlattenedTexts.{CanBeFlattened}
 use Rattle.sv_elab_laws.specs.Rounds.{drawn_after, after_rounds_in, IsRoundCountIn, clocked_in}
 use Rattle.sv_elab_laws.specs.Rounds.{after_text_tick, tick_numbers, inputs_put, registers_put}
-use Rattle.sv_elab_laws.specs.Rounds.{IsTextOrderedRun, TextRounds, SameGiven, RoundsAreOfText}
+use Rattle.sv_elab_laws.specs.Rounds.{IsTextOrderedRun, SameGiven, RoundsBy}
+use Rattle.sv_elab_laws.specs.Rounds.{RoundsAreOfText}
 use Rattle.sv_elab_laws.specs.SideBySide.{text_signals, path_at}
 use Rattle.sv_elab_laws.proofs.PartsShapes.{flattened}
 use Rattle.sv_elab_laws.proofs.PartsTexts.{SideBySide, side_by_side}
@@ -218,17 +219,7 @@ module _ (text : TextTree) (asked : Option (List ℕ)) (design : FlatDesign)
             ),
           )
 
-    abbrev RoundsBy : (ℕ → Path) → Type 0
-    RoundsBy to =
-        (number rounds : ℕ) (registers : Environment ℕ) (others : Environment Path)
-        (inputs : List (Environment ℕ)) (other_inputs : List (Environment Path))
-        → SameGiven first to first.is_register registers others
-        → AllZip (SameGiven first to first.is_input) inputs other_inputs
-        → ((environments : List (Environment ℕ))
-        × OrderedRun design number registers inputs environments rounds)
-        ↔ TextRounds text asked number others other_inputs rounds
-
-    rounds_by : RoundsBy joined.to
+    rounds_by : RoundsBy text asked design joined.to
     rounds_by number rounds registers others inputs other_inputs given all_given =
         let started = registers_agree first second joined keeps registers others given in (
           λ run. record {
@@ -246,7 +237,7 @@ module _ (text : TextTree) (asked : Option (List ℕ)) (design : FlatDesign)
         )
 
     rounds_named : RoundsAreOfText text asked design
-    rounds_named = subst RoundsBy named rounds_by
+    rounds_named = subst (RoundsBy text asked design) named rounds_by
 
   pub rounds_of_text : RoundsAreOfText text asked design
   rounds_of_text = rounds_named join.0 join.1

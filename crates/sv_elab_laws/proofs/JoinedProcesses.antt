@@ -1,6 +1,6 @@
 -- The processes of a flat design that are not clocked, and those of its source, in order: each does
 -- what the other does.
-use Rattle.std.proofs.Common.{◌≡◌, ℕ, ◌≤◌, Bool, true, false, cond, List}
+use Rattle.std.proofs.Common.{◌≡◌, ℕ, Bool, true, false, cond, List}
 use Rattle.std.proofs.Common.{[], ◌∷◌, map, length, Option, Some, None, refl, sym, ap, subst}
 use Rattle.std.proofs.Common.{◌∙◌, ⊎_elim}
 use Rattle.std.specs.Prelude.{not, ◌==◌, filter, Contains, IsTrue}
@@ -13,7 +13,7 @@ use Rattle.sv_system.specs.System.{System, Environment, Run, put}
 use Rattle.sv_system.specs.Joining.{Agree, SameRun}
 use Rattle.sv_system.proofs.Lists.{Contains-head, Contains-later, Contains-map}
 use Rattle.sv_system.proofs.Lists.{Contains-filter}
-use Rattle.sv_ast.specs.Scopes.{signal, width_of}
+use Rattle.sv_ast.specs.Scopes.{width_of}
 use Rattle.sv_ast.specs.Tree.{TextTree, named}
 use Rattle.sv_ast.specs.Values.{assigned_value}
 use Rattle.sv_ast.specs.Instances.{whole_signal}
@@ -44,7 +44,8 @@ use Rattle.sv_elab_rules.specs.Links.{port_number, port_width}
 use Rattle.sv_ast.specs.TextSystem.{text_clocks, unclocked as unclocked_run}
 use Rattle.sv_elab_laws.proofs.PartsGrown.{IsLink, IsFlat}
 use Rattle.sv_elab_laws.proofs.PartsTexts.{SideBySide, sources_of}
-use Rattle.sv_elab_laws.proofs.JoinedLinks.{port_at, port_listed, port_numbered, outer_numbered}
+use Rattle.sv_elab_laws.proofs.JoinedLinks.{port_at, port_stands, some_bits, port_numbered}
+use Rattle.sv_elab_laws.proofs.JoinedLinks.{outer_numbered}
 use Rattle.sv_elab_laws.proofs.JoinedLinks.{IsInput, IsOutput, link_is}
 use Rattle.sv_elab_laws.proofs.JoinedClocks.{IsNumber, number_same, same_clock, top_links_forth}
 use Rattle.sv_elab_laws.proofs.JoinedClocks.{outer_clock, same_bool}
@@ -149,17 +150,6 @@ module _ (text : TextTree) (top : Option (List ℕ)) (design : FlatDesign)
     abbrev port : ℕ
     port = port_at side.tables sources (parts text top) l f link
 
-    port_stands : (width : ℕ) × (link.inner.scope l.port.name ≡ Some (signal width l.port.signed))
-    port_stands =
-        let place = port_listed side.tables sources (parts text top) l f link in
-        link.inner_named.signs place.0 l.port place.1
-
-    abbrev port_bits : ℕ
-    port_bits = port_width link.ports l.port
-
-    bits_are : port_bits ≡ port_stands.0
-    bits_are = ap width_of (link.stands ∙ port_stands.1)
-
     input_assigns : IsInput side.tables sources (parts text top) l f link →
         assigns f.body port ≡ true
     input_assigns input = ap (λ (z : ProcessForm). assigns z.body port) input.form
@@ -180,7 +170,7 @@ module _ (text : TextTree) (top : Option (List ℕ)) (design : FlatDesign)
         let change : change_of (linking l) ≡ Some (source_link_in l) =
         ap (λ b. cond b (Some (source_link_in l))
         (option_map (source_link_out l) (whole_signal l.outer.scope l.expression))) kind in
-        let bits : port_bits ≡ width_of (l.inner.scope l.port.name) =
+        let bits : port_width link.ports l.port ≡ width_of (l.inner.scope l.port.name) =
         ap width_of link.stands ∙ ap (λ s. width_of (s l.port.name)) link.inner_named.scope in (
           source_link_in l,
           change,
@@ -193,22 +183,22 @@ module _ (text : TextTree) (top : Option (List ℕ)) (design : FlatDesign)
               input_link_same design.signals link.outer link.outer_named.declared
               (have_signals text top design side l.outer link.outer link.outer_named)
               link.ports l.port l.expression f input.walked
-              (subst (λ w. 1 ≤ w) (sym bits_are)
-              (link.inner_named.widths l.port.name port_stands.0 l.port.signed port_stands.1).0)
+              (some_bits side.tables sources (parts text top) l f link)
               (ap (flat_width design.signals) link.number
               ∙ (number_width text top design side l.inner link.inner link.inner_named l.port.name
-              port_stands.0 l.port.signed port_stands.1).1 ∙ sym bits_are)
+              (port_width link.ports l.port) l.port.signed
+              (port_stands side.tables sources (parts text top) l f link)).1)
               (values_in l.outer (unclocked_values text top design side g))
               (numbered_values text top design side g)
               (have_values text top design side l.outer link.outer link.outer_named g)
               ∙ ap (λ m. put ◌==◌ m
               (assigned_value link.outer.scope
-              (values_in l.outer (unclocked_values text top design side g)) port_bits
-              l.expression)
+              (values_in l.outer (unclocked_values text top design side g))
+              (port_width link.ports l.port) l.expression)
               (numbered_values text top design side g)) link.number
               ∙ ap (λ s. put ◌==◌ port
               (assigned_value s (values_in l.outer (unclocked_values text top design side g))
-              port_bits l.expression)
+              (port_width link.ports l.port) l.expression)
               (numbered_values text top design side g)) link.outer_named.scope
               ∙ ap (λ w. put ◌==◌ port
               (assigned_value l.outer.scope
@@ -241,7 +231,7 @@ module _ (text : TextTree) (top : Option (List ℕ)) (design : FlatDesign)
               (numbering text top design side l.outer link.outer link.outer_named)
               (have_signals text top design side l.inner link.inner link.inner_named) link.ports
               l.port l.expression f output.walked
-              (port_stands.1 ∙ ap (λ w. Some (signal w l.port.signed)) (sym bits_are))
+              (port_stands side.tables sources (parts text top) l f link)
               (sym link.number)
               (values_in l.inner (unclocked_values text top design side g))
               (numbered_values text top design side g)

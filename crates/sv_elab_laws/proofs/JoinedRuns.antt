@@ -6,7 +6,7 @@ use Rattle.std.specs.Prelude.{not, ◌==◌, filter, Contains, IsTrue}
 use Rattle.std.specs.Prelude.{All}
 use Rattle.std.specs.Option.{option_map_or}
 use Rattle.std.proofs.lemmas.Bool.{cases_Bool}
-use Rattle.std.proofs.lemmas.Bool.{eqb-true, eq-eqb, cond-true, cond-false}
+use Rattle.std.proofs.lemmas.Bool.{eq-eqb, cond-true, cond-false}
 use Rattle.std.proofs.lemmas.Bool.{ltb-true, false_from_ne_true}
 use Rattle.std.proofs.lemmas.Nat.{pow_pos}
 use Rattle.sv_system.specs.System.{System, Environment}
@@ -32,7 +32,7 @@ use Rattle.sv_flat.specs.Values.{signal_width as flat_width}
 use Rattle.sv_flat.specs.Runs.{run_alone}
 use Rattle.sv_flat.specs.Clocks.{is_clock, processes_of}
 use Rattle.sv_flat.specs.FlatSystem.{combinational_processes, run_of, flat_system}
-use Rattle.sv_flat.proofs.LeastSets.{some_from, from_some}
+use Rattle.sv_flat.proofs.LeastSets.{some_from}
 use Rattle.sv_flat.proofs.SameRuns.{run_leaves}
 use Rattle.sv_flat.proofs.AdmittedFacts.{body_is_sound}
 use Rattle.sv_flat.proofs.AdmittedFacts.{assigned_is_signal, assigns_no_clock}
@@ -56,9 +56,8 @@ use Rattle.sv_elab_laws.proofs.JoinedClocks.{same_clock}
 use Rattle.sv_elab_laws.proofs.JoinedNumbers.{to, to_is, At, at_number, at_path_number, signal_at}
 use Rattle.sv_elab_laws.proofs.JoinedNumbers.{clock_at, flat_signals, source_signals, same_signals}
 use Rattle.sv_elab_laws.proofs.JoinedNumbers.{signal_below, signal_no_clock, is_flat_signal, said_at}
-use Rattle.sv_elab_laws.proofs.JoinedNumbers.{same_paths, path_itself}
 use Rattle.sv_elab_laws.proofs.StatementsSame.{body_same}
-use Rattle.sv_elab_laws.proofs.AssignedNames.{assigned_same, assigned_are_signals}
+use Rattle.sv_elab_laws.proofs.AssignedNames.{assigned_name, assigned_same, assigned_are_signals}
 
 module _ (text : TextTree) (top : Option (List ℕ)) (design : FlatDesign)
     (side : SideBySide text top design) where
@@ -257,21 +256,6 @@ module _ (text : TextTree) (top : Option (List ℕ)) (design : FlatDesign)
       in_all : Contains (processes_of design) f
       in_all = in_processes design is_sound admitted f at
 
-      -- what the flat body assigns is a signal of the instance
-      assigned_name : (k : ℕ) → assigns f.body k ≡ true
-          → (n : List ℕ) × Contains (assigned s) n × IsTrue (is_signal (names.scope n))
-          × (names.number n ≡ k)
-      assigned_name k h =
-          let n = from_some (λ (m : List ℕ).
-          names.number m == k) (assigned s)
-          (sym (assigned_same names s f.body body.walked body.shaped k) ∙ h) in (
-            n.0,
-            n.1,
-            assigned_are_signals names s f.body body.walked n.0 n.1,
-            eqb-true
-                (names.number n.0) k n.2,
-          )
-
       flat_assigned : (k : ℕ) → assigns f.body k ≡ true →
           Contains (flat_signals text top design side) k
       flat_assigned k h = is_flat_signal text top design side k
@@ -299,7 +283,7 @@ module _ (text : TextTree) (top : Option (List ℕ)) (design : FlatDesign)
           by_name None none =
               run_leaves design.signals f.body k
               (false_from_ne_true (assigns f.body k) (λ h.
-              let n = assigned_name k h in
+              let n = assigned_name names s f.body body.walked body.shaped k h in
               let path : path_to k ≡ within p n.0 =
               ap path_to (sym n.3) ∙ to_name p names body.named n.0 n.2 in
               let some : name_in p.path (path_to k) ≡ Some n.0 =

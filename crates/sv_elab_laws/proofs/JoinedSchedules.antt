@@ -1,6 +1,6 @@
 -- Two joined systems: schedules of places lead to environments that agree, and an environment of
 -- the one is settled where that of the other is.
-use Rattle.std.proofs.Common.{◌≡◌, ℕ, zero, suc, ◌<◌, ◌^◌, cond, List, [], ◌∷◌}
+use Rattle.std.proofs.Common.{◌≡◌, ℕ, zero, suc, ◌<◌, ◌^◌, Bool, cond, List, [], ◌∷◌}
 use Rattle.std.proofs.Common.{length, get_or, inl, inr, Option, sym, subst, ◌∙◌}
 use Rattle.std.proofs.Common.{⊎_elim}
 use Rattle.std.specs.Prelude.{Contains, IsTrue}
@@ -85,6 +85,21 @@ module _ {Signal Point Other OtherPoint : Type 0} (first : System Signal Point)
 
 module _ {Signal Point Other OtherPoint : Type 0} (first : System Signal Point)
     (second : System Other OtherPoint) (joined : Joined first second) where
+  -- what the first environment was given of some kind, the second was
+  given_alike : (kind : Signal → Bool) (other_kind : Other → Bool)
+      → ((s : Signal) → Contains first.signals s → kind s ≡ other_kind (joined.to s))
+      → (given e : Environment Signal) (other_given f : Environment Other)
+      → ((s : Signal) → Contains first.signals s → e s ≡ f (joined.to s))
+      → ((s : Signal) → IsTrue (kind s) → e s ≡ given s)
+      → ((s : Signal) → IsTrue (kind s) → given s ≡ other_given (joined.to s))
+      → (t : Other) → Contains second.signals t → IsTrue (other_kind t) → f t ≡ other_given t
+  given_alike kind other_kind kinds given e other_given f same is_given alike t within =
+      by_name first second joined (λ r. IsTrue (other_kind r) → f r ≡ other_given r)
+      (λ s at is.
+      let here = subst IsTrue (sym (kinds s at)) is in
+      sym (same s at) ∙ is_given s here ∙ alike s here)
+      t within
+
   pub settled_alike : SettledAlike first second joined.to
   settled_alike state inputs e other_state other_inputs f states all_inputs same = (
     λ settled.
@@ -99,20 +114,13 @@ module _ {Signal Point Other OtherPoint : Type 0} (first : System Signal Point)
           same = same;
         } in
         record {
-          registers =
-              λ t register. by_name first second joined (λ r.
-              IsTrue (second.is_register r) → f r ≡ other_state r)
-              (λ s within is.
-              let here = subst IsTrue (sym (joined.registers s within)) is in
-              sym (same s within) ∙ settled.registers s here ∙ states s here)
-              t (joined.second_kinds t (inr register)) register;
-          inputs_are =
-              λ t input. by_name first second joined (λ r.
-              IsTrue (second.is_input r) → f r ≡ other_inputs r)
-              (λ s within is.
-              let here = subst IsTrue (sym (joined.inputs s within)) is in
-              sym (same s within) ∙ settled.inputs_are s here ∙ all_inputs s here)
-              t (joined.second_kinds t (inl input)) input;
+          registers = λ t register.
+              given_alike first.is_register second.is_register joined.registers state e
+              other_state f same settled.registers states t (joined.second_kinds t (inr register))
+              register;
+          inputs_are = λ t input.
+              given_alike first.is_input second.is_input joined.inputs inputs e other_inputs f same
+              settled.inputs_are all_inputs t (joined.second_kinds t (inl input)) input;
           fits = agree.second_fits;
           still = still_over first second joined e f agree settled.still;
         },

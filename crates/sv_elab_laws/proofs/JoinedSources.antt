@@ -14,9 +14,10 @@ use Rattle.sv_ast.specs.Parts.{links_of}
 use Rattle.sv_ast.specs.ClockPaths.{edge_of, edges}
 use Rattle.sv_ast.specs.Processes.{combinational, clocked, linking, combinational_body}
 use Rattle.sv_ast.specs.Processes.{clocked_body, item_processes, processes_from}
-use Rattle.sv_elab_laws.proofs.PartsLists.{contains_either, contains_left, contains_right}
+use Rattle.sv_flat.proofs.Members.{Contains-either as contains_either}
+use Rattle.sv_flat.proofs.Members.{Contains-left as contains_left, Contains-right as contains_right}
+use Rattle.sv_flat.proofs.Members.{from_flat_map, to_flat_map}
 use Rattle.sv_elab_laws.proofs.PartsNamed.{from_filter_map, to_filter_map}
-use Rattle.sv_elab_laws.proofs.PartsPaths.{from_flat_map, to_flat_map}
 use Rattle.sv_elab_laws.specs.SideBySide.{item_edges, edges_from}
 
 instance_is : (item : ItemTree) (i : InstanceTree) → instance_of item ≡ Some i →

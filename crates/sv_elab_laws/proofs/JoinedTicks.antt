@@ -31,10 +31,11 @@ use Rattle.sv_elab_laws.specs.SideBySide.{runs_at_edge}
 use Rattle.sv_elab_laws.proofs.PartsGrown.{IsBody, IsFlat}
 use Rattle.sv_elab_laws.proofs.PartsLists.{zip_left, zip_right, zip_length, get_contains}
 use Rattle.sv_elab_laws.proofs.PartsNamed.{from_filter_map}
-use Rattle.sv_elab_laws.proofs.PartsPaths.{from_flat_map}
+use Rattle.sv_flat.proofs.Members.{from_flat_map}
 use Rattle.sv_elab_laws.proofs.PartsTexts.{SideBySide, sources_of}
 use Rattle.sv_elab_laws.proofs.JoinedClocks.{clocked_no_link}
-use Rattle.sv_elab_laws.proofs.JoinedNext.{flat_map_same, skip_flat, keep_flat, updates_alike}
+use Rattle.sv_flat.proofs.AlikeUpdates.{flat_map_same}
+use Rattle.sv_elab_laws.proofs.JoinedNext.{skip_flat, keep_flat, updates_alike}
 use Rattle.sv_elab_laws.proofs.JoinedNext.{same_updates, update_below, last_same}
 use Rattle.sv_elab_laws.proofs.JoinedNumbers.{at_number, flat_signals, signal_below, signal_no_clock}
 use Rattle.sv_elab_laws.proofs.JoinedProcesses.{link_unclocked}

@@ -15,7 +15,6 @@ use Rattle.sv_flat.specs.Admission.{IsAdmitted}
 use Rattle.sv_flat.specs.Soundness.{sound}
 use Rattle.sv_flat.specs.FlatSystem.{flat_system}
 use Rattle.sv_ast.specs.SourceLabels.{points, pairs, least, flows}
-use Rattle.sv_elab_rules.specs.LabelSteps.{SharedTables}
 use Rattle.sv_elab_rules.specs.Texts.{flat_of}
 use Rattle.sv_elab_laws.specs.FlattenedTexts.{CanBeFlattened}
 use Rattle.sv_elab_laws.specs.SideBySide.{text_signals, path_at}
@@ -27,7 +26,7 @@ use Rattle.sv_elab_laws.proofs.JoinedNumbers.{flat_signals}
 use Rattle.sv_elab_laws.proofs.JoinedNumbers.{to, from, to_is, from_is, at_number, signal_below}
 use Rattle.sv_elab_laws.proofs.JoinedNumbers.{signal_no_clock, said_at, said_within, same_signals}
 use Rattle.sv_elab_laws.proofs.JoinedNumbers.{same_inputs, same_widths, same_registers, input_within}
-use Rattle.sv_elab_laws.proofs.JoinedLeast.{least_number}
+use Rattle.sv_elab_laws.proofs.JoinedLeast.{least_beside}
 use Rattle.sv_elab_laws.proofs.JoinedLabels.{same_label}
 use Rattle.sv_elab_laws.proofs.JoinedRuns.{source_system, path_to}
 use Rattle.sv_elab_laws.proofs.JoinedRegisters.{register_within}
@@ -47,9 +46,7 @@ module _ (text : TextTree) (top : Option (List ℕ)) (design : FlatDesign)
 
   least_in : (side : SideBySide text top design) →
       IsPointNumber side.order.points (least text) side.tables.least
-  least_in side =
-      least_number text side.order (order_is side) side.lattice
-      ∙ ap (λ (t : SharedTables). Some t.least) (sym side.tables_are)
+  least_in side = least_beside text top design side
 
   -- a level sees the same signals by number as by path
   seen : (side : SideBySide text top design) (point : List ℕ) (e : Environment ℕ)

@@ -1,5 +1,5 @@
 -- What the tests of the walk say of a lattice's table.
-use Rattle.std.proofs.Common.{◌≡◌, ℕ, zero, suc, ◌+◌, ◌^◌, ◌<◌, ◌≤◌, ◌⊎◌, inl, inr, ◌↔◌, min, Bool}
+use Rattle.std.proofs.Common.{◌≡◌, ℕ, zero, suc, ◌+◌, ◌^◌, ◌<◌, ◌≤◌, ◌⊎◌, inl, inr, ◌↔◌, Bool}
 use Rattle.std.proofs.Common.{true, false, not, ◌&&◌, ◌||◌, ◌==◌, List, length, fold, get_or, refl}
 use Rattle.std.proofs.Common.{sym, ap, ◌∙◌, subst, arith}
 use Rattle.std.specs.Prelude.{bit_and, bit_or, nat_lt, if◌then◌else◌}
@@ -11,28 +11,15 @@ use Rattle.std.proofs.lemmas.Bool.{eqb-true, eq-eqb, lt-ltb, ltb-true, false_fro
 use Rattle.std.proofs.lemmas.Bool.{and_right}
 use Rattle.std.proofs.lemmas.List.FromFn.{length-map-range_with_len, get_or-map-range_with_len}
 use Rattle.std.proofs.lemmas.Nat.{and_le_r, and_le_l}
-use Rattle.std.proofs.lemmas.Nat.Bits.{bit_at_and, bit_at-lt, bit_at-zero, bit_at-pow_same}
+use Rattle.std.proofs.lemmas.Nat.Bits.{bit_at-lt, bit_at-zero, bit_at-pow_same}
 use Rattle.std.proofs.lemmas.Nat.Bits.{bit_at-pow_other, same_from_bits_below}
 use Rattle.sv_lattice.specs.Flows.{EachPair, IsApart, HasJoin}
 use Rattle.sv_lattice.specs.Tables.{flow_test, FlowsTo, IsWithin}
-use Rattle.sv_lattice.proofs.TableLemmas.{on_bits, or_test}
+use Rattle.sv_lattice.proofs.BoundLemmas.{and_test, same_bit}
+use Rattle.sv_lattice.proofs.TableLemmas.{or_test}
 use Rattle.sv_elab_rules.specs.Lattices.{contains, are_apart, have_join, flowing_to, turned}
 
 -- ---- bits of sets
-
-pub and_test : (r s b : ℕ) → (bit_at (bit_and r s) b == 1) ≡ (bit_at r b == 1 && bit_at s b == 1)
-and_test r s b =
-    ap (λ n. n == 1) (bit_at_and r s b)
-    ∙ on_bits min ◌&&◌ refl refl refl refl (bit_at r b) (bit_at s b) (bit_at-lt r b) (bit_at-lt s b)
-
-same_bit : (x y : ℕ) → x < 2 → y < 2 → (x == 1) ≡ (y == 1) → x ≡ y
-same_bit zero zero p q e = refl
-same_bit zero (suc zero) p q e = cc
-same_bit (suc zero) zero p q e = cc
-same_bit (suc zero) (suc zero) p q e = refl
-same_bit (suc (suc x)) y p q e = absurd (omega arith)
-same_bit zero (suc (suc y)) p q e = absurd (omega arith)
-same_bit (suc zero) (suc (suc y)) p q e = absurd (omega arith)
 
 -- numbers below a power with the same tests are the same
 pub same_sets : (n x y : ℕ) → x < 2 ^ n → y < 2 ^ n →

@@ -9,10 +9,12 @@ pub mod PartsItems
 pub mod PartsLinks
 pub mod PartsSettings
 pub mod PartsEntered
+pub mod PartsOpened
 pub mod PartsSites
 pub mod PartsPaths
 pub mod PartsMaps
 pub mod PartsMade
+pub mod PartsWalked
 pub mod PartsTexts
 pub mod FormsBeside
 pub mod JoinedSources

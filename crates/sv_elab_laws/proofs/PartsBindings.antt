@@ -2,7 +2,7 @@
 -- behind.
 use Rattle.std.proofs.Common.{◌≡◌, ℕ, suc, ◌+◌, Bool, true, false, cond, List, [], ◌∷◌, ◌++◌}
 use Rattle.std.proofs.Common.{Option, Some, None, refl, sym, ap, ◌∙◌, arith, ◌⊎◌, inl, inr}
-use Rattle.std.proofs.Common.{⊎_elim}
+use Rattle.std.proofs.Common.{⊎_elim, subst}
 use Rattle.std.specs.Prelude.{find, option_map}
 use Rattle.std.specs.Str.{bytes_eq}
 use Rattle.std.proofs.lemmas.Bool.{cases_Bool}
@@ -79,6 +79,15 @@ module _ {A : Type 0} where
       ∙ sym (entry_behind bs ((m, a) ∷ []) n none) ∙ h in cc e))
       (cases_Bool (bytes_eq n m)))
       (entry_cases bs n)
+
+  -- what holds of all values holds with one more
+  pub one_more_holds : (P : A → Type 0) (bs : List (List ℕ × A)) (m : List ℕ) (a : A)
+      → ((n : List ℕ) (x : A) → entry bs n ≡ Some x → P x) → P a
+      → (n : List ℕ) (x : A) → entry (bs ++ (m, a) ∷ []) n ≡ Some x → P x
+  one_more_holds P bs m a all here n x e = ⊎_elim
+      (λ old. all n x old)
+      (λ new. subst P new.1 here)
+      (last_entry bs m a n x e)
 
 -- ---- numbers
 

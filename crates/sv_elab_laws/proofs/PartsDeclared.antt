@@ -106,27 +106,50 @@ module _ (base least : ℕ) (site : Site) where
       × Declares (with_signal a d) w items
   Declares a w (_ ∷ items) = Declares a w items
 
-  parameter_done : (a : Declared) (p : ParameterTree) (next : Declared)
-      → (parameter_walk base site a p).end ≡ Ok next
-      → (entry a.bindings p.name ≡ None) × (next ≡ with_parameter a p)
+  abbrev pub with_value : Declared → ParameterTree → Number → Declared
+  with_value a p n = record {
+    bindings = a.bindings
+        ++ (p.name, parameter (in_range (entry a.bindings) p.signed p.span n)) ∷ [];
+    signals = a.signals;
+  }
+
+  -- what the walk of a parameter that ends well has gone through
+  pub record ParameterWalked (a : Declared) (p : ParameterTree) (next : Declared) : Type 0 where
+    pub ranged : (range_steps (names_at base site.master a.bindings) p.span).end ≡ Ok tt
+    pub value : Number
+    pub value_done : (final_walk (names_at base site.master a.bindings)
+        (override_of site a.bindings p) p.value).end ≡ Ok value
+    pub fresh : not (is_bound (entry a.bindings p.name)) ≡ true
+    pub is : with_value a p value ≡ next
+
+  pub parameter_walked : (a : Declared) (p : ParameterTree) (next : Declared)
+      → (parameter_walk base site a p).end ≡ Ok next → ParameterWalked a p next
   unfolding parameter_walk
-  parameter_done a p next h =
+  parameter_walked a p next h =
       let names = names_at base site.master a.bindings in
       let first = parts_done (range_steps names p.span) _ next h in
       let second = parts_done (final_walk names (override_of site a.bindings p) p.value) _ next
       first.2 in
       let third = parts_done (ask (not (is_bound (entry a.bindings p.name))) (twice p.place p.name))
-      _ next second.2 in (
-        unbound (entry a.bindings p.name)
-            (asked_true (not (is_bound (entry a.bindings p.name))) (twice p.place p.name) third.1),
-        sym (same_ok _ next third.2)
-            ∙ ap (λ (n : Number).
-            record {
-              bindings = a.bindings
-                  ++ (p.name, parameter (in_range (entry a.bindings) p.signed p.span n)) ∷ [];
-              signals = a.signals;
-            })
-            (sym (final_done names (override_of site a.bindings p) p.value second.0 second.1)),
+      _ next second.2 in
+      record {
+        ranged = first.1;
+        value = second.0;
+        value_done = second.1;
+        fresh =
+            asked_true (not (is_bound (entry a.bindings p.name))) (twice p.place p.name) third.1;
+        is = same_ok (with_value a p second.0) next third.2;
+      }
+
+  parameter_done : (a : Declared) (p : ParameterTree) (next : Declared)
+      → (parameter_walk base site a p).end ≡ Ok next
+      → (entry a.bindings p.name ≡ None) × (next ≡ with_parameter a p)
+  parameter_done a p next h =
+      let w = parameter_walked a p next h in (
+        unbound (entry a.bindings p.name) w.fresh,
+        sym w.is
+            ∙ ap (with_value a p) (sym (final_done (names_at base site.master a.bindings)
+            (override_of site a.bindings p) p.value w.value w.value_done)),
       )
 
   signal_done : (a : Declared) (d : DeclarationTree) (next : Declared)

@@ -31,8 +31,9 @@ use Rattle.sv_elab_rules.specs.Statements.{statement_walk}
 use Rattle.sv_elab_rules.specs.InstanceSteps.{Built, with_process}
 use Rattle.sv_elab_laws.specs.Numbers.{SelectorsFit}
 use Rattle.sv_elab_laws.specs.SideBySide.{clock_of}
-use Rattle.sv_elab_laws.proofs.PartsLists.{zip_append, zip_length, filter_map_append, stands_get}
-use Rattle.sv_elab_laws.proofs.PartsLists.{get_map, AllDiffer, contains_either}
+use Rattle.sv_elab_laws.proofs.PartsLists.{zip_append, filter_map_append, stands_get}
+use Rattle.sv_elab_laws.proofs.PartsLists.{get_map, AllDiffer}
+use Rattle.sv_flat.proofs.Members.{Contains-either as contains_either}
 use Rattle.sv_elab_laws.proofs.PartsNamed.{IsNamed}
 
 -- the names of the instances in some items

@@ -37,7 +37,7 @@ use Rattle.sv_elab_laws.specs.Numbers.{SelectorsFit}
 use Rattle.sv_elab_laws.proofs.PartsLists.{contains_get}
 use Rattle.sv_elab_laws.proofs.PartsDeclared.{same_ok}
 use Rattle.sv_elab_laws.proofs.PartsNamed.{IsNamed}
-use Rattle.sv_elab_laws.proofs.PartsGrown.{Grown, grown_none, grown_one}
+use Rattle.sv_elab_laws.proofs.PartsGrown.{KindFits, IsBody, Grown, grown_none, grown_one}
 use Rattle.sv_elab_laws.proofs.PartsGrown.{number_of_name, signal_is}
 
 ask_ok : (b : Bool) (s : WalkStep) → b ≡ true → (ask b s).end ≡ Ok tt
@@ -89,6 +89,18 @@ wholes_are_shaped (t ∷ ts) h =
 module _ (tables : SharedTables) (sources : List PartSignal) (everything : List Part) (p : Part)
     (names : Names)
     (named : IsNamed sources everything p names) where
+  body_of : (s : StatementTree) (f : ProcessForm) → (statement_walk names s).end ≡ Ok f.body
+      → IsTrue (is_shaped_statement s) → SelectorsFit s
+      → KindFits tables sources everything f.kind s → IsBody tables sources everything p s f
+  body_of s f walked shaped fits kind = record {
+    names = names;
+    named = named;
+    walked = walked;
+    shaped = shaped;
+    fits = fits;
+    kind = kind;
+  }
+
   pub value_grown : (d : DeclarationTree) (v : Option ExpressionTree) (built next : Built)
       → (value_walk names built d v).end ≡ Ok next
       → Contains (declarations p.definition) d → IsTrue (option_map_or is_shaped_expression v true)
@@ -166,14 +178,7 @@ module _ (tables : SharedTables) (sources : List PartSignal) (everything : List 
       subst (λ z. Grown tables sources everything built z [] (combinational p s ∷ []) [])
       (same_ok (with_process built f) next first.2)
       (grown_one tables sources everything built (combinational p s) f [] (
-        record {
-          names = names;
-          named = named;
-          walked = first.1;
-          shaped = shaped;
-          fits = fits;
-          kind = tt;
-        },
+        body_of s f first.1 shaped fits tt,
         refl,
         (refl, refl),
       ) tt)
@@ -196,14 +201,7 @@ module _ (tables : SharedTables) (sources : List PartSignal) (everything : List 
       (within p clock.name ∷ []))
       (same_ok (with_process built f) next first.2)
       (grown_one tables sources everything built (clocked p s) f (within p clock.name ∷ []) (
-        record {
-          names = names;
-          named = named;
-          walked = first.1;
-          shaped = shaped;
-          fits = fits;
-          kind = tt;
-        },
+        body_of s f first.1 shaped fits tt,
         refl,
       )
       (number_of_name tables sources everything p names named clock.name is, tt))

@@ -1,9 +1,10 @@
 -- Lists side by side, lists that stand in others, and lists of which no two members are the same.
 use Rattle.std.proofs.Common.{◌≡◌, ℕ, zero, suc, ◌+◌, ◌<◌, List, [], ◌∷◌, ◌++◌, map, length, Option}
-use Rattle.std.proofs.Common.{Some, None, refl, ap, subst, ◌∙◌, arith, ◌⊎◌, inl, inr, ⊎_elim}
+use Rattle.std.proofs.Common.{Some, None, refl, ap, subst, ◌∙◌, arith, ◌⊎◌, ⊎_elim}
 use Rattle.std.specs.Prelude.{slice_index_or, Contains}
 use Rattle.std.specs.List.{slice_get, filter_map, cons_option, AllZip}
 use Rattle.sv_system.proofs.Lists.{Contains-head, Contains-later, Contains-cases, Contains-nil}
+use Rattle.sv_flat.proofs.Members.{Contains-either as contains_either}
 
 -- ---- side by side
 
@@ -31,14 +32,17 @@ module _ {X Y : Type 0} (R : X → Y → Type 0) where
   zip_left (x ∷ xs) (y ∷ ys) h zero z at = (y, refl, subst (λ w. R w y) (cc at) h.0)
   zip_left (x ∷ xs) (y ∷ ys) h (suc k) z at = zip_left xs ys h.1 k z at
 
-  pub zip_right : (xs : List X) (ys : List Y) → AllZip R xs ys → (k : ℕ) (y : Y)
-      → slice_get ys k ≡ Some y
-      → (x : X) × (slice_get xs k ≡ Some x) × R x y
-  zip_right [] [] h k y at = absurd (cc at)
-  zip_right [] (y ∷ ys) h k z at = absurd h
-  zip_right (x ∷ xs) [] h k y at = absurd h
-  zip_right (x ∷ xs) (y ∷ ys) h zero z at = (x, refl, subst (R x) (cc at) h.0)
-  zip_right (x ∷ xs) (y ∷ ys) h (suc k) z at = zip_right xs ys h.1 k z at
+  zip_turned : (xs : List X) (ys : List Y) → AllZip R xs ys → AllZip (λ y x. R x y) ys xs
+  zip_turned [] [] h = tt
+  zip_turned [] (y ∷ ys) h = absurd h
+  zip_turned (x ∷ xs) [] h = absurd h
+  zip_turned (x ∷ xs) (y ∷ ys) h = (h.0, zip_turned xs ys h.1)
+
+-- and so has what stands on the right
+pub zip_right : {X Y : Type 0} (R : X → Y → Type 0) (xs : List X) (ys : List Y) → AllZip R xs ys
+    → (k : ℕ) (y : Y) → slice_get ys k ≡ Some y
+    → (x : X) × (slice_get xs k ≡ Some x) × R x y
+zip_right R xs ys h k y at = zip_left (λ y x. R x y) ys xs (zip_turned R xs ys h) k y at
 
 -- ---- members by their places
 
@@ -119,26 +123,6 @@ module _ {X : Type 0} where
   abbrev pub AllDiffer : List X → Type 0
   AllDiffer [] = Unit {0}
   AllDiffer (x ∷ xs) = (Contains xs x → ⊥) × AllDiffer xs
-
-  pub contains_left : (xs ys : List X) (x : X) → Contains xs x → Contains (xs ++ ys) x
-  contains_left [] ys x at = absurd (Contains-nil x at)
-  contains_left (z ∷ xs) ys x at = ⊎_elim
-      (λ e. subst (Contains (z ∷ xs ++ ys)) e (Contains-head z (xs ++ ys)))
-      (λ inside. Contains-later z (xs ++ ys) x (contains_left xs ys x inside))
-      (Contains-cases z xs x at)
-
-  pub contains_right : (xs ys : List X) (x : X) → Contains ys x → Contains (xs ++ ys) x
-  contains_right [] ys x at = at
-  contains_right (z ∷ xs) ys x at = Contains-later z (xs ++ ys) x (contains_right xs ys x at)
-
-  pub contains_either : (xs ys : List X) (x : X) → Contains (xs ++ ys) x →
-      Contains xs x ⊎ Contains ys x
-  contains_either [] ys x at = inr at
-  contains_either (z ∷ xs) ys x at = ⊎_elim
-      (λ e. inl (subst (Contains (z ∷ xs)) e (Contains-head z xs)))
-      (λ inside. ⊎_elim (λ l. inl (Contains-later z xs x l)) (λ r.
-      inr r) (contains_either xs ys x inside))
-      (Contains-cases z (xs ++ ys) x at)
 
   pub differ_append : (xs ys : List X) → AllDiffer xs → AllDiffer ys
       → ((x : X) → Contains xs x → Contains ys x → ⊥)

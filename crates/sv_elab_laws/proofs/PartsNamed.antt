@@ -30,7 +30,8 @@ use Rattle.sv_elab_rules.proofs.WalkLemmas.{parts_done}
 use Rattle.sv_elab_rules.proofs.DeclarationLemmas.{declared_in_two, until_done}
 use Rattle.sv_width.specs.Agreement.{AllDeclared, IsLength}
 use Rattle.sv_flat.proofs.Depths.{from_all}
-use Rattle.sv_elab_laws.proofs.PartsLists.{StandsAt, contains_left, contains_right, filter_map_append}
+use Rattle.sv_elab_laws.proofs.PartsLists.{StandsAt, filter_map_append}
+use Rattle.sv_flat.proofs.Members.{Contains-left as contains_left, Contains-right as contains_right}
 use Rattle.sv_elab_laws.proofs.PartsBindings.{same_name, last_entry}
 use Rattle.sv_elab_laws.proofs.PartsDeclared.{Declares, walked, known, only_declared, still_bound}
 use Rattle.sv_elab_laws.proofs.PartsDeclared.{still_numbered, source_bindings, SetIsOpen, KnownAt}
@@ -126,6 +127,22 @@ open_listed m header q = by_header (is_empty m.parameters)
       not-true q.local (from_all (λ (p : ParameterTree). not p.local) m.parameters q header at),
     )
 
+-- ---- what each declaration keeps
+
+module _ (base least : ℕ) (site : Site) (P : List (List ℕ × Binding) → Type 0)
+    (by_parameter : (a : Declared) (p : ParameterTree) → P a.bindings
+    → P (with_parameter base least site a p).bindings)
+    (by_signal : (a : Declared) (d : DeclarationTree) → IsLength (width_after base least site a d)
+    → P a.bindings → P (with_signal base least site a d).bindings) where
+  kept_by : (items : List ItemTree) (a w : Declared) → Declares base least site a w items
+      → P a.bindings → P w.bindings
+  kept_by [] a w h so_far = subst (λ (x : Declared). P x.bindings) h so_far
+  kept_by (parameter_item p ∷ items) a w h so_far =
+      kept_by items (with_parameter base least site a p) w h.1 (by_parameter a p so_far)
+  kept_by (declared d ∷ items) a w h so_far =
+      kept_by items (with_signal base least site a d) w h.2 (by_signal a d h.1 so_far)
+  kept_by (item ∷ items) a w h so_far = kept_by items a w h so_far
+
 -- ---- parameters fit
 
 abbrev pub NumberFits : Number → Type 0
@@ -155,24 +172,20 @@ module _ (base least : ℕ) (site : Site) (set_fits : SetFits site.set) where
   pub parameters_fit : (items : List ItemTree) (a w : Declared) → Declares base least site a w items
       → ParametersFit a.bindings
       → ParametersFit w.bindings
-  parameters_fit [] a w h fits = subst (λ (x : Declared). ParametersFit x.bindings) h fits
-  parameters_fit (parameter_item p ∷ items) a w h fits =
-      parameters_fit items (with_parameter base least site a p) w h.1
-      (λ n v e. ⊎_elim
+  parameters_fit =
+      kept_by base least site ParametersFit
+      (λ a p fits n v e. ⊎_elim
       (λ old. fits n v old)
       (λ new. subst NumberFits (let s : value_after base least site a.bindings p ≡
       v = let q = new.1 in cc in s) (value_fits a.bindings p))
       (last_entry a.bindings p.name (parameter (value_after base least site a.bindings p)) n
       (parameter v) e))
-  parameters_fit (declared d ∷ items) a w h fits =
-      parameters_fit items (with_signal base least site a d) w h.2
-      (λ n v e. ⊎_elim
+      (λ a d fit fits n v e. ⊎_elim
       (λ old. fits n v old)
       (λ new. absurd (let q : signal (width_after base least site a d) d.signed ≡
       parameter v = new.1 in cc q))
       (last_entry a.bindings d.name (signal (width_after base least site a d) d.signed) n
       (parameter v) e))
-  parameters_fit (item ∷ items) a w h fits = parameters_fit items a w h fits
 
 -- ---- lengths
 
@@ -185,24 +198,20 @@ module _ (base least : ℕ) (site : Site) where
   pub lengths_fit : (items : List ItemTree) (a w : Declared) → Declares base least site a w items
       → LengthsFit a.bindings
       → LengthsFit w.bindings
-  lengths_fit [] a w h fits = subst (λ (x : Declared). LengthsFit x.bindings) h fits
-  lengths_fit (parameter_item p ∷ items) a w h fits =
-      lengths_fit items (with_parameter base least site a p) w h.1
-      (λ n width signed e. ⊎_elim
+  lengths_fit =
+      kept_by base least site LengthsFit
+      (λ a p fits n width signed e. ⊎_elim
       (λ old. fits n width signed old)
       (λ new. absurd (let q : parameter (value_after base least site a.bindings p) ≡
       signal width signed = new.1 in cc q))
       (last_entry a.bindings p.name (parameter (value_after base least site a.bindings p)) n
       (signal width signed) e))
-  lengths_fit (declared d ∷ items) a w h fits =
-      lengths_fit items (with_signal base least site a d) w h.2
-      (λ n width signed e. ⊎_elim
+      (λ a d fit fits n width signed e. ⊎_elim
       (λ old. fits n width signed old)
       (λ new. subst IsLength (let s : width_after base least site a d ≡ width = let q = new.1 in
-      cc in s) h.1)
+      cc in s) fit)
       (last_entry a.bindings d.name (signal (width_after base least site a d) d.signed) n
       (signal width signed) e))
-  lengths_fit (item ∷ items) a w h fits = lengths_fit items a w h fits
 
 -- ---- names and places
 

@@ -33,21 +33,31 @@ module _ (outer : Names) where
   abbrev by_name : NamedOverride → List ℕ × Number
   by_name o = (o.name, constant_of outer.scope o.value)
 
+  -- what the walk of a named override and those behind it has gone through
+  pub named_step : (m : ModuleTree) (o : NamedOverride) (os : List NamedOverride)
+      (set found : List (List ℕ × Number))
+      → (named_walk outer m set (o ∷ os)).end ≡ Ok found
+      → (n : Number) × ((constant_walk outer o.value).end ≡ Ok n)
+      × ((named_walk outer m (set ++ (o.name, n) ∷ []) os).end ≡ Ok found)
+  unfolding named_walk
+  named_step m o os set found h =
+      let first = parts_done
+      (ask (is_open m o.name && not (is_some (entry set o.name)))
+      (wrong_override o.place o.name)) _ found h in
+      parts_done (constant_walk outer o.value) (λ n.
+      named_walk outer m (set ++ (o.name, n) ∷ []) os) found first.2
+
   named_done : (m : ModuleTree) (os : List NamedOverride) (set found : List (List ℕ × Number))
       → (named_walk outer m set os).end ≡ Ok found
       → found ≡ set ++ map by_name os
   unfolding named_walk
   named_done m [] set found h = sym (same_ok set found h) ∙ sym (append-nil set)
   named_done m (o ∷ os) set found h =
-      let first = parts_done
-      (ask (is_open m o.name && not (is_some (entry set o.name)))
-      (wrong_override o.place o.name)) _ found h in
-      let second = parts_done (constant_walk outer o.value) (λ n.
-      named_walk outer m (set ++ (o.name, n) ∷ []) os) found first.2 in
-      named_done m os (set ++ (o.name, second.0) ∷ []) found second.2
-      ∙ append_assoc set ((o.name, second.0) ∷ []) (map by_name os)
+      let step = named_step m o os set found h in
+      named_done m os (set ++ (o.name, step.0) ∷ []) found step.2
+      ∙ append_assoc set ((o.name, step.0) ∷ []) (map by_name os)
       ∙ ap (λ (n : Number).
-      set ++ (o.name, n) ∷ map by_name os) (sym (constant_done outer o.value second.0 second.1))
+      set ++ (o.name, n) ∷ map by_name os) (sym (constant_done outer o.value step.0 step.1))
 
   ordered_done : (es : List ExpressionTree) (free : List ParameterTree)
       (set found : List (List ℕ × Number))

@@ -11,29 +11,14 @@ use Rattle.sv_ast.specs.Tree.{DeclarationTree, InstanceTree, ModuleTree}
 use Rattle.sv_ast.specs.Instances.{module_named, instances, settings}
 use Rattle.sv_ast.specs.Parts.{Path, Part, part_with, within, child, children, parts_from}
 use Rattle.sv_ast.specs.Parts.{PartSignal, signal_path, declarations, signals_of}
-use Rattle.sv_elab_laws.proofs.PartsLists.{AllDiffer, differ_append, contains_either, contains_left}
-use Rattle.sv_elab_laws.proofs.PartsLists.{contains_right, contains_get}
+use Rattle.sv_elab_laws.proofs.PartsLists.{AllDiffer, differ_append}
+use Rattle.sv_flat.proofs.Members.{Contains-left as contains_left, Contains-right as contains_right}
+use Rattle.sv_elab_laws.proofs.PartsLists.{contains_get}
+use Rattle.sv_flat.proofs.Members.{from_flat_map}
 use Rattle.sv_elab_laws.proofs.PartsNamed.{from_filter_map}
 use Rattle.sv_elab_laws.proofs.PartsGrown.{instance_names_in}
 
 module _ {X Y : Type 0} where
-  pub from_flat_map : (f : X → List Y) (xs : List X) (y : Y) → Contains (flat_map f xs) y →
-      (x : X) × Contains xs x × Contains (f x) y
-  from_flat_map f [] y at = absurd (Contains-nil y at)
-  from_flat_map f (x ∷ xs) y at = ⊎_elim
-      (λ here. (x, Contains-head x xs, here))
-      (λ later. let found = from_flat_map f xs y later in
-      (found.0, Contains-later x xs found.0 found.1, found.2))
-      (contains_either (f x) (flat_map f xs) y at)
-
-  pub to_flat_map : (f : X → List Y) (xs : List X) (x : X) (y : Y) → Contains xs x →
-      Contains (f x) y → Contains (flat_map f xs) y
-  to_flat_map f [] x y at there = absurd (Contains-nil x at)
-  to_flat_map f (z ∷ xs) x y at there = ⊎_elim
-      (λ is. contains_left (f z) (flat_map f xs) y (subst (λ w. Contains (f w) y) (sym is) there))
-      (λ inside. contains_right (f z) (flat_map f xs) y (to_flat_map f xs x y inside there))
-      (Contains-cases z xs x at)
-
   pub differ_map : (f : X → Y) (xs : List X) →
       ((x y : X) → Contains xs x → Contains xs y → f x ≡ f y → x ≡ y) → AllDiffer xs →
       AllDiffer (map f xs)

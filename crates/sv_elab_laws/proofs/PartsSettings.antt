@@ -1,32 +1,23 @@
 -- What an instance sets fits its length.
 use Rattle.std.proofs.Common.{◌≡◌, ℕ, List, [], ◌∷◌, ◌++◌, subst}
-use Rattle.std.proofs.Common.{⊎_elim}
-use Rattle.std.specs.Prelude.{not, ◌&&◌, Ok, is_some}
+use Rattle.std.specs.Prelude.{Ok}
 use Rattle.sv_ast.specs.Scopes.{Number}
 use Rattle.sv_ast.specs.Tree.{ExpressionTree, ParameterTree, NamedOverride, OverrideTrees}
 use Rattle.sv_ast.specs.Tree.{named_overrides, ordered_overrides, ModuleTree}
-use Rattle.sv_ast.specs.Instances.{entry, open_parameters}
-use Rattle.sv_elab_rules.specs.Walks.{ask}
-use Rattle.sv_elab_rules.specs.Rules.{wrong_override}
+use Rattle.sv_ast.specs.Instances.{open_parameters}
 use Rattle.sv_elab_rules.specs.Names.{Names}
 use Rattle.sv_elab_rules.specs.ExpressionSteps.{constant_walk}
-use Rattle.sv_elab_rules.specs.Overrides.{is_open, named_walk, ordered_walk, overrides_walk}
+use Rattle.sv_elab_rules.specs.Overrides.{named_walk, ordered_walk, overrides_walk}
 use Rattle.sv_elab_rules.proofs.WalkLemmas.{parts_done}
-use Rattle.sv_elab_laws.proofs.PartsBindings.{last_entry}
+use Rattle.sv_elab_laws.proofs.PartsBindings.{one_more_holds}
 use Rattle.sv_elab_laws.proofs.PartsDeclared.{same_ok, constant_done}
 use Rattle.sv_elab_laws.proofs.PartsNamed.{NumberFits, SetFits}
+use Rattle.sv_elab_laws.proofs.PartsOverrides.{named_step}
 use Rattle.sv_elab_laws.proofs.ValuesLow.{constant_fits}
 
 module _ (outer : Names) where
   found_fits : (e : ExpressionTree) (n : Number) → (constant_walk outer e).end ≡ Ok n → NumberFits n
   found_fits e n h = subst NumberFits (constant_done outer e n h) (constant_fits outer.scope e)
-
-  one_more_fits : (set : List (List ℕ × Number)) (m : List ℕ) (k : Number) → SetFits set →
-      NumberFits k → SetFits (set ++ (m, k) ∷ [])
-  one_more_fits set m k fits here n v e = ⊎_elim
-      (λ old. fits n v old)
-      (λ new. subst NumberFits new.1 here)
-      (last_entry set m k n v e)
 
   named_fits : (m : ModuleTree) (os : List NamedOverride) (set found : List (List ℕ × Number))
       → (named_walk outer m set os).end ≡ Ok found
@@ -34,13 +25,9 @@ module _ (outer : Names) where
   unfolding named_walk
   named_fits m [] set found h fits = subst SetFits (same_ok set found h) fits
   named_fits m (o ∷ os) set found h fits =
-      let first = parts_done
-      (ask (is_open m o.name && not (is_some (entry set o.name)))
-      (wrong_override o.place o.name)) _ found h in
-      let second = parts_done (constant_walk outer o.value) (λ n.
-      named_walk outer m (set ++ (o.name, n) ∷ []) os) found first.2 in
-      named_fits m os (set ++ (o.name, second.0) ∷ []) found second.2
-      (one_more_fits set o.name second.0 fits (found_fits o.value second.0 second.1))
+      let step = named_step outer m o os set found h in
+      named_fits m os (set ++ (o.name, step.0) ∷ []) found step.2
+      (one_more_holds NumberFits set o.name step.0 fits (found_fits o.value step.0 step.1))
 
   ordered_fits : (es : List ExpressionTree) (free : List ParameterTree)
       (set found : List (List ℕ × Number))
@@ -53,7 +40,7 @@ module _ (outer : Names) where
       let first = parts_done (constant_walk outer e) (λ n.
       ordered_walk outer free (set ++ (p.name, n) ∷ []) es) found h in
       ordered_fits es free (set ++ (p.name, first.0) ∷ []) found first.2
-      (one_more_fits set p.name first.0 fits (found_fits e first.0 first.1))
+      (one_more_holds NumberFits set p.name first.0 fits (found_fits e first.0 first.1))
 
   nothing_fits : SetFits []
   nothing_fits n v e = absurd (cc e)

@@ -18,7 +18,6 @@ use Rattle.sv_ast.specs.Tree.{always_item, invariant_item, instance_item, Module
 use Rattle.sv_ast.specs.Shape.{is_inner, is_shaped_span, is_shaped_expression}
 use Rattle.sv_ast.specs.Shape.{is_shaped_declaration}
 use Rattle.sv_ast.specs.Instances.{entry, is_empty, instance_of, instances}
-use Rattle.sv_ast.specs.Instances.{all_items}
 use Rattle.sv_ast.specs.Parts.{Path, Part, child, children, parts_from}
 use Rattle.sv_ast.specs.Parts.{PartSignal, declaration_of, declarations, signals_of}
 use Rattle.sv_ast.specs.Parts.{links_to}
@@ -26,8 +25,7 @@ use Rattle.sv_ast.specs.Processes.{Process, linking}
 use Rattle.sv_flat.specs.Design.{SignalForm}
 use Rattle.sv_elab_rules.specs.Walks.{Walk, done}
 use Rattle.sv_elab_rules.specs.Names.{Names, names_of}
-use Rattle.sv_elab_rules.specs.Declarations.{Site, kind_of, declared_signal, nothing_declared}
-use Rattle.sv_elab_rules.specs.Declarations.{declarations_walk}
+use Rattle.sv_elab_rules.specs.Declarations.{Site, kind_of, declared_signal}
 use Rattle.sv_elab_rules.specs.LabelSteps.{SharedTables, label_walk, given_label, labels_walk}
 use Rattle.sv_elab_rules.specs.Links.{Ports, port_number}
 use Rattle.sv_elab_rules.specs.InstanceSteps.{Built, ports_of, instance_walk, instance_names, item_walk}
@@ -35,19 +33,20 @@ use Rattle.sv_elab_rules.specs.InstanceSteps.{items_from, module_walk, site_walk
 use Rattle.sv_elab_rules.proofs.WalkLemmas.{parts_done}
 use Rattle.sv_elab_laws.proofs.PartsShapes.{IsFlattenedItem, IsFlattenedModule}
 use Rattle.sv_elab_laws.proofs.PartsLists.{StandsAt, stands_split, zip_length, AllDiffer}
-use Rattle.sv_elab_laws.proofs.PartsLists.{contains_left, contains_right, contains_either}
+use Rattle.sv_flat.proofs.Members.{Contains-left as contains_left, Contains-right as contains_right}
+use Rattle.sv_flat.proofs.Members.{to_flat_map}
 use Rattle.sv_elab_laws.proofs.PartsBindings.{name_itself}
-use Rattle.sv_elab_laws.proofs.PartsDeclared.{same_ok, walked, forms, form_in}
+use Rattle.sv_elab_laws.proofs.PartsDeclared.{same_ok, forms, form_in}
 use Rattle.sv_elab_laws.proofs.PartsNamed.{IsNamed, IsSound, part_of, site_named, same_scope}
-use Rattle.sv_elab_laws.proofs.PartsNamed.{port_ahead, item_declarations}
+use Rattle.sv_elab_laws.proofs.PartsNamed.{port_ahead}
 use Rattle.sv_elab_laws.proofs.PartsNamed.{from_filter_map, to_filter_map}
-use Rattle.sv_elab_laws.proofs.PartsPaths.{to_flat_map}
-use Rattle.sv_elab_laws.proofs.PartsGrown.{LabelFound, IsForm, IsFlat, Grown, grown_none, grown_join}
+use Rattle.sv_elab_laws.proofs.PartsGrown.{LabelFound, IsForm, Grown, grown_none, grown_join}
 use Rattle.sv_elab_laws.specs.SideBySide.{item_made, made_from, item_edges, edges_from}
 use Rattle.sv_elab_laws.proofs.PartsGrown.{instance_names_in, ChildrenIn}
 use Rattle.sv_elab_laws.proofs.PartsItems.{value_grown, assign_grown, block_grown, clocked_grown}
 use Rattle.sv_elab_laws.proofs.PartsLinks.{links_done}
 use Rattle.sv_elab_laws.proofs.PartsEntered.{inner_site, with_instance, entered}
+use Rattle.sv_elab_laws.proofs.PartsOpened.{opened, labels_made}
 
 -- ---- labels
 
@@ -419,33 +418,25 @@ module _ (tables : SharedTables) (sources : List PartSignal) (everything : List 
         → Inside site built after (parts_from (suc levels) tables.modules (part_of site))
         (made_from (suc levels) tables.modules (part_of site))
         (edges_from (suc levels) tables.modules (part_of site))
-    unfolding module_walk parts_from made_from edges_from
+    unfolding parts_from made_from edges_from
     module_grown site built after h sound flattened many stands all =
         let modules = tables.modules in
         let m = site.master in
         let p = part_of site in
         let base = length built.signals in
-        let declared_step = parts_done
-        (declarations_walk base tables.least site nothing_declared (all_items m)) _ after h in
-        let w = declared_step.0 in
-        let declares = walked base tables.least site (all_items m) nothing_declared w
-        declared_step.1 in
+        let o = opened tables inside site built after h in
+        let w = o.declared_all in
         let names : Names = names_of base w.bindings in
-        let labels = parts_done (labels_walk tables names (declarations m) w.signals) _ after
-        declared_step.2 in
-        let own = labels.0 in
+        let own = o.signals in
         let middle : Built = record built { signals = built.signals ++ own } in
         let kids = flat_map (parts_from levels modules) (children modules p) in
         let kids_are : flat_map (item_parts levels p) m.items ≡ kids =
         items_parts levels p m.items in
         let halves = stands_split sources base (signals_of p) (flat_map signals_of kids) stands in
-        let named = site_named base tables.least site w sound declares sources everything halves.0
+        let named = site_named base tables.least site w sound o.declares sources everything halves.0
         (all p (Contains-head p kids)) in
-        let made : w.signals ≡ map (form_in base tables.least site w) (declarations m) =
-        forms base tables.least site (all_items m) nothing_declared w declares
-        ∙ ap (map (form_in base tables.least site w)) (item_declarations m) in
         let given = labels_done tables names (form_in base tables.least site w) (declarations m) own
-        (subst (λ ss. (labels_walk tables names (declarations m) ss).end ≡ Ok own) made labels.1) in
+        (labels_made tables inside site built after o) in
         let own_forms : AllZip (IsForm tables sources everything) (signals_of p) own =
         zip_mapped (λ (d : DeclarationTree) (t : SignalForm).
         (given_label tables names d.label (form_in base tables.least site w d)).end ≡ Ok t)
@@ -459,7 +450,7 @@ module _ (tables : SharedTables) (sources : List PartSignal) (everything : List 
           listed = at;
           width =
               l.0 ∙ ap (λ s. width_of (s d.name))
-              (same_scope base tables.least site w sound declares);
+              (same_scope base tables.least site w sound o.declares);
           kind = l.1;
           found = l.2;
         }) in
@@ -490,7 +481,7 @@ module _ (tables : SharedTables) (sources : List PartSignal) (everything : List 
         ∙ ap (λ k. base + k)
         (sym (zip_length (IsForm tables sources everything) (signals_of p) own own_forms)) in
         let items = items_grown levels inside works site names named m.items
-        (map (λ (b : List ℕ × Binding). b.0) w.bindings) middle after labels.2
+        (map (λ (b : List ℕ × Binding). b.0) w.bindings) middle after o.items_done
         (omega arith) (λ item at. (at, flattened.items item at))
         (subst (λ xs. StandsAt sources (length middle.signals) (flat_map signals_of xs))
         (sym kids_are)
@@ -509,7 +500,7 @@ module _ (tables : SharedTables) (sources : List PartSignal) (everything : List 
               items.0);
           names = names;
           named = named;
-          ports = port_ahead base tables.least site w declared_step.1;
+          ports = port_ahead base tables.least site w o.declared_done;
         }
 
   pub sites_grown : (levels : ℕ) → Works (site_walk levels tables) levels

@@ -2,7 +2,7 @@
 -- order.
 use Rattle.std.proofs.Common.{◌≡◌, ℕ, List, [], ◌∷◌, map}
 use Rattle.std.proofs.Common.{Option, Some, None, refl, sym, ap, subst, ◌∙◌, arith}
-use Rattle.std.specs.Prelude.{flat_map, Contains, Result, Ok, Err}
+use Rattle.std.specs.Prelude.{flat_map, Contains, Ok}
 use Rattle.std.specs.List.{filter_map, AllZip}
 use Rattle.std.specs.Option.{option_map_or}
 use Rattle.std.specs.Str.{bytes_eq}
@@ -15,21 +15,18 @@ use Rattle.sv_ast.specs.Parts.{PartSignal}
 use Rattle.sv_ast.specs.Parts.{signal_path, declarations, signals_of}
 use Rattle.sv_ast.specs.Processes.{Process, processes_from, processes}
 use Rattle.sv_flat.specs.Design.{FlatDesign}
-use Rattle.sv_elab_rules.specs.Walks.{WalkStep, found}
-use Rattle.sv_elab_rules.specs.Rules.{no_top}
 use Rattle.sv_elab_rules.specs.Lattices.{PointOrder, lattice_walk}
 use Rattle.sv_elab_rules.specs.LabelMaps.{maps_walk}
 use Rattle.sv_elab_rules.specs.LabelSteps.{SharedTables}
 use Rattle.sv_elab_rules.specs.Declarations.{Site}
 use Rattle.sv_elab_rules.specs.InstanceSteps.{Built}
-use Rattle.sv_elab_rules.specs.Texts.{module_names, top_walk, tables_of, design_of, walk_of, value_in}
+use Rattle.sv_elab_rules.specs.Texts.{top_walk, tables_of}
 use Rattle.sv_elab_rules.specs.Texts.{flat_of}
-use Rattle.sv_elab_rules.proofs.WalkLemmas.{parts_done, found_some}
 use Rattle.sv_elab_laws.specs.FlattenedTexts.{ReleasesNothing, EachItem, CanBeFlattened}
 use Rattle.sv_elab_laws.proofs.PartsShapes.{IsFlattened, IsFlattenedModule, flattened}
 use Rattle.sv_elab_laws.proofs.PartsLists.{stands_whole, get_contains, contains_get, zip_left}
-use Rattle.sv_elab_laws.proofs.PartsLists.{AllDiffer, get_map}
-use Rattle.sv_elab_laws.proofs.PartsDeclared.{same_ok}
+use Rattle.sv_elab_laws.proofs.PartsLists.{AllDiffer}
+use Rattle.sv_elab_laws.proofs.PartsWalked.{walked_text}
 use Rattle.sv_elab_laws.proofs.PartsNamed.{IsNamed, IsSound, found_place}
 use Rattle.sv_elab_laws.specs.Children.{HasEachChild}
 use Rattle.sv_elab_laws.specs.SideBySide.{made_from, made_of, edges_from, edges_of, clock_of}
@@ -37,7 +34,8 @@ use Rattle.sv_elab_laws.proofs.PartsGrown.{IsForm, IsFlat, IsNumberOf, Grown, Ch
 use Rattle.sv_elab_laws.proofs.PartsMade.{all_made}
 use Rattle.sv_elab_laws.proofs.PartsSites.{sites_grown}
 use Rattle.sv_elab_laws.proofs.PartsPaths.{path_of, InstancesDiffer, DeclaredDiffer, parts_differ}
-use Rattle.sv_elab_laws.proofs.PartsPaths.{places_differ, signals_differ, to_flat_map}
+use Rattle.sv_elab_laws.proofs.PartsPaths.{places_differ, signals_differ}
+use Rattle.sv_flat.proofs.Members.{to_flat_map}
 
 -- all signals of a text, in order
 abbrev pub sources_of : TextTree → Option (List ℕ) → List PartSignal
@@ -71,10 +69,6 @@ SideBySide text top design = Beside text top (processes text top) design
 -- what the walk makes of a text, and a design
 abbrev pub MadeBeside : TextTree → Option (List ℕ) → FlatDesign → Type 0
 MadeBeside text top design = Beside text top (made_of text top) design
-
-pub value_is : {X : Type 0} (r : Result X WalkStep) (x : X) → value_in r ≡ Some x → r ≡ Ok x
-value_is (Ok y) x h = ap Ok (let e : y ≡ x = cc h in e)
-value_is (Err s) x h = absurd (cc h)
 
 only_member : {X : Type 0} (xs : List X) (x : X) → only xs ≡ Some x → Contains xs x
 only_member [] x e = absurd (cc e)
@@ -144,27 +138,15 @@ module _ (text : TextTree) (top : Option (List ℕ)) (fine : IsFlattened text) w
 
   pub made_beside : (design : FlatDesign) → flat_of text top ≡ Some design →
       MadeBeside text top design
-  unfolding walk_of
   made_beside design h =
-      let walked = value_is (walk_of text top).end design h in
-      let lattice = parts_done (lattice_walk text.lattice) _ design walked in
-      let order = lattice.0 in
-      let mapped = parts_done (maps_walk order.points [] text.maps) _ design lattice.2 in
-      let maps = mapped.0 in
-      let named = parts_done (module_names [] text.modules) _ design mapped.2 in
-      let topped = parts_done (found (top_module text.modules top) no_top) _ design named.2 in
-      let m = topped.0 in
-      let tables = tables_of text.modules order maps in
-      let built = parts_done (top_walk tables m) _ design topped.2 in
-      let is : design_of order tables built.0 ≡ design =
-      same_ok (design_of order tables built.0) design built.2 in
-      let grown = top_grown tables m built.0 refl
-      (found_some (top_module text.modules top) no_top m topped.1) built.1 in
-      subst (MadeBeside text top) is (record {
-        order = order;
-        lattice = lattice.1;
-        maps = maps;
-        maps_walked = mapped.1;
+      let w = walked_text text top design h in
+      let tables = tables_of text.modules w.order w.maps in
+      let grown = top_grown tables w.master w.built refl w.is_top w.top_walked in
+      subst (MadeBeside text top) w.is (record {
+        order = w.order;
+        lattice = w.lattice;
+        maps = w.maps;
+        maps_walked = w.maps_walked;
         tables = tables;
         tables_are = refl;
         table = refl;

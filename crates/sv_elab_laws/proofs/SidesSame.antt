@@ -8,11 +8,11 @@ use Rattle.std.proofs.lemmas.Bool.{cases_Bool, false≢true, or_cases, eqb-true,
 use Rattle.std.proofs.lemmas.Bool.{cond-true, cond-false, false_from_ne_true}
 use Rattle.std.proofs.lemmas.Nat.{mod_below, pow_pos}
 use Rattle.sv_system.specs.System.{Environment, put}
-use Rattle.sv_ast.specs.Scopes.{signal, width_of}
+use Rattle.sv_ast.specs.Scopes.{width_of}
 use Rattle.sv_ast.specs.Tree.{StatementTree, TextTree, named}
 use Rattle.sv_ast.specs.Values.{assigned_value}
 use Rattle.sv_ast.specs.Instances.{is_signal, whole_signal}
-use Rattle.sv_ast.specs.Runs.{assigned, run as source_run}
+use Rattle.sv_ast.specs.Runs.{run as source_run}
 use Rattle.sv_ast.specs.Parts.{Path, same_path, Part, within, parts, PartSignal, signal_path}
 use Rattle.sv_ast.specs.Parts.{signal_width, declarations, PortLink}
 use Rattle.sv_ast.specs.Processes.{Process, combinational, clocked, linking, values_in, name_in}
@@ -25,11 +25,11 @@ use Rattle.sv_flat.specs.Assigned.{assigns}
 use Rattle.sv_flat.specs.Processes.{is_clocked}
 use Rattle.sv_flat.specs.Runs.{run_alone, updates_of}
 use Rattle.sv_flat.specs.Values.{signal_width as flat_width}
-use Rattle.sv_flat.proofs.LeastSets.{from_some}
 use Rattle.sv_flat.proofs.SameRuns.{run_leaves}
 use Rattle.sv_elab_rules.specs.Links.{port_number, port_width}
 use Rattle.sv_elab_rules.specs.Names.{Names}
 use Rattle.sv_width.specs.Agreement.{HaveValues}
+use Rattle.sv_elab_laws.specs.Numbering.{IsNumbering}
 use Rattle.sv_elab_laws.specs.SameStates.{ValuesFit, by_number}
 use Rattle.sv_elab_laws.specs.SideBySide.{made_of, path_at, AreAlike, SameChange}
 use Rattle.sv_elab_laws.specs.SideBySide.{DoTheSame, ProcessesBeside}
@@ -45,8 +45,9 @@ use Rattle.sv_elab_laws.proofs.FormsBeside.{name_width, names_listed, names_numb
 use Rattle.sv_elab_laws.proofs.FormsBeside.{same_size}
 use Rattle.sv_elab_laws.proofs.StatementsSame.{body_same}
 use Rattle.sv_elab_laws.proofs.LinksSame.{input_link_same, output_link_same}
-use Rattle.sv_elab_laws.proofs.AssignedNames.{assigned_same, assigned_are_signals}
-use Rattle.sv_elab_laws.proofs.JoinedLinks.{port_at, port_listed, port_numbered, outer_numbered}
+use Rattle.sv_elab_laws.proofs.AssignedNames.{assigned_name, assigned_are_signals}
+use Rattle.sv_elab_laws.proofs.JoinedLinks.{port_at, port_stands, some_bits, port_numbered}
+use Rattle.sv_elab_laws.proofs.JoinedLinks.{outer_numbered}
 use Rattle.sv_elab_laws.proofs.JoinedLinks.{IsInput, IsOutput, link_is}
 use Rattle.sv_elab_laws.proofs.JoinedClocks.{same_bool}
 use Rattle.sv_elab_laws.proofs.JoinedNumbers.{same_paths, path_itself}
@@ -138,19 +139,10 @@ module _ (text : TextTree) (top : Option (List ℕ)) (design : FlatDesign)
     abbrev names : Names
     names = body.names
 
-    -- what the flat body assigns is a signal of the instance
-    assigned_name : (k : ℕ) → assigns f.body k ≡ true
-        → (n : List ℕ) × Contains (assigned s) n × IsTrue (is_signal (names.scope n))
-        × (names.number n ≡ k)
-    assigned_name k h =
-        let n = from_some (λ (m : List ℕ).
-        names.number m == k) (assigned s)
-        (sym (assigned_same names s f.body body.walked body.shaped k) ∙ h) in (
-          n.0,
-          n.1,
-          assigned_are_signals names s f.body body.walked n.0 n.1,
-          eqb-true (names.number n.0) k n.2,
-        )
+    numbering : IsNumbering names design.signals
+    numbering =
+        names_number side.tables sources (parts text top) design.signals side.forms p names
+        body.named
 
     module _ (e : Environment ℕ) (g : Environment Path) (alike : Alike e g) where
       abbrev ends : Environment (List ℕ)
@@ -168,7 +160,7 @@ module _ (text : TextTree) (top : Option (List ℕ)) (design : FlatDesign)
           by_name None none =
               run_leaves design.signals f.body k
               (false_from_ne_true (assigns f.body k) (λ h.
-              let n = assigned_name k h in
+              let n = assigned_name names s f.body body.walked body.shaped k h in
               let path : signal_path t ≡ within p n.0 =
               path_same (signal_path t) (within p n.0) k number
               (subst (Number (within p n.0)) n.3 (number_is p names body.named n.0 n.2)) in
@@ -179,10 +171,8 @@ module _ (text : TextTree) (top : Option (List ℕ)) (design : FlatDesign)
           by_name (Some n) some =
               let path = path_of-name_in p.path (signal_path t) n some in
               let here = in_part p names body.named k t at n path in
-              let after = body_same names design.signals
-              (names_number side.tables sources (parts text top) design.signals side.forms p names
-              body.named) s f.body body.walked body.fits (values_in p g) e
-              (values_alike p names body.named e g alike)
+              let after = body_same names design.signals numbering s f.body body.walked
+              body.fits (values_in p g) e (values_alike p names body.named e g alike)
               (values_fit p names body.named e g alike) in
               let b = signal_is side.tables sources (parts text top) (names.scope n) here.0 in
               ap (run_alone design.signals f.body e) (sym here.1)
@@ -204,10 +194,8 @@ module _ (text : TextTree) (top : Option (List ℕ)) (design : FlatDesign)
               let path = path_of-name_in p.path (signal_path t) n some in
               let place = contains_get sources t inside in
               let here = in_part p names body.named place.0 t place.1 n path in
-              let after = body_same names design.signals
-              (names_number side.tables sources (parts text top) design.signals side.forms p names
-              body.named) s f.body body.walked body.fits (values_in p g) e
-              (values_alike p names body.named e g alike)
+              let after = body_same names design.signals numbering s f.body body.walked
+              body.fits (values_in p g) e (values_alike p names body.named e g alike)
               (values_fit p names body.named e g alike) in
               let b = signal_is side.tables sources (parts text top) (names.scope n) here.0 in
               let width : b.0 ≡ signal_width t =
@@ -230,10 +218,8 @@ module _ (text : TextTree) (top : Option (List ℕ)) (design : FlatDesign)
       same_updates : map (λ (u : ℕ × ℕ). (path_at sources u.0, u.1))
           (updates_of design.signals f.body e) ≡ updates_by p s g
       same_updates =
-          let after = body_same names design.signals
-          (names_number side.tables sources (parts text top) design.signals side.forms p names
-          body.named) s f.body body.walked body.fits (values_in p g) e
-          (values_alike p names body.named e g alike)
+          let after = body_same names design.signals numbering s f.body body.walked
+          body.fits (values_in p g) e (values_alike p names body.named e g alike)
           (values_fit p names body.named e g alike) in
           ap (map (λ (u : ℕ × ℕ). (path_at sources u.0, u.1))) after.1
           ∙ map_twice_same (by_number names) (λ (u : ℕ × ℕ). (path_at sources u.0, u.1))
@@ -250,7 +236,7 @@ module _ (text : TextTree) (top : Option (List ℕ)) (design : FlatDesign)
     body_within e k beyond =
         run_leaves design.signals f.body k
         (false_from_ne_true (assigns f.body k) (λ h.
-        let n = assigned_name k h in
+        let n = assigned_name names s f.body body.walked body.shaped k h in
         let below = number_below (within p n.0) k
         (subst (Number (within p n.0)) n.3 (number_is p names body.named n.0 n.2)) in
         omega arith)) (e, [])
@@ -348,23 +334,15 @@ module _ (text : TextTree) (top : Option (List ℕ)) (design : FlatDesign)
     abbrev port : ℕ
     port = port_at side.tables sources (parts text top) l f link
 
-    port_stands : (width : ℕ) × (link.inner.scope l.port.name ≡ Some (signal width l.port.signed))
-    port_stands =
-        let place = port_listed side.tables sources (parts text top) l f link in
-        link.inner_named.signs place.0 l.port place.1
-
     abbrev port_bits : ℕ
     port_bits = port_width link.ports l.port
-
-    bits_are : port_bits ≡ port_stands.0
-    bits_are = ap width_of (link.stands ∙ port_stands.1)
 
     port_length : flat_width design.signals (port_number link.ports l.port.name) ≡ port_bits
     port_length =
         ap (flat_width design.signals) link.number
         ∙ (name_width side.tables sources (parts text top) design.signals side.forms l.inner
-        link.inner link.inner_named l.port.name port_stands.0 l.port.signed port_stands.1).1
-        ∙ sym bits_are
+        link.inner link.inner_named l.port.name port_bits l.port.signed
+        (port_stands side.tables sources (parts text top) l f link)).1
 
     input_changes : IsInput side.tables sources (parts text top) l f link
         → SameChange sources (run_alone design.signals f.body) (source_link_in l)
@@ -386,8 +364,7 @@ module _ (text : TextTree) (top : Option (List ℕ)) (design : FlatDesign)
         (names_listed side.tables sources (parts text top) design.signals side.forms l.outer
         link.outer link.outer_named)
         link.ports l.port l.expression f input.walked
-        (subst (λ w. 1 ≤ w) (sym bits_are)
-        (link.inner_named.widths l.port.name port_stands.0 l.port.signed port_stands.1).0)
+        (some_bits side.tables sources (parts text top) l f link)
         port_length (values_in l.outer g) e
         (values_alike l.outer link.outer link.outer_named e g alike)
         ∙ ap (λ m. put ◌==◌ m
@@ -418,7 +395,7 @@ module _ (text : TextTree) (top : Option (List ℕ)) (design : FlatDesign)
         (names_listed side.tables sources (parts text top) design.signals side.forms l.inner
         link.inner link.inner_named)
         link.ports l.port l.expression f output.walked
-        (port_stands.1 ∙ ap (λ w. Some (signal w l.port.signed)) (sym bits_are))
+        (port_stands side.tables sources (parts text top) l f link)
         (sym link.number) (values_in l.inner g) e
         (values_alike l.inner link.inner link.inner_named e g alike) in
         let same : run.0 ≡ n = let e : Some run.0 ≡ Some n = sym run.1 ∙ output.whole in cc e in

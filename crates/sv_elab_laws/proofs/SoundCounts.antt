@@ -20,7 +20,7 @@ use Rattle.sv_elab_rules.specs.ExpressionSteps.{expression_walk}
 use Rattle.sv_elab_rules.specs.Targets.{assignment_walk}
 use Rattle.sv_elab_rules.specs.Statements.{statement_walk}
 use Rattle.sv_elab_rules.specs.Declarations.{Site, Declared, declared_signal, nothing_declared}
-use Rattle.sv_elab_rules.specs.Declarations.{range_steps, override_of, final_walk, parameter_walk}
+use Rattle.sv_elab_rules.specs.Declarations.{range_steps, parameter_walk}
 use Rattle.sv_elab_rules.specs.Declarations.{signal_ahead, signal_walk, declaration_walk}
 use Rattle.sv_elab_rules.specs.Declarations.{declarations_walk}
 use Rattle.sv_elab_rules.specs.LabelSteps.{SharedTables, given_label, labels_walk}
@@ -29,8 +29,9 @@ use Rattle.sv_elab_rules.specs.InstanceSteps.{instance_walk, instance_names, ite
 use Rattle.sv_elab_rules.specs.InstanceSteps.{module_walk, site_walk}
 use Rattle.sv_elab_rules.proofs.WalkLemmas.{parts_done}
 use Rattle.sv_elab_rules.proofs.DeclarationLemmas.{signal_within}
-use Rattle.sv_elab_laws.proofs.PartsDeclared.{same_ok}
+use Rattle.sv_elab_laws.proofs.PartsDeclared.{same_ok, parameter_walked}
 use Rattle.sv_elab_laws.proofs.PartsEntered.{inner_site, with_instance, entered}
+use Rattle.sv_elab_laws.proofs.PartsOpened.{opened}
 
 -- ---- declarations
 
@@ -41,15 +42,7 @@ module _ (base least : ℕ) (site : Site) where
   parameter_few : (a : Declared) (p : ParameterTree) (next : Declared)
       → (parameter_walk base site a p).end ≡ Ok next
       → AreFew a → AreFew next
-  unfolding parameter_walk
-  parameter_few a p next h few =
-      let names = names_at base site.master a.bindings in
-      let first = parts_done (range_steps names p.span) _ next h in
-      let second = parts_done (final_walk names (override_of site a.bindings p) p.value) _ next
-      first.2 in
-      let third = parts_done (ask (not (is_bound (entry a.bindings p.name))) (twice p.place p.name))
-      _ next second.2 in
-      subst AreFew (same_ok _ next third.2) few
+  parameter_few a p next h few = subst AreFew (parameter_walked base least site a p next h).is few
 
   signal_few : (a : Declared) (d : DeclarationTree) (next : Declared) →
       (signal_walk base least site a d).end ≡ Ok next → AreFew next
@@ -174,23 +167,18 @@ module _ (tables : SharedTables) where
   module_few : (inside : Site → Built → Walk Built) → KeepsFew inside
       → (site : Site) (built after : Built)
       → (module_walk inside tables site built).end ≡ Ok after → HasFew built → HasFew after
-  unfolding module_walk
   module_few inside works site built after h few =
       let base = length built.signals in
-      let declared_step = parts_done
-      (declarations_walk base tables.least site nothing_declared (all_items site.master)) _
-      after h in
-      let w = declared_step.0 in
+      let o = opened tables inside site built after h in
+      let w = o.declared_all in
       let names : Names = names_of base w.bindings in
-      let labels = parts_done (labels_walk tables names (declarations site.master) w.signals) _
-      after declared_step.2 in
       let own = declared_few base tables.least site (all_items site.master) nothing_declared w
-      declared_step.1 (omega (arith, few)) in
-      let kept = labels_few names (declarations site.master) w.signals labels.0 labels.1 in
-      let all = length-append built.signals labels.0 in
+      o.declared_done (omega (arith, few)) in
+      let kept = labels_few names (declarations site.master) w.signals o.signals o.labels_done in
+      let all = length-append built.signals o.signals in
       items_few inside works site names site.master.items
       (map (λ (b : List ℕ × Binding). b.0) w.bindings)
-      (record built { signals = built.signals ++ labels.0 }) after labels.2 (omega arith)
+      (record built { signals = built.signals ++ o.signals }) after o.items_done (omega arith)
 
   pub sites_few : (levels : ℕ) → KeepsFew (site_walk levels tables)
   unfolding site_walk

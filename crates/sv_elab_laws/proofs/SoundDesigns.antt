@@ -13,22 +13,17 @@ use Rattle.sv_ast.specs.Processes.{Process}
 use Rattle.sv_flat.specs.Design.{FlatDesign}
 use Rattle.sv_flat.specs.Soundness.{map_sound, signal_sound, process_sound, invariant_sound, sound}
 use Rattle.sv_flat.proofs.Depths.{from_all}
-use Rattle.sv_elab_rules.specs.Walks.{found}
-use Rattle.sv_elab_rules.specs.Rules.{no_top}
-use Rattle.sv_elab_rules.specs.Lattices.{lattice_walk}
-use Rattle.sv_elab_rules.specs.LabelMaps.{maps_walk}
 use Rattle.sv_elab_rules.specs.LabelSteps.{SharedTables}
 use Rattle.sv_elab_rules.specs.Declarations.{Site}
 use Rattle.sv_elab_rules.specs.InstanceSteps.{Built}
-use Rattle.sv_elab_rules.specs.Texts.{module_names, top_walk, tables_of, design_of, walk_of, flat_of}
-use Rattle.sv_elab_rules.proofs.WalkLemmas.{parts_done, found_some}
+use Rattle.sv_elab_rules.specs.Texts.{top_walk, tables_of, flat_of}
 use Rattle.sv_width.specs.Agreement.{HaveLengths}
 use Rattle.sv_elab_laws.proofs.PartsShapes.{IsFlattened}
 use Rattle.sv_width.specs.WrittenLengths.{TextHasLengths}
-use Rattle.sv_elab_laws.proofs.PartsDeclared.{same_ok}
 use Rattle.sv_elab_laws.specs.SideBySide.{made_from, made_of}
 use Rattle.sv_elab_laws.proofs.PartsNamed.{IsSound}
-use Rattle.sv_elab_laws.proofs.PartsTexts.{made_beside, value_is, top_listed}
+use Rattle.sv_elab_laws.proofs.PartsTexts.{made_beside, top_listed}
+use Rattle.sv_elab_laws.proofs.PartsWalked.{walked_text}
 use Rattle.sv_elab_laws.proofs.JoinedSources.{from_option}
 use Rattle.sv_elab_laws.proofs.SoundLabels.{points_sound, maps_sound, signals_sound}
 use Rattle.sv_elab_laws.proofs.SoundProcesses.{ProcessHasLengths, processes_sound}
@@ -49,27 +44,17 @@ module _ (text : TextTree) (top : Option (List ℕ)) (design : FlatDesign) where
     pub invariants : design.invariants ≡ []
 
   walked_top : flat_of text top ≡ Some design → WalkedTop
-  unfolding walk_of
   walked_top h =
-      let walk = value_is (walk_of text top).end design h in
-      let lattice = parts_done (lattice_walk text.lattice) _ design walk in
-      let order = lattice.0 in
-      let mapped = parts_done (maps_walk order.points [] text.maps) _ design lattice.2 in
-      let named = parts_done (module_names [] text.modules) _ design mapped.2 in
-      let topped = parts_done (found (top_module text.modules top) no_top) _ design named.2 in
-      let tables = tables_of text.modules order mapped.0 in
-      let built = parts_done (top_walk tables topped.0) _ design topped.2 in
-      let is : design_of order tables built.0 ≡ design =
-      same_ok (design_of order tables built.0) design built.2 in
+      let w = walked_text text top design h in
       record {
-        tables = tables;
+        tables = tables_of text.modules w.order w.maps;
         modules = refl;
-        master = topped.0;
-        is_top = found_some (top_module text.modules top) no_top topped.0 topped.1;
-        built = built.0;
-        walked = built.1;
-        signals = ap (λ (d : FlatDesign). d.signals) (sym is);
-        invariants = ap (λ (d : FlatDesign). d.invariants) (sym is);
+        master = w.master;
+        is_top = w.is_top;
+        built = w.built;
+        walked = w.top_walked;
+        signals = ap (λ (d : FlatDesign). d.signals) (sym w.is);
+        invariants = ap (λ (d : FlatDesign). d.invariants) (sym w.is);
       }
 
 module _ (text : TextTree) (top : Option (List ℕ)) (design : FlatDesign)

@@ -1,7 +1,7 @@
 -- What an instance's names stand for has 1 to 64 bits, and so has what it sets.
 use Rattle.std.proofs.Common.{◌≡◌, ℕ, Bool, true, false, cond, List, [], ◌∷◌, ◌++◌}
 use Rattle.std.proofs.Common.{Option, Some, None, refl, subst, ⊎_elim}
-use Rattle.std.specs.Prelude.{not, ◌&&◌, ◌||◌, Contains, Ok, is_some}
+use Rattle.std.specs.Prelude.{not, ◌||◌, Contains, Ok}
 use Rattle.sv_system.proofs.Lists.{Contains-head, Contains-later}
 use Rattle.sv_ast.specs.Scopes.{Scope, Number, Binding, parameter, signal, width_of}
 use Rattle.sv_ast.specs.Tree.{ExpressionTree, SpanTree, DeclarationTree, ParameterTree}
@@ -11,21 +11,23 @@ use Rattle.sv_ast.specs.Shape.{is_shaped_expression, is_shaped_override, are_sha
 use Rattle.sv_ast.specs.Instances.{entry, span_width, in_range, open_parameters}
 use Rattle.sv_flat.proofs.Depths.{from_all}
 use Rattle.sv_elab_rules.specs.Walks.{ask}
-use Rattle.sv_elab_rules.specs.Rules.{twice, wrong_override}
+use Rattle.sv_elab_rules.specs.Rules.{twice}
 use Rattle.sv_elab_rules.specs.Names.{Names, is_bound, names_at}
 use Rattle.sv_elab_rules.specs.ExpressionSteps.{asked, constant_walk}
 use Rattle.sv_elab_rules.specs.Declarations.{Site, Declared, range_steps, override_of, final_walk}
 use Rattle.sv_elab_rules.specs.Declarations.{parameter_walk, signal_ahead, signal_walk}
 use Rattle.sv_elab_rules.specs.Declarations.{declaration_walk, declarations_walk}
-use Rattle.sv_elab_rules.specs.Overrides.{is_open, named_walk, ordered_walk, overrides_walk}
+use Rattle.sv_elab_rules.specs.Overrides.{named_walk, ordered_walk, overrides_walk}
 use Rattle.sv_elab_rules.proofs.WalkLemmas.{parts_done}
 use Rattle.sv_elab_rules.proofs.DeclarationLemmas.{signal_within}
 use Rattle.sv_width.specs.Agreement.{HaveLengths, IsLength}
 use Rattle.sv_width.proofs.Sound.{passed_sound}
 use Rattle.sv_width.proofs.Lengths.{own_length}
 use Rattle.sv_width.specs.WrittenLengths.{OverridesHaveLengths}
-use Rattle.sv_elab_laws.proofs.PartsBindings.{last_entry}
+use Rattle.sv_elab_laws.proofs.PartsBindings.{last_entry, one_more_holds}
 use Rattle.sv_elab_laws.proofs.PartsDeclared.{same_ok, constant_done, range_length}
+use Rattle.sv_elab_laws.proofs.PartsDeclared.{parameter_walked}
+use Rattle.sv_elab_laws.proofs.PartsOverrides.{named_step}
 use Rattle.sv_elab_laws.proofs.SoundSources.{IsMeasured}
 
 abbrev pub NumberIsLong : Number → Type 0
@@ -85,20 +87,15 @@ module _ (base least : ℕ) (site : Site) (set_long : SetHasLengths site.set) wh
   parameter_long : (a : Declared) (p : ParameterTree) (next : Declared)
       → (parameter_walk base site a p).end ≡ Ok next
       → IsMeasured p.value → HaveLengths (entry a.bindings) → HaveLengths (entry next.bindings)
-  unfolding parameter_walk
   parameter_long a p next h is lengths =
       let names = names_at base site.master a.bindings in
-      let first = parts_done (range_steps names p.span) _ next h in
-      let second = parts_done (final_walk names (override_of site a.bindings p) p.value) _ next
-      first.2 in
-      let third = parts_done (ask (not (is_bound (entry a.bindings p.name))) (twice p.place p.name))
-      _ next second.2 in
-      subst (λ (x : Declared). HaveLengths (entry x.bindings)) (same_ok _ next third.2)
+      let w = parameter_walked base least site a p next h in
+      subst (λ (x : Declared). HaveLengths (entry x.bindings)) w.is
       (one_more_long a.bindings p.name
-      (parameter (in_range names.scope p.signed p.span second.0)) lengths
-      (range_long names.scope p.signed p.span second.0 (range_length names p.span first.0 first.1)
-      (final_long names lengths p.value is (override_of site a.bindings p) second.0
-      (override_long a.bindings p) second.1)))
+      (parameter (in_range names.scope p.signed p.span w.value)) lengths
+      (range_long names.scope p.signed p.span w.value (range_length names p.span tt w.ranged)
+      (final_long names lengths p.value is (override_of site a.bindings p) w.value
+      (override_long a.bindings p) w.value_done)))
 
   signal_long : (a : Declared) (d : DeclarationTree) (next : Declared)
       → (signal_walk base least site a d).end ≡ Ok next
@@ -140,14 +137,6 @@ module _ (base least : ℕ) (site : Site) (set_long : SetHasLengths site.set) wh
 -- ---- what an instance sets
 
 module _ (outer : Names) (lengths : HaveLengths outer.scope) where
-  one_more_set : (set : List (List ℕ × Number)) (m : List ℕ) (k : Number) → SetHasLengths set
-      → NumberIsLong k
-      → SetHasLengths (set ++ (m, k) ∷ [])
-  one_more_set set m k all here n v e = ⊎_elim
-      (λ old. all n v old)
-      (λ new. subst NumberIsLong new.1 here)
-      (last_entry set m k n v e)
-
   named_long : (m : ModuleTree) (os : List NamedOverride) (set found : List (List ℕ × Number))
       → (named_walk outer m set os).end ≡ Ok found
       → ((o : NamedOverride) → Contains os o → IsMeasured o.value) → SetHasLengths set
@@ -155,15 +144,11 @@ module _ (outer : Names) (lengths : HaveLengths outer.scope) where
   unfolding named_walk
   named_long m [] set found h is all = subst SetHasLengths (same_ok set found h) all
   named_long m (o ∷ os) set found h is all =
-      let first = parts_done
-      (ask (is_open m o.name && not (is_some (entry set o.name)))
-      (wrong_override o.place o.name)) _ found h in
-      let second = parts_done (constant_walk outer o.value) (λ n.
-      named_walk outer m (set ++ (o.name, n) ∷ []) os) found first.2 in
-      named_long m os (set ++ (o.name, second.0) ∷ []) found second.2 (λ x at.
+      let step = named_step outer m o os set found h in
+      named_long m os (set ++ (o.name, step.0) ∷ []) found step.2 (λ x at.
       is x (Contains-later o os x at))
-      (one_more_set set o.name second.0 all
-      (constant_long outer lengths o.value (is o (Contains-head o os)) second.0 second.1))
+      (one_more_holds NumberIsLong set o.name step.0 all
+      (constant_long outer lengths o.value (is o (Contains-head o os)) step.0 step.1))
 
   ordered_long : (es : List ExpressionTree) (free : List ParameterTree)
       (set found : List (List ℕ × Number))
@@ -179,7 +164,7 @@ module _ (outer : Names) (lengths : HaveLengths outer.scope) where
       ordered_walk outer free (set ++ (p.name, n) ∷ []) es) found h in
       ordered_long es free (set ++ (p.name, first.0) ∷ []) found first.2 (λ x at.
       is x (Contains-later e es x at))
-      (one_more_set set p.name first.0 all
+      (one_more_holds NumberIsLong set p.name first.0 all
       (constant_long outer lengths e (is e (Contains-head e es)) first.0 first.1))
 
   nothing_long : SetHasLengths []

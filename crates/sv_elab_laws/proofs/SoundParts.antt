@@ -14,22 +14,22 @@ use Rattle.sv_ast.specs.Shape.{is_shaped_parameter, are_header_parameters, are_p
 use Rattle.sv_ast.specs.Shape.{is_shaped_declaration, are_shaped_links, are_shaped_overrides}
 use Rattle.sv_ast.specs.Shape.{is_shaped_module}
 use Rattle.sv_ast.specs.Instances.{all_items}
-use Rattle.sv_ast.specs.Parts.{Part, child, parts_from, declarations}
+use Rattle.sv_ast.specs.Parts.{Part, child, parts_from}
 use Rattle.sv_flat.proofs.Depths.{from_all}
 use Rattle.sv_elab_rules.specs.Walks.{Walk}
 use Rattle.sv_elab_rules.specs.Names.{Names, names_of}
-use Rattle.sv_elab_rules.specs.Declarations.{Site, nothing_declared, declarations_walk}
-use Rattle.sv_elab_rules.specs.LabelSteps.{SharedTables, labels_walk}
+use Rattle.sv_elab_rules.specs.Declarations.{Site, nothing_declared}
+use Rattle.sv_elab_rules.specs.LabelSteps.{SharedTables}
 use Rattle.sv_elab_rules.specs.InstanceSteps.{Built, instance_walk, instance_names, item_walk}
 use Rattle.sv_elab_rules.specs.InstanceSteps.{items_from, module_walk, site_walk}
 use Rattle.sv_elab_rules.proofs.WalkLemmas.{parts_done}
 use Rattle.sv_width.specs.Agreement.{HaveLengths}
 use Rattle.sv_elab_laws.proofs.PartsShapes.{IsFlattenedModule}
 use Rattle.sv_width.specs.WrittenLengths.{ModuleHasLengths}
-use Rattle.sv_elab_laws.proofs.PartsLists.{contains_either}
-use Rattle.sv_elab_laws.proofs.PartsDeclared.{walked}
+use Rattle.sv_flat.proofs.Members.{Contains-either as contains_either}
 use Rattle.sv_elab_laws.proofs.PartsNamed.{IsSound, part_of, same_scope}
 use Rattle.sv_elab_laws.proofs.PartsEntered.{inner_site, with_instance, entered}
+use Rattle.sv_elab_laws.proofs.PartsOpened.{opened}
 use Rattle.sv_elab_laws.proofs.JoinedSources.{inner_parts, inner_instance}
 use Rattle.sv_elab_laws.proofs.SoundSources.{IsGood, item_good}
 use Rattle.sv_elab_laws.proofs.SoundLengths.{SetHasLengths, AreMeasured, declared_long, settings_long}
@@ -150,28 +150,22 @@ module _ (tables : SharedTables)
         → SetHasLengths site.set → Contains tables.modules site.master
         → (q : Part) → Contains (part_of site ∷ inner_parts tables.modules levels (part_of site)) q
         → HaveLengths q.scope
-    unfolding module_walk
     module_long site built after h sound set_long listed q at =
         let m = site.master in
         let base = length built.signals in
-        let declared_step = parts_done
-        (declarations_walk base tables.least site nothing_declared (all_items m)) _ after h in
-        let w = declared_step.0 in
-        let declares = walked base tables.least site (all_items m) nothing_declared w
-        declared_step.1 in
+        let o = opened tables inside site built after h in
+        let w = o.declared_all in
         let names : Names = names_of base w.bindings in
         let lengths : HaveLengths names.scope =
         declared_long base tables.least site set_long (all_items m) nothing_declared w
-        declared_step.1
+        o.declared_done
         (parameters_measured m listed) (λ n b e. absurd (cc e)) in
-        let scope_is = same_scope base tables.least site w sound declares in
-        let labels = parts_done (labels_walk tables names (declarations m) w.signals) _ after
-        declared_step.2 in
+        let scope_is = same_scope base tables.least site w sound o.declares in
         ⊎_elim
         (λ is. subst (λ (x : Part). HaveLengths x.scope) is (subst HaveLengths scope_is lengths))
         (λ later. inner_long levels inside works site names lengths scope_is
         (map (λ (b : List ℕ × Binding). b.0) w.bindings)
-        (record built { signals = built.signals ++ labels.0 }) after labels.2 listed q later)
+        (record built { signals = built.signals ++ o.signals }) after o.items_done listed q later)
         (Contains-cases (part_of site) (inner_parts tables.modules levels (part_of site)) q at)
 
   pub sites_long : (levels : ℕ) → Long (site_walk levels tables) levels

@@ -24,11 +24,11 @@ use Rattle.sv_flat.proofs.Depths.{from_all}
 use Rattle.sv_width.specs.Agreement.{NumbersHaveLengths}
 use Rattle.sv_width.specs.WrittenLengths.{ValueHasLengths, LinksHaveLengths, ItemHasLengths}
 use Rattle.sv_width.specs.WrittenLengths.{ModuleHasLengths}
-use Rattle.sv_elab_laws.proofs.PartsLists.{contains_right, contains_either}
+use Rattle.sv_flat.proofs.Members.{Contains-right as contains_right}
+use Rattle.sv_flat.proofs.Members.{Contains-either as contains_either, from_flat_map}
 use Rattle.sv_elab_laws.proofs.PartsNamed.{from_filter_map}
 use Rattle.sv_elab_laws.specs.SideBySide.{item_made, made_from}
 use Rattle.sv_elab_laws.proofs.PartsMade.{mapped_from, child_listed}
-use Rattle.sv_elab_laws.proofs.PartsPaths.{from_flat_map}
 use Rattle.sv_elab_laws.proofs.JoinedSources.{from_some_list, from_option}
 use Rattle.sv_elab_laws.proofs.SoundProcesses.{ProcessHasLengths}
 

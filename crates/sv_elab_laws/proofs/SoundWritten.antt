@@ -24,7 +24,7 @@ use Rattle.sv_elab_laws.specs.FlattenedTexts.{ItemNumbersFit, EachItem}
 use Rattle.sv_width.specs.WrittenLengths.{AllHaveLengths}
 use Rattle.sv_width.specs.WrittenLengths.{ValueHasLengths, OverridesHaveLengths, LinksHaveLengths}
 use Rattle.sv_width.specs.WrittenLengths.{ItemHasLengths, ModuleHasLengths, TextHasLengths}
-use Rattle.sv_elab_laws.proofs.PartsLists.{contains_either}
+use Rattle.sv_flat.proofs.Members.{Contains-either as contains_either}
 use Rattle.sv_elab_laws.proofs.WrittenNumbers.{selectors_fit}
 
 value_lengths : (o : Option Expr) → ValueHasLengths (option_map expression_tree o)

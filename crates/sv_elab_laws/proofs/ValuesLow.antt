@@ -1,7 +1,7 @@
 -- A source expression's value fits each length from its own one on.
-use Rattle.std.proofs.Common.{◌≡◌, ℕ, zero, suc, ◌+◌, ◌*◌, ◌/◌, ◌%◌, ◌^◌, ◌<◌, ◌≤◌, Bool, true}
-use Rattle.std.proofs.Common.{false, List, refl, arith, subst}
-use Rattle.std.specs.Prelude.{if◌then◌else◌, nat_lt, Option, Some, None, ℤ, pos, negsuc}
+use Rattle.std.proofs.Common.{◌≡◌, ℕ, ◌*◌, ◌/◌, ◌^◌, ◌<◌, ◌≤◌, Bool, true}
+use Rattle.std.proofs.Common.{false, List, refl, arith}
+use Rattle.std.specs.Prelude.{if◌then◌else◌, Option, Some, None}
 use Rattle.std.proofs.lemmas.Nat.{pow_pos, mod_below, and_le_l, or_lt, xor_lt}
 use Rattle.std.proofs.Math.Pow.{pow_mono}
 use Rattle.std.proofs.Math.Nat.{div-le_self}
@@ -12,7 +12,6 @@ use Rattle.sv_num.specs.declared.operators.BinOp.TheVariants.{Ne, And, Xor, Xnor
 use Rattle.sv_num.specs.declared.operators.BinOp.TheVariants.{LogicOr}
 use Rattle.sv_num.specs.declared.operators.UnOp.{UnOp}
 use Rattle.sv_num.specs.Vectors.{truth, is_true, as_number}
-use Rattle.sv_num.specs.Parts.{bit_or_zero, repeated}
 use Rattle.sv_num.specs.UnaryValues.{gives_one_bit, unary_value}
 use Rattle.sv_num.specs.BinaryValues.{class_of}
 use Rattle.sv_num.proofs.BitsLemmas.{joined_low}
@@ -25,26 +24,9 @@ use Rattle.sv_ast.specs.Values.{nowhere, natural, Operand, operand, binary_lengt
 use Rattle.sv_ast.specs.Values.{length_of, joined_length, signed_of, value, joined_value, at_own}
 use Rattle.sv_ast.specs.Values.{whole_number, constant_of}
 use Rattle.sv_ast.specs.Instances.{in_range}
+use Rattle.sv_width.proofs.Constants.{bit_or_zero_low, chosen_low, repeated_low}
 use Rattle.sv_width.proofs.WellFormed.{reduced_low}
-use Rattle.sv_width.proofs.Low.{one_low, bit_low, unary_low, odd_low}
-
-pub bit_or_zero_low : (w v : ℕ) (i : ℤ) → bit_or_zero w v i < 2
-bit_or_zero_low w v (pos k) = by (nat_lt k w)
-  where
-    by : (b : Bool) → (if b then v / 2 ^ k % 2 else 0) < 2
-    by true = odd_low (v / 2 ^ k)
-    by false = omega arith
-bit_or_zero_low w v (negsuc k) = omega arith
-
-pub chosen_low : (b : Bool) (x y m : ℕ) → x < m → y < m → (if b then x else y) < m
-chosen_low true x y m p q = p
-chosen_low false x y m p q = q
-
-repeated_low : (k w v : ℕ) → v < 2 ^ w → repeated k w v < 2 ^ (k * w)
-repeated_low zero w v low = pow_pos (0 * w)
-repeated_low (suc k) w v low =
-    subst (λ m. repeated k w v * 2 ^ w + v < 2 ^ m) (omega arith)
-    (joined_low (repeated k w v) v (k * w) w (repeated_low k w v low) low)
+use Rattle.sv_width.proofs.Low.{one_low, bit_low, unary_low}
 
 pub truth_low : (n : ℕ) (b : Bool) → 1 ≤ n → truth b < 2 ^ n
 truth_low n true some = one_low n 1 some (omega arith)

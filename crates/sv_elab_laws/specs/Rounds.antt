@@ -111,15 +111,18 @@ pub record SameGiven {Signal Point Other : Type 0} (first : System Signal Point)
   pub same : (s : Signal) → IsTrue (kind s) → values s ≡ others (to s)
   pub fits : KindFits kind first values
 
--- the ordered runs of a flat design take the rounds that those of the text take
-abbrev pub RoundsAreOfText : TextTree → (asked : Option (List ℕ)) → FlatDesign → Type 0
-RoundsAreOfText text asked design =
-    let system = flat_system design in
-    let to = path_at (text_signals text asked) in
+-- the ordered runs of a flat design take the rounds that those of the text take, whose signals go
+-- by these other names
+abbrev pub RoundsBy : TextTree → (asked : Option (List ℕ)) → FlatDesign → (to : ℕ → Path) → Type 0
+RoundsBy text asked design to =
     (number rounds : ℕ) (registers : Environment ℕ) (others : Environment Path)
     (inputs : List (Environment ℕ)) (other_inputs : List (Environment Path))
-    → SameGiven system to system.is_register registers others
-    → AllZip (SameGiven system to system.is_input) inputs other_inputs
+    → SameGiven (flat_system design) to (flat_system design).is_register registers others
+    → AllZip (SameGiven (flat_system design) to (flat_system design).is_input) inputs other_inputs
     → ((environments : List (Environment ℕ))
     × OrderedRun design number registers inputs environments rounds)
     ↔ TextRounds text asked number others other_inputs rounds
+
+-- by their paths
+abbrev pub RoundsAreOfText : TextTree → (asked : Option (List ℕ)) → FlatDesign → Type 0
+RoundsAreOfText text asked design = RoundsBy text asked design (path_at (text_signals text asked))

@@ -262,6 +262,17 @@ each_broken step x xs f h = breach_first (step x) (λ _. each step xs) f h
 
 -- ---- parts and pieces
 
+-- what parts of targets say of the first target and its part, and of the others
+parts_split : (names : Names) (t : TargetTree) (ts : List TargetTree) (p : TargetPart)
+    (ps : List TargetPart) → AreParts names (t ∷ ts) (p ∷ ps)
+    → ((target_steps names t).end ≡ Ok tt) × (piece_at 0 p ≡ target_piece names 0 t)
+    × AreParts names ts ps
+parts_split names t ts p ps h =
+    let both = each_parts (target_steps names) t ts h.0 in
+    let head : piece_at 0 p ≡ target_piece names 0 t = cc h.1 in
+    let tail : map (piece_at 0) ps ≡ map (target_piece names 0) ts = cc h.1 in
+    (both.0, head, (both.1, tail))
+
 module _ (names : Names) (lengths : HaveLengths names.scope) where
   pub parts_have : (ts : List TargetTree) (ps : List TargetPart) → AreParts names ts ps
       → parts_width ps ≡ targets_width names.scope ts
@@ -269,13 +280,12 @@ module _ (names : Names) (lengths : HaveLengths names.scope) where
   parts_have [] (p ∷ ps) h = absurd (cc h.1)
   parts_have (t ∷ ts) [] h = absurd (cc h.1)
   parts_have (t ∷ ts) (p ∷ ps) h =
-      let both = each_parts (target_steps names) t ts h.0 in
-      let head : piece_at 0 p ≡ target_piece names 0 t = cc h.1 in
-      let tail : map (piece_at 0) ps ≡ map (target_piece names 0) ts = cc h.1 in
+      let split = parts_split names t ts p ps h in
       let width : span_of p.high p.low ≡ target_width names.scope t =
-      ap (λ (x : PieceForm). span_of x.high x.low) head ∙ (target_range names lengths t both.0).2 in
+      ap (λ (x : PieceForm). span_of x.high x.low) split.1.0
+      ∙ (target_range names lengths t split.0).2 in
       ap (λ k. k + parts_width ps) width
-      ∙ ap (λ k. target_width names.scope t + k) (parts_have ts ps (both.1, tail))
+      ∙ ap (λ k. target_width names.scope t + k) (parts_have ts ps split.1.1)
 
   pub parts_placed : (ts : List TargetTree) (ps : List TargetPart) → AreParts names ts ps →
       placed ps ≡ pieces_of names ts
@@ -283,9 +293,7 @@ module _ (names : Names) (lengths : HaveLengths names.scope) where
   parts_placed [] (p ∷ ps) h = absurd (cc h.1)
   parts_placed (t ∷ ts) [] h = absurd (cc h.1)
   parts_placed (t ∷ ts) (p ∷ ps) h =
-      let both = each_parts (target_steps names) t ts h.0 in
-      let head : piece_at 0 p ≡ target_piece names 0 t = cc h.1 in
-      let tail : map (piece_at 0) ps ≡ map (target_piece names 0) ts = cc h.1 in
+      let split = parts_split names t ts p ps h in
       let first : piece_at (parts_width ps) p ≡
       target_piece names (targets_width names.scope ts) t =
       ap (λ (x : PieceForm).
@@ -295,11 +303,11 @@ module _ (names : Names) (lengths : HaveLengths names.scope) where
         high = x.high;
         low = x.low;
         from = parts_width ps;
-      }) head
-      ∙ ap (λ k. target_piece names k t) (parts_have ts ps (both.1, tail)) in
+      }) split.1.0
+      ∙ ap (λ k. target_piece names k t) (parts_have ts ps split.1.1) in
       ap (λ x. x ∷ placed ps) first
       ∙ ap (λ xs. target_piece names (targets_width names.scope ts) t ∷ xs)
-      (parts_placed ts ps (both.1, tail))
+      (parts_placed ts ps split.1.1)
 
 -- ---- the whole assignment
 

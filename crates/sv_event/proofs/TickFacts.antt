@@ -3,11 +3,11 @@
 use mathlib.Core.Path.{fun_ext}
 use Rattle.std.proofs.Common.{◌≡◌, ℕ, suc, ◌+◌, ◌<◌, ◌≤◌, Bool, true, false, cond, ◌==◌}
 use Rattle.std.proofs.Common.{nat_lt, ltb-true, List, [], ◌∷◌, ◌++◌, length, take, drop, get_or}
-use Rattle.std.proofs.Common.{Option, Some, None, ⊎_elim, refl, sym, ap, subst, ◌∙◌, append-nil}
-use Rattle.std.proofs.Common.{arith, drop-cons, append_assoc, ltb-false, ◌⊎◌, inl, inr}
+use Rattle.std.proofs.Common.{Option, None, ⊎_elim, refl, sym, ap, subst, ◌∙◌, append-nil}
+use Rattle.std.proofs.Common.{arith, drop-cons, append_assoc, ltb-false, ◌⊎◌}
 use Rattle.std.proofs.Common.{zero-add}
 use Rattle.std.specs.Prelude.{Contains, IsTrue, IsFalse, filter, slice_get, slice_index, count_by}
-use Rattle.std.specs.List.{filter_map, cons_option, list_all, list_any, range_with_len}
+use Rattle.std.specs.List.{cons_option, list_all, list_any, range_with_len}
 use Rattle.std.proofs.lemmas.Bool.{eqb-true, eq-eqb, false≢true}
 use Rattle.std.proofs.lemmas.Grind.{flat_map-append}
 use Rattle.std.proofs.lemmas.List.{take_more, take-append-drop, length-map, get_or-map}
@@ -34,6 +34,7 @@ use Rattle.sv_flat.proofs.LeastSets.{either_way, some_from, from_some, Contains-
 use Rattle.sv_flat.proofs.LeastSets.{range_has}
 use Rattle.sv_flat.proofs.Members.{Contains-right}
 use Rattle.sv_flat.proofs.SameRuns.{none_found}
+use Rattle.sv_rules.proofs.FirstBreaches.{from_filter_map}
 use Rattle.sv_sim.specs.Simulations.{process_at}
 use Rattle.sv_sim.proofs.AtPlace.{idle}
 use Rattle.sv_sim.proofs.EdgeFacts.{touches, last_untouched, last_split, all_touch, run_touch}
@@ -142,21 +143,6 @@ module _ {X : Type 0} (test : X → Bool) (d : X) where
       (either_way (nat_lt m n))
 
 -- ---- processes by their numbers
-
-from_option : {Y : Type 0} (o : Option Y) (ys : List Y) (y : Y) → Contains (cons_option o ys) y
-    → (o ≡ Some y) ⊎ Contains ys y
-from_option None ys y at = inr at
-from_option (Some z) ys y at = ⊎_elim (λ same. inl (ap Some same)) (λ later. inr later)
-    (Contains-cases z ys y at)
-
-from_filter_map : {X Y : Type 0} (f : X → Option Y) (xs : List X) (y : Y)
-    → Contains (filter_map f xs) y → (x : X) × Contains xs x × (f x ≡ Some y)
-from_filter_map f [] y at = absurd (Contains-nil y at)
-from_filter_map f (x ∷ xs) y at = ⊎_elim
-    (λ here. (x, Contains-head x xs, here))
-    (λ later. let found = from_filter_map f xs y later in
-    (found.0, Contains-later x xs found.0 found.1, found.2))
-    (from_option (f x) (filter_map f xs) y at)
 
 module _ (design : FlatDesign) where
   abbrev pub clocked : List ProcessForm

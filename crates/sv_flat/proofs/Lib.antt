@@ -25,6 +25,7 @@ pub mod BlockFacts
 pub mod BranchFacts
 pub mod RunsFit
 pub mod SameUpdates
+pub mod AlikeUpdates
 pub mod SelectorBounds
 pub mod SelectorFacts
 pub mod TopClocks

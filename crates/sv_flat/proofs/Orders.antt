@@ -1,17 +1,17 @@
 -- A circle of reads leaves no order of reads, and the order by depth lists the combinational
 -- signals.
 use Rattle.std.proofs.Common.{ℕ, zero, suc, ◌+◌, ◌<◌, ◌≤◌, Bool, true, false, ◌&&◌, ◌==◌, List, []}
-use Rattle.std.proofs.Common.{◌∷◌, length, ⊎_elim, refl, sym, subst, arith, lt_trans}
+use Rattle.std.proofs.Common.{◌∷◌, length, ⊎_elim, refl, subst, arith, lt_trans}
 use Rattle.std.proofs.Common.{eq-or-lt_of_le}
-use Rattle.std.specs.Prelude.{Contains, IsTrue, nat_lt, flat_map}
+use Rattle.std.specs.Prelude.{Contains, IsTrue, nat_lt}
 use Rattle.std.specs.List.{list_all, range_with_len}
 use Rattle.std.proofs.lemmas.Bool.{eq-eqb}
-use Rattle.sv_system.proofs.Lists.{Contains-head, Contains-later, Contains-nil, Contains-cases}
+use Rattle.sv_system.proofs.Lists.{Contains-head, Contains-later}
 use Rattle.sv_flat.specs.Design.{FlatDesign}
 use Rattle.sv_flat.specs.Processes.{signals_that}
 use Rattle.sv_flat.specs.Reads.{is_combinational, is_read_for, depth, order}
 use Rattle.sv_flat.specs.Loops.{reads_along, all_differ, is_circle, HasReadOrder}
-use Rattle.sv_flat.proofs.Members.{Contains-left, Contains-right, Contains-either}
+use Rattle.sv_flat.proofs.Members.{from_flat_map, to_flat_map}
 use Rattle.sv_flat.proofs.LeastSets.{in_those, those_pass}
 use Rattle.sv_flat.proofs.Depths.{first_of, second_of, is_below, reads_are_lower, depth_above_reads}
 use Rattle.sv_flat.proofs.Depths.{depth_at_most}
@@ -21,23 +21,6 @@ use Rattle.sv_flat.proofs.Depths.{depth_at_most}
 both : (a b : Bool) → IsTrue a → IsTrue b → IsTrue (a && b)
 both true b h k = k
 both false b h k = h
-
-in_flat_map : (f : ℕ → List ℕ) (xs : List ℕ) (x k : ℕ) → Contains xs x → Contains (f x) k →
-    Contains (flat_map f xs) k
-in_flat_map f [] x k at inside = absurd (Contains-nil x at)
-in_flat_map f (y ∷ xs) x k at inside = ⊎_elim
-    (λ e. Contains-left (f y) (flat_map f xs) k (subst (λ z. Contains (f z) k) (sym e) inside))
-    (λ later. Contains-right (f y) (flat_map f xs) k (in_flat_map f xs x k later inside))
-    (Contains-cases y xs x at)
-
-from_flat_map : (f : ℕ → List ℕ) (xs : List ℕ) (k : ℕ) → Contains (flat_map f xs) k →
-    (x : ℕ) × Contains xs x × Contains (f x) k
-from_flat_map f [] k at = absurd (Contains-nil k at)
-from_flat_map f (y ∷ xs) k at = ⊎_elim
-    (λ here. (y, Contains-head y xs, here))
-    (λ later. let found = from_flat_map f xs k later in
-    (found.0, Contains-later y xs found.0 found.1, found.2))
-    (Contains-either (f y) (flat_map f xs) k at)
 
 numbers_have : (a n k : ℕ) → a ≤ k → k < a + n → Contains (range_with_len a n) k
 numbers_have a zero k low high = absurd (omega arith)
@@ -92,7 +75,7 @@ module _ (design : FlatDesign) (ordered : HasReadOrder design) where
   order_has s comb =
       let above = depth_above_reads design ordered s comb in
       let most = depth_at_most design s in
-      in_flat_map (λ d. signals_that design (λ z.
+      to_flat_map (λ d. signals_that design (λ z.
       is_combinational design z && (depth design z == d)))
       (range_with_len 1 (length design.signals)) (depth design s) s
       (numbers_have 1 (length design.signals) (depth design s) (omega arith) (omega arith))

@@ -49,15 +49,15 @@ pub none_found : (b : Bool) → (IsTrue b → ⊥) → IsFalse b
 none_found true no_case = absurd (no_case refl)
 none_found false no_case = refl
 
-and_none_left : (a b : Bool) → IsFalse a → IsFalse (a && b)
+pub and_none_left : (a b : Bool) → IsFalse a → IsFalse (a && b)
 and_none_left true b h = absurd (false≢true (sym h))
 and_none_left false b h = refl
 
-and_none_right : (a b : Bool) → IsFalse b → IsFalse (a && b)
+pub and_none_right : (a b : Bool) → IsFalse b → IsFalse (a && b)
 and_none_right true b h = h
 and_none_right false b h = refl
 
-both_false : (a b : Bool) → IsFalse a → IsFalse b → IsFalse (a || b)
+pub both_false : (a b : Bool) → IsFalse a → IsFalse b → IsFalse (a || b)
 both_false true b first second = first
 both_false false b first second = second
 

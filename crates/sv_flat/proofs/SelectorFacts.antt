@@ -157,7 +157,7 @@ module _ (design : FlatDesign) (is_sound : IsTrue (sound design))
       not (is_proper_clock design z)) (clocks design) no_clock_faults t
       (Contains-from_holds (clocks design) t clock))
 
-  no_selector : (t : ℕ) → IsTrue (is_clock design t)
+  pub no_selector : (t : ℕ) → IsTrue (is_clock design t)
       → IsFalse (list_any (λ (signal : SignalForm). selects_by t signal.label) design.signals)
   no_selector t clock =
       let shape = is_one_bit_input design t && is_linked design t && agrees_with_earlier design t in

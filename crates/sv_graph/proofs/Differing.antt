@@ -56,7 +56,7 @@ not_held xs k out = ⊎_elim
 
 -- ---- ranges
 
-range_above : (a n k : ℕ) → Contains (range_with_len a n) k → a ≤ k
+pub range_above : (a n k : ℕ) → Contains (range_with_len a n) k → a ≤ k
 range_above a zero k at = absurd (Contains-nil k at)
 range_above a (suc n) k at = ⊎_elim
     (λ e. omega (arith, e))

@@ -1,11 +1,8 @@
 // The designs of a text.
-ghost use Rattle.std.specs.Prelude.{◌<◌, ◌^◌, length, IfSome, IsTrue};
-ghost use Rattle.sv_ast.specs.declared.modules.LatticeText.{LatticeText};
-
 use std::alloc::Global;
 use sv_ast::Text;
 use sv_design::Design;
-use sv_elab::elaborate;
+use sv_elab::{elaborate, has_few};
 use sv_flat::{Flat, sound};
 use sv_hints::{Origin, first_unbuilt};
 
@@ -28,19 +25,6 @@ pub fn admitted_design(alloc: Global, origin: &Origin) -> Option<Design> {
         Ok(design) => Some(design),
         Err(_) => None,
     }
-}
-
-// Whether the text has fewer pairs of points and label maps than elaboration can count.
-fn has_few(text: &Text) -> bool
-    ensures pairs { IsTrue result → IfSome text.now.lattice (λ (l : LatticeText).
-        length l.pairs.items < 2 ^ 32) }
-    ensures maps { IsTrue result → length text.now.maps.items < 2 ^ 32 }
-{
-    let few_pairs = match &text.lattice {
-        Some(lattice) => lattice.pairs.len() < 0x1_0000_0000,
-        None => true,
-    };
-    few_pairs && text.maps.len() < 0x1_0000_0000
 }
 
 // The flat design of a tree.

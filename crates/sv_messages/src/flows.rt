@@ -365,25 +365,19 @@ fn leak_words(
 
 // That a label tells what picks it.
 fn picked_words(alloc: Global, number: u32, names: LeakNames) -> Result<String, AllocError> {
-    let LeakNames {
-        target,
-        read,
-        from,
-        to,
-    } = names;
     told(
         alloc,
         "obligation {}: the label of `{}` tells `{}`, which picks it: at the printed values `{}` \
          is at `{}`, and `{}` at `{}`; pick a label by a signal that all may see who see `{}`",
         &[
             Hole::Number(number as u64),
-            target,
-            read,
-            read,
-            from,
-            target,
-            to,
-            target,
+            names.target,
+            names.read,
+            names.read,
+            names.from,
+            names.target,
+            names.to,
+            names.target,
         ],
     )
 }

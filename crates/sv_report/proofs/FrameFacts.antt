@@ -1,41 +1,23 @@
 -- What is settled after a simulation is loaded with the values of a valuation.
-use Rattle.std.proofs.Common.{◌≡◌, ℕ, ◌<◌, ◌&&◌, List, length, sym, ap, ◌∙◌, subst, ltb-true}
-use Rattle.std.specs.Prelude.{IsTrue}
+use Rattle.std.proofs.Common.{◌≡◌, ℕ, List, sym, ap, ◌∙◌, subst}
 use Rattle.sv_system.specs.System.{Environment, Settled}
 use Rattle.sv_system.specs.Schedules.{IsTheSettled}
 use Rattle.sv_flat.specs.declared.designs.Flat.{Flat}
-use Rattle.sv_flat.specs.Assigned.{assigns}
 use Rattle.sv_flat.specs.ByNumber.{by_number, FitSignals}
-use Rattle.sv_flat.specs.Design.{ProcessForm, FlatDesign}
+use Rattle.sv_flat.specs.Design.{FlatDesign}
 use Rattle.sv_flat.specs.FlatSystem.{flat_system}
 use Rattle.sv_flat.specs.Given.{FitListed, with_given, given}
-use Rattle.sv_flat.specs.Processes.{is_clocked, is_register}
 use Rattle.sv_flat.specs.SignalLists.{inputs, registers}
 use Rattle.sv_flat.specs.Views.{design_of}
-use Rattle.sv_flat.proofs.AdmittedFacts.{assigned_is_signal, clocked_is_process, body_is_sound}
-use Rattle.sv_flat.proofs.Depths.{first_of, second_of}
-use Rattle.sv_flat.proofs.LeastSets.{from_some, in_those}
 use Rattle.sv_design.specs.Designs.{IsDesign}
 use Rattle.sv_obl.specs.declared.valuations.Valuation.{Valuation as Listed}
 use Rattle.sv_obl.specs.declared.frames.Frame.{Frame}
 use Rattle.sv_obl.specs.Validity.{IsInFrame}
 use Rattle.sv_obl.specs.Valuations.{FitsDesign, valuation_of}
 use Rattle.sv_sim.proofs.GivenValues.{listed_value}
+use Rattle.sv_sim.proofs.OneDesign.{register_listed}
 
 module _ (design : FlatDesign) (is : IsDesign design) where
-  -- a register is a signal
-  register_inside : (s : ℕ) → IsTrue (is_register design s) → s < length design.signals
-  register_inside s register =
-      let found = from_some (λ (q : ProcessForm). is_clocked q.kind && assigns q.body s)
-      design.processes register in
-      let q = found.0 in
-      let at = clocked_is_process design is.is_sound is.is_admitted q found.1
-      (first_of (is_clocked q.kind) (assigns q.body s) found.2) in
-      ltb-true s (length design.signals)
-      (assigned_is_signal design.signals q.body
-      (body_is_sound design is.is_sound is.is_admitted q at) s
-      (second_of (is_clocked q.kind) (assigns q.body s) found.2))
-
   -- what is settled for the loaded registers is settled for those that are given
   pub settled_from : (values : List ℕ) (old loaded now e : Environment ℕ)
       → FitListed design.signals (registers design) values
@@ -47,8 +29,7 @@ module _ (design : FlatDesign) (is : IsDesign design) where
         the.settled.registers s register
         ∙ ap (λ f. f s) is_loaded
         ∙ listed_value (registers design) values s (old s) 0 fit.count
-        (in_those (length design.signals) (is_register design) s
-        (register_inside s register) register);
+        (register_listed design is.is_sound is.is_admitted s register);
     inputs_are = the.settled.inputs_are;
     fits = the.settled.fits;
     still = the.settled.still;

@@ -1,11 +1,11 @@
 -- Where a valuation falsifies an obligation there is a first read whose label does not flow.
 use Rattle.std.proofs.Common.{◌≡◌, ℕ, ◌<◌, Bool, true, false, not, cond, List, [], ◌∷◌, length}
-use Rattle.std.proofs.Common.{get_or, Option, Some, None, ⊎_elim, refl, sym, ap, ap₂, ◌∙◌}
+use Rattle.std.proofs.Common.{Option, Some, None, ⊎_elim, refl, sym, ap, ap₂, ◌∙◌}
 use Rattle.std.proofs.Common.{subst, lt-ltb}
 use Rattle.std.specs.Prelude.{Contains, All, IsTrue, find}
 use Rattle.std.proofs.lemmas.Bool.{false≢true}
-use Rattle.std.proofs.lemmas.List.{length-map, get_or-map}
-use Rattle.std.proofs.lemmas.List.Elements.{All-head, All-tail, All-get_or, All-from_get_or}
+use Rattle.std.proofs.lemmas.List.{length-map}
+use Rattle.std.proofs.lemmas.List.Elements.{All-head, All-tail}
 use Rattle.std.proofs.lemmas.List.Elements.{All-contains}
 use Rattle.sv_lattice.specs.declared.points.Point.{Point}
 use Rattle.sv_lattice.specs.Tables.{flow_test}
@@ -23,7 +23,7 @@ use Rattle.sv_flat.specs.Views.{design_of, signal_form}
 use Rattle.sv_flat.proofs.LeastSets.{those_below}
 use Rattle.sv_flat.proofs.SelectorFacts.{label_selected, selector_is_seen}
 use Rattle.sv_design.specs.Designs.{IsDesign}
-use Rattle.sv_design.specs.Numbers.{numbers, number_if_any}
+use Rattle.sv_design.specs.Numbers.{number_if_any}
 use Rattle.sv_sim.proofs.OneDesign.{design_ordered}
 use Rattle.sv_obl.specs.declared.frames.Frame.{Frame}
 use Rattle.sv_obl.specs.declared.frames.Frame.TheVariants.{Now, Next}
@@ -76,33 +76,6 @@ module _ (test : ℕ → Bool) where
   found_among P (z ∷ zs) y all is =
       among_next P (test z) z y zs refl (All-head P z zs all) is
       (λ found. found_among P zs y (All-tail P z zs all) found)
-
-number_of_either : (b : Bool) (s : SigId) (rest : Option SigId)
-    → number_if_any (cond b (Some s) rest) ≡ cond b (Some s.0) (number_if_any rest)
-number_of_either true s rest = refl
-number_of_either false s rest = refl
-
--- the first number that passes is that of the first signal whose number does
-pub find_numbers : (passes : ℕ → Bool) (listed : List SigId)
-    → number_if_any (find (λ (s : SigId). passes s.0) listed) ≡ find passes (numbers listed)
-find_numbers passes [] = refl
-find_numbers passes (s ∷ listed) =
-    number_of_either (passes s.0) s (find (λ (t : SigId). passes t.0) listed)
-    ∙ ap (cond (passes s.0) (Some s.0)) (find_numbers passes listed)
-
--- each listed signal is one
-pub listed_inside : (n : ℕ) (listed : List SigId) → All (λ (s : ℕ). s < n) (numbers listed)
-    → (k : ℕ) → k < length listed → (get_or listed k (record { 0 = 0 })).0 < n
-listed_inside n listed each k inside =
-    subst (λ s. s < n) (get_or-map (λ (s : SigId). s.0) listed k (record { 0 = 0 }) 0 inside)
-    (All-get_or (λ s. s < n) (numbers listed) k 0
-    (subst (λ m. k < m) (sym (length-map listed (λ (s : SigId). s.0))) inside) each)
-
-pub all_inside : (n : ℕ) (listed : List SigId) → All (λ (s : ℕ). s < n) (numbers listed)
-    → All (λ (s : SigId). s.0 < n) listed
-all_inside n listed each =
-    All-from_get_or (λ (s : SigId). s.0 < n) listed (record { 0 = 0 })
-    (listed_inside n listed each)
 
 -- a signal whose number is there is there
 some_number : (found : Option SigId) (n : ℕ) → number_if_any found ≡ Some n

@@ -2,7 +2,7 @@
 use Rattle.std.proofs.Common.{◌≡◌, ◌⊎◌, inl, inr, ⊎_elim, ℕ, ◌<◌, Bool, ◌==◌, ◌&&◌, not, nat_lt}
 use Rattle.std.proofs.Common.{ltb-true, List, [], ◌∷◌, ◌++◌, length, map, refl, sym, ap, ap₂, subst}
 use Rattle.std.proofs.Common.{arith, Some, None, Option}
-use Rattle.std.specs.Prelude.{IsTrue, IsFalse, IfSome, Contains, filter, flat_map, option_map}
+use Rattle.std.specs.Prelude.{IsTrue, IsFalse, IfSome, Contains, filter, option_map}
 use Rattle.std.specs.Prelude.{unwrap_or}
 use Rattle.std.specs.List.{list_all, filter_map, cons_option}
 use Rattle.std.proofs.lemmas.Bool.{eqb-true}
@@ -23,7 +23,7 @@ use Rattle.sv_flat.specs.Drivers.{clock_faults, extra_driver, driver_fault, driv
 use Rattle.sv_flat.specs.Drivers.{is_undriven, undriven}
 use Rattle.sv_flat.specs.Loops.{reads_along, all_differ, IsLoop}
 use Rattle.sv_flat.specs.Processes.{is_block, declared_at, signal_numbers, signals_that}
-use Rattle.sv_flat.specs.Readings.{readings, no_bits}
+use Rattle.sv_flat.specs.Readings.{Reading, readings, no_bits}
 use Rattle.sv_flat.specs.Reads.{is_combinational}
 use Rattle.sv_flat.specs.Soundness.{piece_fits, well_formed, kind_sound, statement_sound}
 use Rattle.sv_flat.specs.Soundness.{sound}
@@ -31,7 +31,7 @@ use Rattle.sv_flat.proofs.AdmittedFacts.{some_is_some, assigned_is_signal}
 use Rattle.sv_flat.proofs.Depths.{first_of, second_of, from_all, is_below}
 use Rattle.sv_flat.proofs.LeastSets.{or_cases, Contains-from_filter, those_below}
 use Rattle.sv_flat.proofs.LeastSets.{least_set_below}
-use Rattle.sv_flat.proofs.Members.{Contains-left, Contains-either}
+use Rattle.sv_flat.proofs.Members.{Contains-left, Contains-either, from_flat_map}
 use Rattle.sv_flat.proofs.SameRuns.{none_found}
 use Rattle.sv_rules.specs.declared.found.Found.{Found}
 use Rattle.sv_rules.specs.First.{breach_of, IsFirst, FindsFirst}
@@ -46,20 +46,12 @@ further : {X : Type 0} (P : X → Type 0) (x : X) (xs : List X) → (z : X) × C
     (z : X) × Contains (x ∷ xs) z × P z
 further P x xs found = (found.0, Contains-later x xs found.0 found.1, found.2)
 
-from_flat_map : {X Y : Type 0} (f : X → List Y) (xs : List X) (y : Y) → Contains (flat_map f xs) y
-    → (x : X) × Contains xs x × Contains (f x) y
-from_flat_map f [] y at = absurd (Contains-nil y at)
-from_flat_map f (x ∷ xs) y at = ⊎_elim
-    (λ l. (x, Contains-head x xs, l))
-    (λ r. further (λ z. Contains (f z) y) x xs (from_flat_map f xs y r))
-    (Contains-either (f x) (flat_map f xs) y at)
-
-from_option : {Y : Type 0} (o : Option Y) (ys : List Y) (y : Y) → Contains (cons_option o ys) y →
-    (o ≡ Some y) ⊎ Contains ys y
+pub from_option : {Y : Type 0} (o : Option Y) (ys : List Y) (y : Y) → Contains (cons_option o ys) y
+    → (o ≡ Some y) ⊎ Contains ys y
 from_option None ys y at = inr at
 from_option (Some z) ys y at = ⊎_elim (λ e. inl (ap Some e)) (λ l. inr l) (Contains-cases z ys y at)
 
-from_filter_map : {X Y : Type 0} (f : X → Option Y) (xs : List X) (y : Y)
+pub from_filter_map : {X Y : Type 0} (f : X → Option Y) (xs : List X) (y : Y)
     → Contains (filter_map f xs) y → (x : X) × Contains xs x × (f x ≡ Some y)
 from_filter_map f [] y at = absurd (Contains-nil y at)
 from_filter_map f (x ∷ xs) y at = ⊎_elim
@@ -68,7 +60,7 @@ from_filter_map f (x ∷ xs) y at = ⊎_elim
     (from_option (f x) (filter_map f xs) y at)
 
 -- what is made of some element is made of one
-made_of : {X Y : Type 0} (f : X → Y) (o : Option X) (y : Y) → option_map f o ≡ Some y →
+pub made_of : {X Y : Type 0} (f : X → Y) (o : Option X) (y : Y) → option_map f o ≡ Some y →
     (x : X) × (f x ≡ y)
 made_of f None y e = absurd (some_is_some y (sym e))
 made_of f (Some x) y e = (x, ap (λ o. unwrap_or o (f x)) e)
@@ -142,6 +134,49 @@ three_empty : {X : Type 0} (xs ys zs : List X) → xs ≡ [] → ys ≡ [] → z
 three_empty xs ys zs first second third =
     both_empty (xs ++ ys) zs (both_empty xs ys first second) third
 
+-- what a breach of a rule on processes tells of
+module _ (design : FlatDesign) where
+  pub wrong_assign_at : (b : Breach) → Contains (wrong_assigns design) b
+      → (p : ProcessForm) × Contains design.processes p × (t : TargetForm)
+      × Contains (filter (is_wrong_target design p.kind) (targets p.body)) t
+      × (target_breach t ≡ b)
+  wrong_assign_at b at =
+      let process = from_flat_map (λ (p : ProcessForm).
+      map target_breach (filter (is_wrong_target design p.kind) (targets p.body)))
+      design.processes b at in
+      let p = process.0 in
+      let target = Contains-from_map target_breach
+      (filter (is_wrong_target design p.kind) (targets p.body)) b process.2 in
+      (p, process.1, target.0, target.1, target.2)
+
+  pub latch_at : (b : Breach) → Contains (latches design) b
+      → (p : ProcessForm) × Contains (blocks design) p × (s : ℕ)
+      × Contains (signals_that design (is_latched design.signals p.body)) s
+      × (breach 605 p.place s ≡ b)
+  latch_at b at =
+      let block = from_flat_map (λ (p : ProcessForm).
+      map (breach 605 p.place) (signals_that design (is_latched design.signals p.body)))
+      (blocks design) b at in
+      let p = block.0 in
+      let signal = Contains-from_map (breach 605 p.place)
+      (signals_that design (is_latched design.signals p.body)) b block.2 in
+      (p, block.1, signal.0, signal.1, signal.2)
+
+  pub phase_fault_at : (b : Breach) → Contains (phase_faults design) b
+      → (p : ProcessForm) × Contains (blocks design) p × (r : Reading)
+      × Contains (filter (is_out_of_phase design.signals p.body)
+      (readings design.signals p.body no_bits no_bits)) r × (phase_breach r ≡ b)
+  phase_fault_at b at =
+      let block = from_flat_map (λ (p : ProcessForm). map phase_breach
+      (filter (is_out_of_phase design.signals p.body)
+      (readings design.signals p.body no_bits no_bits)))
+      (blocks design) b at in
+      let p = block.0 in
+      let read = Contains-from_map phase_breach
+      (filter (is_out_of_phase design.signals p.body)
+      (readings design.signals p.body no_bits no_bits)) b block.2 in
+      (p, block.1, read.0, read.1, read.2)
+
 module _ (design : FlatDesign) (is_sound : IsTrue (sound design)) where
   body_is_sound : (p : ProcessForm) → Contains design.processes p →
       IsTrue (statement_sound design.signals p.body)
@@ -151,17 +186,13 @@ module _ (design : FlatDesign) (is_sound : IsTrue (sound design)) where
 
   wrong_assigns_are : (b : Breach) → Contains (wrong_assigns design) b → IsOf design 601 b
   wrong_assigns_are b at =
-      let process = from_flat_map (λ (p : ProcessForm).
-      map target_breach (filter (is_wrong_target design p.kind) (targets p.body)))
-      design.processes b at in
-      let p = process.0 in
-      let target = Contains-from_map target_breach
-      (filter (is_wrong_target design p.kind) (targets p.body)) b process.2 in
-      let t = target.0 in
+      let found = wrong_assign_at design b at in
+      let p = found.0 in
+      let t = found.2 in
       one_is_of design 601 t.piece.place t.piece.signal b
-      (target_is_signal design.signals p.body (body_is_sound p process.1) t
-      (Contains-from_filter (is_wrong_target design p.kind) (targets p.body) t target.1).1)
-      target.2
+      (target_is_signal design.signals p.body (body_is_sound p found.1) t
+      (Contains-from_filter (is_wrong_target design p.kind) (targets p.body) t found.3).1)
+      found.4
 
   clock_is_signal : (s : ℕ) → Contains (clocks design) s → s < length design.signals
   clock_is_signal s at =
@@ -197,38 +228,29 @@ module _ (design : FlatDesign) (is_sound : IsTrue (sound design)) where
 
   latches_are : (b : Breach) → Contains (latches design) b → IsOf design 605 b
   latches_are b at =
-      let block = from_flat_map (λ (p : ProcessForm).
-      map (breach 605 p.place) (signals_that design (is_latched design.signals p.body)))
-      (blocks design) b at in
-      let p = block.0 in
-      let signal = Contains-from_map (breach 605 p.place)
-      (signals_that design (is_latched design.signals p.body)) b block.2 in
-      one_is_of design 605 p.place signal.0 b
-      (those_below (length design.signals) (is_latched design.signals p.body) signal.0 signal.1)
-      signal.2
+      let found = latch_at design b at in
+      let p = found.0 in
+      one_is_of design 605 p.place found.2 b
+      (those_below (length design.signals) (is_latched design.signals p.body) found.2 found.3)
+      found.4
 
   phase_faults_are : (b : Breach) → Contains (phase_faults design) b → IsOf design 606 b
   phase_faults_are b at =
-      let block = from_flat_map (λ (p : ProcessForm). map phase_breach
-      (filter (is_out_of_phase design.signals p.body)
-      (readings design.signals p.body no_bits no_bits)))
-      (blocks design) b at in
-      let p = block.0 in
-      let all = readings design.signals p.body no_bits no_bits in
-      let read = Contains-from_map phase_breach
-      (filter (is_out_of_phase design.signals p.body) all) b block.2 in
-      let r = read.0 in
+      let found = phase_fault_at design b at in
+      let p = found.0 in
+      let r = found.2 in
       let process =
       (Contains-from_filter (λ (q : ProcessForm). is_block q.kind) design.processes p
-      block.1).1 in
+      found.1).1 in
       let wrong =
-      (Contains-from_filter (is_out_of_phase design.signals p.body) all r read.1).0 in
+      (Contains-from_filter (is_out_of_phase design.signals p.body)
+      (readings design.signals p.body no_bits no_bits) r found.3).0 in
       one_is_of design 606 r.name.place r.name.signal b
       (ltb-true r.name.signal (length design.signals)
       (assigned_is_signal design.signals p.body (body_is_sound p process) r.name.signal
       (first_of (assigns p.body r.name.signal)
       (is_unassigned design.signals r) wrong)))
-      read.2
+      found.4
 
   loop_is : (b : Breach) → IsLoop design b → IsOf design 607 b
   loop_is b (first, signals, circle, is) = record {

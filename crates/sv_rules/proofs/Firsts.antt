@@ -20,15 +20,15 @@ use Rattle.sv_rules.specs.First.{breach_of, IsFirst, FindsFirst, found_before, f
 
 -- ---- two numbers, then something else
 
-or_left : (a b : Bool) → IsTrue a → IsTrue (a || b)
+pub or_left : (a b : Bool) → IsTrue a → IsTrue (a || b)
 or_left true b h = refl
 or_left false b h = absurd (false≢true h)
 
-or_right : (a b : Bool) → IsTrue b → IsTrue (a || b)
+pub or_right : (a b : Bool) → IsTrue b → IsTrue (a || b)
 or_right true b h = refl
 or_right false b h = h
 
-and_both : (a b : Bool) → IsTrue a → IsTrue b → IsTrue (a && b)
+pub and_both : (a b : Bool) → IsTrue a → IsTrue b → IsTrue (a && b)
 and_both true b h k = k
 and_both false b h k = h
 
@@ -45,7 +45,7 @@ split a b next h = ⊎_elim
     (λ r. inr (eqb-true a b (first_of (a == b) next r), second_of (a == b) next r))
     (or_cases (nat_lt a b) ((a == b) && next) h)
 
-compare : (a b : ℕ) → (a < b) ⊎ ((a ≡ b) ⊎ (b < a))
+pub compare : (a b : ℕ) → (a < b) ⊎ ((a ≡ b) ⊎ (b < a))
 compare a b = ⊎_elim
     (λ l. inl (ltb-true a b l))
     (λ n. ⊎_elim

@@ -1,10 +1,9 @@
 -- Each table of a flat design is that of a label map of the text.
-use Rattle.std.proofs.Common.{◌≡◌, ℕ, ◌+◌, ◌^◌, ◌<◌, List, [], ◌∷◌, ◌++◌, map, Option, Some, None}
+use Rattle.std.proofs.Common.{◌≡◌, ℕ, ◌+◌, ◌^◌, ◌<◌, List, [], ◌∷◌, map, Option, Some, None}
 use Rattle.std.proofs.Common.{sym, ap, subst, ◌∙◌, arith}
-use Rattle.std.specs.Prelude.{◌&&◌, ◌||◌, not, nat_le, is_some, unwrap_or, option_map, Ok}
+use Rattle.std.specs.Prelude.{unwrap_or, option_map}
 use Rattle.std.specs.Prelude.{IsTrue}
 use Rattle.std.specs.List.{slice_get, AllZip}
-use Rattle.std.proofs.lemmas.List.{append_assoc, append-nil}
 use Rattle.sv_num.proofs.BitsLemmas.{joined_low}
 use Rattle.sv_lattice.specs.Maps.{MapRows, row_of, pair_value}
 use Rattle.sv_ast.specs.Tree.{SpanTree, MapTree, TextTree}
@@ -12,61 +11,14 @@ use Rattle.sv_ast.specs.Processes.{Process}
 use Rattle.sv_ast.specs.Shape.{is_shaped}
 use Rattle.sv_ast.specs.SourceLabels.{points, row_at}
 use Rattle.sv_flat.specs.Design.{FlatDesign}
-use Rattle.sv_elab_rules.specs.Walks.{ask}
-use Rattle.sv_elab_rules.specs.Rules.{map_name, map_row, map_hole}
-use Rattle.sv_elab_rules.specs.LabelMaps.{is_map, is_map_range, is_second_range, rows_walk, default_walk}
-use Rattle.sv_elab_rules.specs.LabelMaps.{all_rows, has_all_rows, map_walk, maps_walk}
 use Rattle.sv_elab_rules.specs.LabelSteps.{SharedTables}
 use Rattle.sv_elab_rules.specs.Texts.{flat_of}
-use Rattle.sv_elab_rules.proofs.WalkLemmas.{parts_done}
 use Rattle.sv_elab_laws.specs.FlattenedTexts.{ItemNumbersFit, EachItem}
-use Rattle.sv_elab_laws.proofs.PartsDeclared.{same_ok}
 use Rattle.sv_elab_laws.proofs.PartsShapes.{all_flattened}
 use Rattle.sv_elab_laws.proofs.PartsTexts.{Beside, made_beside}
 use Rattle.sv_elab_laws.proofs.JoinedLattice.{IsPointNumber, order_of, number_at, one_point}
 use Rattle.sv_elab_laws.proofs.JoinedMaps.{IsMapOf, maps_done, SecondFits, selected_value, same_row}
 use Rattle.sv_run_laws.specs.LabelRows.{selector_width, IsTableOf}
-
--- ---- lengths
-
-abbrev HasWidths : MapTree → List ℕ × MapRows → Type 0
-HasWidths t m =
-    (m.1.first ≡ selector_width t.span) × (m.1.second ≡ option_map selector_width t.second)
-
-widths_done : (points : List (List ℕ)) (earlier : List (List ℕ × MapRows)) (t : MapTree)
-    (m : MapRows) → (map_walk points earlier t).end ≡ Ok m → HasWidths t (t.name, m)
-unfolding map_walk
-widths_done points earlier t m h =
-    let first = selector_width t.span in
-    let second = option_map selector_width t.second in
-    let bits = first + unwrap_or second 0 in
-    let fresh = parts_done (ask (not (is_map earlier t.name)) (map_name t.place t.name)) _ m h in
-    let range = parts_done
-    (ask (is_map_range t.span && is_second_range t.second && nat_le bits 8)
-    (map_row t.place t.name)) _ m fresh.2 in
-    let rows = parts_done (rows_walk points t first second [] t.rows) _ m range.2 in
-    let other = parts_done (default_walk points t t.other) _ m rows.2 in
-    let whole = parts_done
-    (ask (is_some other.0 || has_all_rows bits rows.0) (map_hole t.place t.name)) _ m other.2 in
-    let made : MapRows =
-    record { first = first; second = second; rows = all_rows bits rows.0 other.0 } in
-    let is : made ≡ m = same_ok made m whole.2 in
-    (ap (λ (z : MapRows). z.first) (sym is), ap (λ (z : MapRows). z.second) (sym is))
-
-all_widths : (points : List (List ℕ)) (ts : List MapTree) (earlier all : List (List ℕ × MapRows))
-    → (maps_walk points earlier ts).end ≡ Ok all
-    → (new : List (List ℕ × MapRows)) × (all ≡ earlier ++ new) × AllZip HasWidths ts new
-unfolding maps_walk
-all_widths points [] earlier all h =
-    ([], sym (same_ok earlier all h) ∙ sym (append-nil earlier), tt)
-all_widths points (t ∷ ts) earlier all h =
-    let first = parts_done (map_walk points earlier t) (λ rows.
-    maps_walk points (earlier ++ (t.name, rows) ∷ []) ts) all h in
-    let rest = all_widths points ts (earlier ++ (t.name, first.0) ∷ []) all first.2 in (
-      (t.name, first.0) ∷ rest.0,
-      rest.1 ∙ append_assoc earlier ((t.name, first.0) ∷ []) rest.0,
-      (widths_done points earlier t first.0 first.1, rest.2),
-    )
 
 -- ---- rows
 
@@ -77,12 +29,15 @@ is_point_at ps (Some n) k h = sym (number_at ps n k (h []))
 is_point_at ps None k h =
     absurd (let same : [] ≡ 0 ∷ [] = one_point ps [] (0 ∷ []) k (h []) (h (0 ∷ [])) in cc same)
 
-module _ (text : TextTree) (t : MapTree) (m : List ℕ × MapRows) (widths : HasWidths t m)
+module _ (text : TextTree) (t : MapTree) (m : List ℕ × MapRows)
     (is : IsMapOf (points text) t m) where
+  second_is : m.1.second ≡ option_map selector_width t.second
+  second_is = is.second_is
+
   one_row : (v : ℕ) → t.second ≡ None → v < 2 ^ m.1.first
       → row_at t v None ≡ slice_get (points text) (row_of m.1 v).0
   one_row v alone below =
-      let none : m.1.second ≡ None = widths.1 ∙ ap (option_map selector_width) alone in
+      let none : m.1.second ≡ None = second_is ∙ ap (option_map selector_width) alone in
       is_point_at (points text) (row_at t v None) (row_of m.1 v).0
       (same_row (points text) t m is v None (subst (λ o. SecondFits o None) (sym none) tt)
       (subst (λ o. v < 2 ^ (m.1.first + unwrap_or o 0)) (sym none)
@@ -93,7 +48,7 @@ module _ (text : TextTree) (t : MapTree) (m : List ℕ × MapRows) (widths : Has
       → row_at t v (Some w) ≡ slice_get (points text) (row_of m.1 (pair_value m.1 v w)).0
   two_rows v w span has low other_low =
       let some : m.1.second ≡ Some (selector_width span) =
-      widths.1 ∙ ap (option_map selector_width) has in
+      second_is ∙ ap (option_map selector_width) has in
       is_point_at (points text) (row_at t v (Some w)) (row_of m.1 (pair_value m.1 v w)).0
       (same_row (points text) t m is v (Some w)
       (subst (λ o. SecondFits o (Some w)) (sym some) other_low)
@@ -102,33 +57,30 @@ module _ (text : TextTree) (t : MapTree) (m : List ℕ × MapRows) (widths : Has
 
   is_table : IsTableOf text t m.1
   is_table = record {
-    first = widths.0;
-    second = widths.1;
+    first = is.first_is;
+    second = second_is;
     row = one_row;
     row_of_two = two_rows;
   }
 
 zip_tables : (text : TextTree) (ts : List MapTree) (ms : List (List ℕ × MapRows))
-    → AllZip HasWidths ts ms → AllZip (IsMapOf (points text)) ts ms
+    → AllZip (IsMapOf (points text)) ts ms
     → AllZip (IsTableOf text) ts (map (λ (m : List ℕ × MapRows). m.1) ms)
-zip_tables text [] [] h k = tt
-zip_tables text [] (m ∷ ms) h k = absurd h
-zip_tables text (t ∷ ts) [] h k = absurd h
-zip_tables text (t ∷ ts) (m ∷ ms) h k =
-    (is_table text t m h.0 k.0, zip_tables text ts ms h.1 k.1)
+zip_tables text [] [] h = tt
+zip_tables text [] (m ∷ ms) h = absurd h
+zip_tables text (t ∷ ts) [] h = absurd h
+zip_tables text (t ∷ ts) (m ∷ ms) h = (is_table text t m h.0, zip_tables text ts ms h.1)
 
 module _ (text : TextTree) (top : Option (List ℕ)) (design : FlatDesign)
     {qs : List Process} (side : Beside text top qs design) where
   tables_beside : AllZip (IsTableOf text) text.maps design.maps
   tables_beside =
       let order_is = order_of text side.order side.lattice in
-      let widths = all_widths side.order.points text.maps [] side.maps side.maps_walked in
       let maps = maps_done side.order.points text.maps [] side.maps side.maps_walked in
       let maps_are : design.maps ≡ map (λ (m : List ℕ × MapRows). m.1) side.maps =
       side.design_maps ∙ ap (λ (t : SharedTables). t.maps) side.tables_are in
       subst (AllZip (IsTableOf text) text.maps) (sym maps_are)
       (zip_tables text text.maps side.maps
-      (subst (AllZip HasWidths text.maps) (sym widths.1) widths.2)
       (subst (λ ps. AllZip (IsMapOf ps) text.maps side.maps) (sym order_is.points_are)
       (subst (AllZip (IsMapOf side.order.points) text.maps) (sym maps.1) maps.2)))
 

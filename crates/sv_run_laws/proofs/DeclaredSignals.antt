@@ -24,22 +24,22 @@ use Rattle.sv_ast.specs.SourceLabels.{points, pairs, least}
 use Rattle.sv_flat.specs.declared.signals.SigKind.TheVariants as kinds
 use Rattle.sv_flat.specs.Design.{SignalForm, FlatDesign}
 use Rattle.sv_elab_rules.specs.Walks.{ask, found}
-use Rattle.sv_elab_rules.specs.Rules.{no_top, bad_label}
+use Rattle.sv_elab_rules.specs.Rules.{bad_label}
 use Rattle.sv_elab_rules.specs.Names.{Names}
-use Rattle.sv_elab_rules.specs.Lattices.{lattice_walk, point_number, least_point}
-use Rattle.sv_elab_rules.specs.LabelMaps.{maps_walk}
+use Rattle.sv_elab_rules.specs.Lattices.{point_number, least_point}
 use Rattle.sv_elab_rules.specs.LabelSteps.{SharedTables, second_selector, same_number, second_fits}
 use Rattle.sv_elab_rules.specs.LabelSteps.{second_number, label_walk}
 use Rattle.sv_elab_rules.specs.Declarations.{Site, kind_of}
 use Rattle.sv_elab_rules.specs.InstanceSteps.{Built}
-use Rattle.sv_elab_rules.specs.Texts.{module_names, top_walk, tables_of, design_of, walk_of, flat_of}
+use Rattle.sv_elab_rules.specs.Texts.{top_walk, tables_of, flat_of}
 use Rattle.sv_elab_rules.proofs.WalkLemmas.{parts_done, asked_true, found_some}
 use Rattle.sv_elab_laws.specs.FlattenedTexts.{ItemNumbersFit, EachItem}
 use Rattle.sv_elab_laws.proofs.PartsDeclared.{same_ok}
 use Rattle.sv_elab_laws.proofs.PartsNamed.{IsNamed}
 use Rattle.sv_elab_laws.proofs.PartsGrown.{LabelFound, IsForm, number_of_name}
 use Rattle.sv_elab_laws.proofs.PartsShapes.{all_flattened}
-use Rattle.sv_elab_laws.proofs.PartsTexts.{Beside, made_beside, value_is}
+use Rattle.sv_elab_laws.proofs.PartsTexts.{Beside, made_beside}
+use Rattle.sv_elab_laws.proofs.PartsWalked.{walked_text}
 use Rattle.sv_elab_laws.proofs.JoinedLattice.{IsOrderFrom, order_of, number_at}
 use Rattle.sv_elab_laws.proofs.JoinedLeast.{least_number}
 use Rattle.sv_elab_laws.proofs.JoinedMaps.{IsMapOf, maps_done}
@@ -66,20 +66,11 @@ module _ (text : TextTree) (top : Option (List ℕ)) where
 
   pub design_plain : (design : FlatDesign) → flat_of text top ≡ Some design
       → map plain_form design.signals ≡ map plain_source (text_signals text top)
-  unfolding walk_of
   design_plain design h =
-      let walked = value_is (walk_of text top).end design h in
-      let lattice = parts_done (lattice_walk text.lattice) _ design walked in
-      let order = lattice.0 in
-      let mapped = parts_done (maps_walk order.points [] text.maps) _ design lattice.2 in
-      let named = parts_done (module_names [] text.modules) _ design mapped.2 in
-      let topped = parts_done (found (top_module text.modules top) no_top) _ design named.2 in
-      let tables = tables_of text.modules order mapped.0 in
-      let built = parts_done (top_walk tables topped.0) _ design topped.2 in
-      ap (λ (d : FlatDesign). map plain_form d.signals)
-      (sym (same_ok (design_of order tables built.0) design built.2))
-      ∙ top_plain tables topped.0 built.0 refl
-      (found_some (top_module text.modules top) no_top topped.0 topped.1) built.1
+      let w = walked_text text top design h in
+      ap (λ (d : FlatDesign). map plain_form d.signals) (sym w.is)
+      ∙ top_plain (tables_of text.modules w.order w.maps) w.master w.built refl w.is_top
+      w.top_walked
 
 -- ---- kinds
 

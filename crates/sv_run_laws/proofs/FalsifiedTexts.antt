@@ -23,7 +23,6 @@ use Rattle.sv_flat.specs.Selectors.{selectors_of, always_flows}
 use Rattle.sv_flat.specs.Values.{signal_of}
 use Rattle.sv_flat.proofs.LeastSets.{those_below, Contains-from_filter}
 use Rattle.sv_flat.proofs.SelectorFacts.{selector_is_seen}
-use Rattle.sv_elab_rules.specs.LabelSteps.{SharedTables}
 use Rattle.sv_elab_rules.specs.Texts.{flat_of}
 use Rattle.sv_elab_laws.specs.FlattenedTexts.{CanBeFlattened}
 use Rattle.sv_elab_laws.specs.InOrder.{SettledAlike}
@@ -32,14 +31,13 @@ use Rattle.sv_elab_laws.proofs.JoinedClocks.{sizes}
 use Rattle.sv_elab_laws.proofs.JoinedLabels.{same_label}
 use Rattle.sv_elab_laws.proofs.JoinedLattice.{IsPointNumber, IsOrderFrom, order_of, flows_same}
 use Rattle.sv_elab_laws.proofs.JoinedLattice.{known_points}
-use Rattle.sv_elab_laws.proofs.JoinedLeast.{least_number}
+use Rattle.sv_elab_laws.proofs.JoinedLeast.{least_beside}
 use Rattle.sv_elab_laws.proofs.JoinedNumbers.{at_number, to_is, from_is}
 use Rattle.sv_elab_laws.proofs.JoinedRuns.{source_system, path_to}
 use Rattle.sv_elab_laws.proofs.JoinedSchedules.{settled_alike}
 use Rattle.sv_elab_laws.proofs.JoinedWhole.{flattened_named}
-use Rattle.sv_elab_laws.proofs.PartsLists.{contains_either}
+use Rattle.sv_flat.proofs.Members.{Contains-either as contains_either, from_flat_map}
 use Rattle.sv_elab_laws.proofs.PartsMaps.{same_some}
-use Rattle.sv_elab_laws.proofs.PartsPaths.{from_flat_map}
 use Rattle.sv_elab_laws.proofs.PartsShapes.{flattened}
 use Rattle.sv_elab_laws.proofs.PartsTexts.{SideBySide, side_by_side}
 use Rattle.sv_elab_laws.proofs.SoundDesigns.{design_sound}
@@ -203,9 +201,7 @@ module _ (text : TextTree) (asked : Option (List ℕ)) (design : FlatDesign)
   order_is = order_of text side.order side.lattice
 
   least_in : IsPointNumber side.order.points (least text) side.tables.least
-  least_in =
-      least_number text side.order order_is side.lattice
-      ∙ ap (λ (t : SharedTables). Some t.least) (sym side.tables_are)
+  least_in = least_beside text asked design side
 
   label_is : (e : Environment ℕ) (g : Environment Path) → AgreeAt e g → (k : ℕ) (a : PartSignal)
       → slice_get signals k ≡ Some a → k < length design.signals

@@ -40,8 +40,7 @@ use Rattle.sv_width.specs.WrittenLengths.{AllHaveLengths, ValueHasLengths, Overr
 use Rattle.sv_width.specs.WrittenLengths.{LinksHaveLengths, ItemHasLengths, ModuleHasLengths}
 use Rattle.sv_width.specs.WrittenLengths.{TextHasLengths}
 use Rattle.sv_elab_laws.specs.FlattenedTexts.{ItemNumbersFit, EachItem}
-use Rattle.sv_elab_laws.proofs.PartsLists.{contains_either}
-use Rattle.sv_elab_laws.proofs.PartsPaths.{from_flat_map}
+use Rattle.sv_flat.proofs.Members.{Contains-either as contains_either, from_flat_map}
 use Rattle.sv_run_laws.proofs.FineTokens.{AreFine, tokens_fine}
 use Rattle.sv_run_laws.proofs.FineForms.{Keeps, Gives, Each, lexeme_kept, number_given, word_kept}
 use Rattle.sv_run_laws.proofs.FineForms.{sign_kept, name_kept, a_name_kept, a_number_kept}

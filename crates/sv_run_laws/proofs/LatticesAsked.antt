@@ -1,5 +1,5 @@
 -- What the walk asks of the lattice of a text makes its points a lattice.
-use Rattle.std.proofs.Common.{◌≡◌, ℕ, ◌<◌, Bool, true, List, [], ◌∷◌, ◌++◌, map, length}
+use Rattle.std.proofs.Common.{◌≡◌, ℕ, ◌<◌, Bool, true, List, [], ◌∷◌, map, length}
 use Rattle.std.proofs.Common.{Option, Some, None, refl, sym, ap, subst, ◌∙◌, arith}
 use Rattle.std.specs.Prelude.{◌==◌, ◌&&◌, nat_le, slice_index, bit_and, Ok}
 use Rattle.std.specs.List.{list_all}
@@ -14,19 +14,19 @@ use Rattle.sv_ast.specs.SourceLabels.{points, pairs}
 use Rattle.sv_flat.proofs.Depths.{from_all}
 use Rattle.sv_flat.proofs.LeastSets.{range_has}
 use Rattle.sv_elab_rules.specs.Walks.{WalkStep, ask, each}
-use Rattle.sv_elab_rules.specs.Rules.{lattice_size, circle, no_join, no_meet}
+use Rattle.sv_elab_rules.specs.Rules.{circle, no_join, no_meet}
 use Rattle.sv_elab_rules.specs.CaseChains.{numbers_below}
 use Rattle.sv_elab_rules.specs.Lattices.{PointOrder, contains, are_apart, have_join, turned}
-use Rattle.sv_elab_rules.specs.Lattices.{pairs_below, pair_steps, order_steps, answered}
-use Rattle.sv_elab_rules.specs.Lattices.{in_textual_order}
-use Rattle.sv_elab_rules.specs.Lattices.{point_questions, pair_questions, point_names, declared_order}
-use Rattle.sv_elab_rules.specs.Lattices.{two_points, checked_order, lattice_walk}
+use Rattle.sv_elab_rules.specs.Lattices.{pairs_below, pair_steps, order_steps}
+use Rattle.sv_elab_rules.specs.Lattices.{declared_order}
+use Rattle.sv_elab_rules.specs.Lattices.{two_points, lattice_walk}
 use Rattle.sv_elab_rules.proofs.WalkLemmas.{parts_done, asked_true}
-use Rattle.sv_elab_laws.proofs.LatticeTests.{and_test, some_below, apart_test, turned_length}
+use Rattle.sv_lattice.proofs.BoundLemmas.{and_test}
+use Rattle.sv_elab_laws.proofs.LatticeTests.{some_below, apart_test, turned_length}
 use Rattle.sv_elab_laws.proofs.LatticeTests.{turned_test}
 use Rattle.sv_elab_laws.proofs.PartsDeclared.{same_ok}
-use Rattle.sv_elab_laws.proofs.PartsPaths.{to_flat_map}
-use Rattle.sv_elab_laws.proofs.JoinedLattice.{IsOrderFrom, order_of, exact_table}
+use Rattle.sv_flat.proofs.Members.{to_flat_map}
+use Rattle.sv_elab_laws.proofs.JoinedLattice.{IsOrderFrom, order_of, exact_table, lattice_asked}
 
 -- ---- questions that are passed
 
@@ -70,7 +70,7 @@ record IsAsked (order : PointOrder) : Type 0 where
 
 all_asked : (l : Option LatticeTree) (order : PointOrder) → (lattice_walk l).end ≡ Ok order →
     IsAsked order
-unfolding lattice_walk checked_order order_steps
+unfolding lattice_walk order_steps
 all_asked None order h =
     subst IsAsked (same_ok two_points order h) (record {
       count = (omega arith, omega arith);
@@ -79,20 +79,15 @@ all_asked None order h =
       meets = refl;
     })
 all_asked (Some t) order h =
-    let test = nat_le 1 (length t.points) && nat_le (length t.points) 32 in
-    let size = parts_done (ask test (lattice_size t.place)) _ order h in
-    let questions = point_questions [] t.points ++ pair_questions (point_names t) t.pairs in
-    let names = parts_done (each answered (in_textual_order questions)) _ order size.2 in
     let own = declared_order t in
-    let steps = parts_done (order_steps t.place own.points own.table (turned own.table)) _ order
-    names.2 in
+    let asked = lattice_asked t order h in
     let aparts = parts_done (pair_steps (are_apart own.table) (circle t.place) own.points) _ tt
-    steps.1 in
+    asked.ordered in
     let joins = parts_done (pair_steps (have_join own.table) (no_join t.place) own.points) _ tt
     aparts.2 in
     let count = and_parts (nat_le 1 (length t.points)) (nat_le (length t.points) 32)
-    (asked_true test (lattice_size t.place) size.1) in
-    subst IsAsked (same_ok own order steps.2) (record {
+    asked.counted in
+    subst IsAsked asked.is (record {
       count =
           subst IsPointCount (sym (length-map t.points (λ (p : PlacedName). p.name)))
           (leb-true 1 (length t.points) count.0, leb-true (length t.points) 32 count.1);

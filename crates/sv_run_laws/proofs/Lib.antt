@@ -8,6 +8,7 @@ pub mod FineForms
 pub mod FineStatements
 pub mod FineTexts
 pub mod TextLaws
+pub mod CarriedTraces
 pub mod SameSimulations
 pub mod TextNames
 pub mod TextSimulations

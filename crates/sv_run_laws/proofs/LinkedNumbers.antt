@@ -19,10 +19,10 @@ use Rattle.sv_ast.specs.Processes.{Process, combinational, clocked, linking}
 use Rattle.sv_flat.specs.Design.{ProcessForm, FlatDesign}
 use Rattle.sv_flat.specs.Clocks.{whole_link, is_port_in, link_in, links_in}
 use Rattle.sv_elab_laws.proofs.PartsLists.{zip_right, get_contains, contains_get, get_left, get_map}
-use Rattle.sv_elab_laws.proofs.PartsLists.{get_below, contains_left, differ_places, StandsAt}
+use Rattle.sv_elab_laws.proofs.PartsLists.{get_below, differ_places, StandsAt}
+use Rattle.sv_flat.proofs.Members.{Contains-left as contains_left, from_flat_map, to_flat_map}
 use Rattle.sv_elab_laws.proofs.PartsLists.{stands_whole, stands_split, stands_get}
 use Rattle.sv_elab_laws.proofs.PartsNamed.{from_filter_map, to_filter_map}
-use Rattle.sv_elab_laws.proofs.PartsPaths.{from_flat_map, to_flat_map}
 use Rattle.sv_elab_laws.proofs.PartsGrown.{IsFlat, IsLink, source_of_name}
 use Rattle.sv_elab_laws.proofs.PartsTexts.{Beside, sources_of, paths_differ}
 use Rattle.sv_elab_laws.proofs.JoinedClocks.{clocked_no_link}

@@ -1,11 +1,11 @@
 -- The rounds of an order over a stimulus are those of the text's own processes.
-use Rattle.std.proofs.Common.{◌≡◌, ℕ, ◌<◌, ◌^◌, List, [], ◌∷◌, map, length, Option, Some, None, inl}
-use Rattle.std.proofs.Common.{inr, refl, sym, ap, ap₂, subst, ◌∙◌, ⊎_elim}
+use Rattle.std.proofs.Common.{◌≡◌, ℕ, ◌<◌, ◌^◌, Bool, List, [], ◌∷◌, map, length, Option, Some}
+use Rattle.std.proofs.Common.{None, inl, inr, refl, sym, ap, ap₂, subst, ◌∙◌}
 use Rattle.std.specs.Prelude.{◌↔◌, All, Contains, IsTrue, filter}
 use Rattle.std.specs.List.{AllZip}
 use Rattle.std.proofs.lemmas.List.Elements.{All-head, All-tail}
 use Rattle.sv_system.specs.System.{System, Environment, KindFits}
-use Rattle.sv_system.proofs.Lists.{Contains-head, Contains-later, Contains-cases, Contains-nil}
+use Rattle.sv_system.proofs.Lists.{Contains-head, Contains-later}
 use Rattle.sv_system.proofs.Lists.{map_map}
 use Rattle.sv_lattice.specs.declared.points.Point.{Point}
 use Rattle.sv_ast.specs.Parts.{Path, PartSignal}
@@ -18,6 +18,7 @@ use Rattle.sv_flat.specs.Given.{FitListed, given}
 use Rattle.sv_flat.specs.Processes.{is_register}
 use Rattle.sv_flat.specs.SignalLists.{inputs, registers}
 use Rattle.sv_flat.specs.Soundness.{sound}
+use Rattle.sv_flat.proofs.LeastSets.{Contains-from_filter}
 use Rattle.sv_elab_rules.specs.Texts.{flat_of}
 use Rattle.sv_elab_laws.specs.FlattenedTexts.{CanBeFlattened}
 use Rattle.sv_elab_laws.specs.Rounds.{SameGiven, RoundsAreOfText}
@@ -30,9 +31,10 @@ use Rattle.sv_trace.specs.Forms.{form_of, name_in}
 use Rattle.sv_trace.specs.Stimulus.{LinesRead, start_of, cycles_of}
 use Rattle.sv_sim_run.specs.Simulated.{read_of, RunsInOrder, AreRounds}
 use Rattle.sv_sim_run.specs.Traces.{inputs_in, registers_in}
+use Rattle.sv_sim_run.proofs.CycleFacts.{agree_on}
 use Rattle.sv_sim_run.proofs.DesignForms.{form_is, inputs_are, registers_are, inputs_listed}
-use Rattle.sv_sim_run.proofs.DesignForms.{registers_listed, start_fits_kind, start_fit, cycles_fit}
-use Rattle.sv_sim_run.proofs.GivenFacts.{own_values, filter_apart, given_to_fits}
+use Rattle.sv_sim_run.proofs.DesignForms.{registers_listed, start_fit, cycles_fit}
+use Rattle.sv_sim_run.proofs.GivenFacts.{IsApart, own_values, filter_apart, given_to_fits}
 use Rattle.sv_sim_run.proofs.OneText.{fits_read}
 use Rattle.sv_system.proofs.Pointwise.{each}
 use Rattle.sv_run_laws.specs.FalsifiedTexts.{by_path}
@@ -42,15 +44,6 @@ use Rattle.sv_run_laws.specs.TextRounds.{RunsTextInOrder, AreTextRounds}
 use Rattle.sv_run_laws.proofs.FalsifiedTexts.{same_by_path, in_text, number_below}
 use Rattle.sv_run_laws.proofs.SameSimulations.{filter_named, forms_same}
 use Rattle.sv_run_laws.proofs.TextNames as names
-
--- two maps that give one list agree on each member
-agree_on : {X Y : Type 0} (f g : X → Y) (xs : List X) → map f xs ≡ map g xs
-    → (x : X) → Contains xs x → f x ≡ g x
-agree_on f g [] same x at = absurd (Contains-nil x at)
-agree_on f g (y ∷ xs) same x at = ⊎_elim
-    (λ is. subst (λ z. f z ≡ g z) is (let first : f y ≡ g y = cc same in first))
-    (λ inside. agree_on f g xs (let rest : map f xs ≡ map g xs = cc same in rest) x inside)
-    (Contains-cases y xs x at)
 
 map_same : {X Y : Type 0} (f g : X → Y) (xs : List X) → ((x : X) → Contains xs x → f x ≡ g x)
     → map f xs ≡ map g xs
@@ -107,81 +100,91 @@ module _ (text : TextTree) (asked : Option (List ℕ)) (design : FlatDesign)
       (in_text text asked design can flat admitted s
       (number_below text asked design can flat admitted s at))
 
-  -- ---- registers
+  -- ---- values given to the signals of a kind
 
-  module _ (start : List ℕ) (fit : FitListed design.signals (registers design) start) where
-    abbrev begin : Environment ℕ
-    begin = given (registers design) start
+  -- the signals of a kind, by the design's own list and by that of the text
+  record OfKind (kind : ℕ → Bool) (own : List ℕ) (theirs : List Path) : Type 0 where
+    are : filter kind first.signals ≡ own
+    apart : IsApart own
+    named : theirs ≡ map to (filter kind first.signals)
+    seen : (s : ℕ) → IsTrue (kind s) → Contains first.signals s
+    listed : (s : ℕ) → IsTrue (kind s) → Contains (filter kind first.signals) s
 
-    begin_is : map begin (registers_in first) ≡ start
-    begin_is =
-        ap (map begin) (registers_are design is_sound admitted)
-        ∙ own_values (registers design) start (λ s. 0)
-        (filter_apart (is_register design) 0 (length design.signals)) fit.count
+  module _ {kind : ℕ → Bool} {own : List ℕ} {theirs : List Path} (k : OfKind kind own theirs)
+      (values : List ℕ) (fit : FitListed design.signals own values) where
+    abbrev those : Environment ℕ
+    those = given own values
 
-    pub started_over : map (by_path signals begin) (registers_in second) ≡ start
-    started_over =
-        ap (map (by_path signals begin)) lists.1
-        ∙ map_map (by_path signals begin) to (registers_in first)
-        ∙ map_same (λ s. by_path signals begin (to s)) begin (registers_in first)
-        (λ s at. sym (seen_same begin s (Rattle.sv_flat.proofs.LeastSets.Contains-from_filter
-        first.is_register first.signals s at).1))
-        ∙ begin_is
+    those_are : map those (filter kind first.signals) ≡ values
+    those_are = ap (map those) k.are ∙ own_values own values (λ s. 0) k.apart fit.count
 
-    registers_over : SameGiven first to first.is_register begin (by_path signals begin)
-    registers_over = record {
-      same = λ s register. seen_same begin s (lists.2 s register);
-      fits = start_fits_kind design is_sound admitted start fit;
+    those_fit : KindFits kind first those
+    those_fit =
+        each (λ s. IsTrue (kind s) → those s < 2 ^ first.width s) first.signals
+        (λ s at of_kind. given_to_fits design.signals own values s fit)
+
+    theirs_are : map (by_path signals those) theirs ≡ values
+    theirs_are =
+        ap (map (by_path signals those)) k.named
+        ∙ map_map (by_path signals those) to (filter kind first.signals)
+        ∙ map_same (λ s. by_path signals those (to s)) those (filter kind first.signals)
+        (λ s at. sym (seen_same those s (Contains-from_filter kind first.signals s at).1))
+        ∙ those_are
+
+    given_over : SameGiven first to kind those (by_path signals those)
+    given_over = record {
+      same = λ s of_kind. seen_same those s (k.seen s of_kind);
+      fits = those_fit;
     }
 
-    pub registers_back : (state : Environment Path) → map state (registers_in second) ≡ start
-        → SameGiven first to first.is_register begin state
-    registers_back state started = record {
-      same = λ s register.
-          agree_on begin (λ z. state (to z)) (registers_in first)
-          (begin_is ∙ sym started ∙ ap (map state) lists.1 ∙ map_map state to (registers_in first))
-          s (registers_listed design is_sound admitted s register);
-      fits = start_fits_kind design is_sound admitted start fit;
+    given_back : (others : Environment Path) → map others theirs ≡ values
+        → SameGiven first to kind those others
+    given_back others is = record {
+      same = λ s of_kind.
+          agree_on those (λ z. others (to z)) (filter kind first.signals)
+          (those_are ∙ sym is ∙ ap (map others) k.named
+          ∙ map_map others to (filter kind first.signals))
+          s (k.listed s of_kind);
+      fits = those_fit;
     }
 
-  -- ---- inputs
+  of_registers : OfKind first.is_register (registers design) (registers_in second)
+  of_registers = record {
+    are = registers_are design is_sound admitted;
+    apart = filter_apart (is_register design) 0 (length design.signals);
+    named = lists.1;
+    seen = lists.2;
+    listed = registers_listed design is_sound admitted;
+  }
 
-  module _ (values : List ℕ) (fit : FitListed design.signals (inputs design) values) where
-    abbrev now : Environment ℕ
-    now = given (inputs design) values
+  of_inputs : OfKind first.is_input (inputs design) (inputs_in second)
+  of_inputs = record {
+    are = inputs_are design is_sound admitted;
+    apart = filter_apart first.is_input 0 (length design.signals);
+    named = lists.0;
+    seen = lists.3;
+    listed = inputs_listed design is_sound admitted;
+  }
 
-    now_is : map now (inputs_in first) ≡ values
-    now_is =
-        ap (map now) (inputs_are design is_sound admitted)
-        ∙ own_values (inputs design) values (λ s. 0)
-        (filter_apart first.is_input 0 (length design.signals)) fit.count
+  pub started_over : (start : List ℕ) → FitListed design.signals (registers design) start
+      → map (by_path signals (given (registers design) start)) (registers_in second) ≡ start
+  started_over = theirs_are of_registers
 
-    now_fits : KindFits first.is_input first now
-    now_fits =
-        each (λ s. IsTrue (first.is_input s) → now s < 2 ^ first.width s) first.signals
-        (λ s at input. given_to_fits design.signals (inputs design) values s fit)
+  pub now_over : (values : List ℕ) → FitListed design.signals (inputs design) values
+      → map (by_path signals (given (inputs design) values)) (inputs_in second) ≡ values
+  now_over = theirs_are of_inputs
 
-    pub now_over : map (by_path signals now) (inputs_in second) ≡ values
-    now_over =
-        ap (map (by_path signals now)) lists.0
-        ∙ map_map (by_path signals now) to (inputs_in first)
-        ∙ map_same (λ s. by_path signals now (to s)) now (inputs_in first)
-        (λ s at. sym (seen_same now s (Rattle.sv_flat.proofs.LeastSets.Contains-from_filter
-        first.is_input first.signals s at).1))
-        ∙ now_is
+  pub registers_back : (start : List ℕ) → FitListed design.signals (registers design) start
+      → (state : Environment Path) → map state (registers_in second) ≡ start
+      → SameGiven first to first.is_register (given (registers design) start) state
+  registers_back = given_back of_registers
 
-    input_over : SameGiven first to first.is_input now (by_path signals now)
-    input_over = record { same = λ s input. seen_same now s (lists.3 s input); fits = now_fits }
+  pub input_back : (values : List ℕ) → FitListed design.signals (inputs design) values
+      → (i : Environment Path) → map i (inputs_in second) ≡ values
+      → SameGiven first to first.is_input (given (inputs design) values) i
+  input_back = given_back of_inputs
 
-    pub input_back : (i : Environment Path) → map i (inputs_in second) ≡ values
-        → SameGiven first to first.is_input now i
-    input_back i is = record {
-      same = λ s input.
-          agree_on now (λ z. i (to z)) (inputs_in first)
-          (now_is ∙ sym is ∙ ap (map i) lists.0 ∙ map_map i to (inputs_in first))
-          s (inputs_listed design is_sound admitted s input);
-      fits = now_fits;
-    }
+  -- ---- the inputs of all cycles
 
   abbrev Fits : List ℕ → Type 0
   Fits values = FitListed design.signals (inputs design) values
@@ -199,7 +202,7 @@ module _ (text : TextTree) (asked : Option (List ℕ)) (design : FlatDesign)
   inputs_over (values ∷ cycles) all =
       let fit = All-head Fits values cycles all in
       let rest = inputs_over cycles (All-tail Fits values cycles all) in
-      ((input_over values fit, rest.0), ap₂ (λ y ys. y ∷ ys) (now_over values fit) rest.1)
+      ((given_over of_inputs values fit, rest.0), ap₂ (λ y ys. y ∷ ys) (now_over values fit) rest.1)
 
   inputs_back : (cycles : List (List ℕ)) → All Fits cycles → (is : List (Environment Path))
       → map (λ v. map v (inputs_in second)) is ≡ cycles
@@ -227,21 +230,21 @@ module _ (text : TextTree) (asked : Option (List ℕ)) (design : FlatDesign)
     run_over is =
         let given_inputs = inputs_over cycles cycles_fit_all in
         record {
-          state = by_path signals (begin start start_fits);
+          state = by_path signals (given (registers design) start);
           inputs = map (by_path signals) (takes cycles);
           started = started_over start start_fits;
           given = given_inputs.1;
-          runs = (law number rounds (begin start start_fits)
-              (by_path signals (begin start start_fits)) (takes cycles)
-              (map (by_path signals) (takes cycles)) (registers_over start start_fits)
+          runs = (law number rounds (given (registers design) start)
+              (by_path signals (given (registers design) start)) (takes cycles)
+              (map (by_path signals) (takes cycles)) (given_over of_registers start start_fits)
               given_inputs.0).0 (is.environments, is.runs);
         }
 
     run_back : RunsTextInOrder text asked number start cycles rounds
         → RunsInOrder design number start cycles rounds
     run_back is =
-        let run = (law number rounds (begin start start_fits) is.state (takes cycles) is.inputs
-        (registers_back start start_fits is.state is.started)
+        let run = (law number rounds (given (registers design) start) is.state (takes cycles)
+        is.inputs (registers_back start start_fits is.state is.started)
         (inputs_back cycles cycles_fit_all is.inputs is.given)).1 is.runs in
         record { environments = run.0; runs = run.1 }
 

@@ -13,7 +13,7 @@ use Rattle.sv_ast.specs.Tree.{ExpressionTree, TargetTree, StatementTree, PlacedN
 use Rattle.sv_ast.specs.Tree.{DeclarationTree, InstanceTree, ItemTree, parameter_item, declared}
 use Rattle.sv_ast.specs.Tree.{memory_item, continuous, released, always_item, invariant_item}
 use Rattle.sv_ast.specs.Tree.{instance_item, ModuleTree}
-use Rattle.sv_ast.specs.Instances.{module_named, instance_of, settings, all_items, is_signal}
+use Rattle.sv_ast.specs.Instances.{module_named, instance_of, settings, is_signal}
 use Rattle.sv_ast.specs.Parts.{Path, Part, part_with, within, child, parts_from, PartSignal}
 use Rattle.sv_ast.specs.Parts.{declarations, signals_of}
 use Rattle.sv_flat.specs.Design.{SignalForm}
@@ -23,15 +23,15 @@ use Rattle.sv_elab_rules.specs.Names.{Names, names_of}
 use Rattle.sv_elab_rules.specs.ExpressionSteps.{expression_walk}
 use Rattle.sv_elab_rules.specs.Targets.{assignment_walk}
 use Rattle.sv_elab_rules.specs.Statements.{statement_walk}
-use Rattle.sv_elab_rules.specs.Declarations.{Site, nothing_declared, declarations_walk}
+use Rattle.sv_elab_rules.specs.Declarations.{Site}
 use Rattle.sv_elab_rules.specs.LabelSteps.{SharedTables, label_walk, given_label, labels_walk}
 use Rattle.sv_elab_rules.specs.InstanceSteps.{Built, value_walk, assign_walk, always_walk}
 use Rattle.sv_elab_rules.specs.InstanceSteps.{instance_walk, instance_names, item_walk, items_from}
 use Rattle.sv_elab_rules.specs.InstanceSteps.{module_walk, site_walk}
 use Rattle.sv_elab_rules.proofs.WalkLemmas.{parts_done}
-use Rattle.sv_elab_laws.proofs.PartsDeclared.{same_ok, walked, forms, form_in}
-use Rattle.sv_elab_laws.proofs.PartsNamed.{item_declarations}
+use Rattle.sv_elab_laws.proofs.PartsDeclared.{same_ok, form_in}
 use Rattle.sv_elab_laws.proofs.PartsEntered.{inner_site, with_instance, entered}
+use Rattle.sv_elab_laws.proofs.PartsOpened.{opened, labels_made}
 use Rattle.sv_run_laws.specs.Signals.{dotted}
 
 -- full name, signedness and place
@@ -237,31 +237,22 @@ module _ (tables : SharedTables) where
     module_adds : (site : Site) (built after : Built)
         → (module_walk inside tables site built).end ≡ Ok after
         → Adds built after (plain_from (suc levels) tables.modules site.path site.master)
-    unfolding module_walk plain_from
+    unfolding plain_from
     module_adds site built after h =
         let m = site.master in
         let base = length built.signals in
-        let declared_step = parts_done
-        (declarations_walk base tables.least site nothing_declared (all_items m)) _ after h in
-        let w = declared_step.0 in
-        let declares = walked base tables.least site (all_items m) nothing_declared w
-        declared_step.1 in
+        let o = opened tables inside site built after h in
+        let w = o.declared_all in
         let names : Names = names_of base w.bindings in
-        let labels = parts_done (labels_walk tables names (declarations m) w.signals) _ after
-        declared_step.2 in
-        let own = labels.0 in
+        let own = o.signals in
         let middle : Built = record built { signals = built.signals ++ own } in
-        let made : w.signals ≡ map (form_in base tables.least site w) (declarations m) =
-        forms base tables.least site (all_items m) nothing_declared w declares
-        ∙ ap (map (form_in base tables.least site w)) (item_declarations m) in
         let kept : map plain_form own ≡ map (plain_of site.path) (declarations m) =
         labels_keep tables names (form_in base tables.least site w) (declarations m) own
-        (subst (λ ss. (labels_walk tables names (declarations m) ss).end ≡ Ok own) made
-        labels.1) in
+        (labels_made tables inside site built after o) in
         let inner = flat_map (item_plain (plain_from levels tables.modules) tables.modules
         site.path) m.items in
         items_add levels inside adds site names m.items
-        (map (λ (b : List ℕ × Binding). b.0) w.bindings) middle after labels.2
+        (map (λ (b : List ℕ × Binding). b.0) w.bindings) middle after o.items_done
         ∙ ap (λ xs. xs ++ inner)
         (map-append plain_form built.signals own
         ∙ ap (λ xs. map plain_form built.signals ++ xs) kept)

@@ -3,7 +3,7 @@
 use Rattle.std.proofs.Common.{◌≡◌, ℕ, ◌+◌, Bool, true, false, cond, ◌&&◌, List, [], ◌∷◌, ◌++◌}
 use Rattle.std.proofs.Common.{map, Option, Some, None, inl, inr, refl, sym, ap, ap₂, subst, ◌∙◌}
 use Rattle.std.specs.Prelude.{filter, flat_map, Contains, codes, decimal}
-use Rattle.sv_system.specs.System.{System, Environment, IsTrace}
+use Rattle.sv_system.specs.System.{System, Environment, Fits, IsTrace}
 use Rattle.sv_system.specs.Joining.{Agree, Joined}
 use Rattle.sv_system.proofs.Lists.{Contains-head, Contains-later, map_map}
 use Rattle.sv_system.proofs.JoinedCycles.{renamed, renamed_same, agree_back, agree_over}
@@ -11,12 +11,12 @@ use Rattle.sv_system.proofs.JoinedTraces.{trace_back, trace_over}
 use Rattle.sv_flat.proofs.LeastSets.{Contains-from_filter}
 use Rattle.sv_trace.specs.declared.forms.Register.{Register}
 use Rattle.sv_trace.specs.Forms.{StimForm}
-use Rattle.sv_trace.specs.Stimulus.{start_of, cycles_of}
 use Rattle.sv_trace.specs.Traces.{hexadecimal}
 use Rattle.sv_sim_run.specs.declared.endings.Ending.{Ending}
-use Rattle.sv_sim_run.specs.Simulated.{read_of, last_line, IsTraceText}
+use Rattle.sv_sim_run.specs.Simulated.{IsTraceText}
 use Rattle.sv_sim_run.specs.Traces.{inputs_in, registers_in, register_in, form_in, IsTraceFrom}
 use Rattle.sv_sim_run.specs.Traces.{pair_in, line_in, lines_from}
+use Rattle.sv_run_laws.proofs.CarriedTraces.{lines_carried, simulation_carried}
 
 -- ---- lists under other names
 
@@ -235,83 +235,48 @@ module _ {Signal Point Other OtherPoint : Type 0} (first : System Signal Point)
 
   module _ (level : Option Point) (other : Option OtherPoint)
       (alike : SeeAlike first second joined level other) where
+    -- the line of a cycle is the same
+    over_alike : (cycle : ℕ) (e : Environment Signal) → Fits first e
+        → line_in other_name second other cycle (renamed joined.from e) ≡
+        line_in name first level cycle e
+    over_alike cycle e fits =
+        line_same level other alike cycle e (renamed joined.from e)
+        (agree_over first second joined e fits)
+
+    back_alike : (cycle : ℕ) (f : Environment Other) → Fits second f
+        → line_in name first level cycle (renamed joined.to f) ≡
+        line_in other_name second other cycle f
+    back_alike cycle f fits =
+        sym (line_same level other alike cycle (renamed joined.to f) f
+        (agree_back first second joined f fits))
+
     pub lines_over : (inputs es : List (Environment Signal)) (state : Environment Signal)
         → IsTrace first state inputs es → (cycle : ℕ)
         → lines_from other_name second other cycle (map (renamed joined.from) es) ≡
         lines_from name first level cycle es
-    lines_over [] [] state trace cycle = refl
-    lines_over [] (e ∷ es) state trace cycle = absurd trace
-    lines_over (now ∷ more) [] state trace cycle = absurd trace
-    lines_over (now ∷ more) (e ∷ es) state trace cycle =
-        ap₂ (λ y ys. y ++ ys)
-        (line_same level other alike cycle e (renamed joined.from e)
-        (agree_over first second joined e trace.0.fits))
-        (lines_over more es (first.next e) trace.1 (cycle + 1))
+    lines_over =
+        lines_carried first second name other_name (renamed joined.from) level other over_alike
 
     pub lines_back : (inputs fs : List (Environment Other)) (state : Environment Other)
         → IsTrace second state inputs fs → (cycle : ℕ)
         → lines_from name first level cycle (map (renamed joined.to) fs) ≡
         lines_from other_name second other cycle fs
-    lines_back [] [] state trace cycle = refl
-    lines_back [] (f ∷ fs) state trace cycle = absurd trace
-    lines_back (now ∷ more) [] state trace cycle = absurd trace
-    lines_back (now ∷ more) (f ∷ fs) state trace cycle =
-        ap₂ (λ y ys. y ++ ys)
-        (sym (line_same level other alike cycle (renamed joined.to f) f
-        (agree_back first second joined f trace.0.fits)))
-        (lines_back more fs (second.next f) trace.1 (cycle + 1))
+    lines_back =
+        lines_carried second first other_name name (renamed joined.to) other level back_alike
 
     -- ---- simulations
 
     module _ (rounds : Option ℕ) (bytes : List ℕ) (ends : Ending) (printed : List ℕ) where
-      pub simulation_over : IsTraceText name first level rounds bytes ends printed
-          → IsTraceText other_name second other rounds bytes ends printed
-      simulation_over is =
-          let right = is.read.right in
-          let traces = is.traces in
-          record {
-            read = is.read;
-            is_read = is.is_read ∙ ap (λ form. read_of form bytes) (sym forms_same);
-            trace = map (renamed joined.from) is.trace;
-            traces =
-                subst (λ form. IsTraceFrom second (start_of form right) (cycles_of right)
-                (map (renamed joined.from) is.trace)) (sym forms_same)
-                (trace_from_over (start_of (form_in name first) right) (cycles_of right) is.trace
-                traces);
-            ended = is.ended;
-            prints =
-                is.prints
-                ∙ ap (λ t. t ++ last_line ends rounds)
-                (sym (lines_over traces.inputs is.trace traces.state traces.follows 0));
-          }
+      pub simulated_over : (is : IsTraceText name first level rounds bytes ends printed)
+          → (new : IsTraceText other_name second other rounds bytes ends printed)
+          × (new.read ≡ is.read)
+      simulated_over =
+          simulation_carried first second name other_name (renamed joined.from) level other
+          over_alike (sym forms_same) trace_from_over rounds bytes ends printed
 
-      pub reads_over : (is : IsTraceText name first level rounds bytes ends printed)
-          → (simulation_over is).read ≡ is.read
-      unfolding simulation_over
-      reads_over is = refl
-
-      pub simulation_back : IsTraceText other_name second other rounds bytes ends printed
-          → IsTraceText name first level rounds bytes ends printed
-      simulation_back is =
-          let right = is.read.right in
-          let traces = is.traces in
-          record {
-            read = is.read;
-            is_read = is.is_read ∙ ap (λ form. read_of form bytes) forms_same;
-            trace = map (renamed joined.to) is.trace;
-            traces =
-                subst (λ form. IsTraceFrom first (start_of form right) (cycles_of right)
-                (map (renamed joined.to) is.trace)) forms_same
-                (trace_from_back (start_of (form_in other_name second) right) (cycles_of right)
-                is.trace traces);
-            ended = is.ended;
-            prints =
-                is.prints
-                ∙ ap (λ t. t ++ last_line ends rounds)
-                (sym (lines_back traces.inputs is.trace traces.state traces.follows 0));
-          }
-
-      pub reads_back : (is : IsTraceText other_name second other rounds bytes ends printed)
-          → (simulation_back is).read ≡ is.read
-      unfolding simulation_back
-      reads_back is = refl
+      pub simulated_back : (is : IsTraceText other_name second other rounds bytes ends printed)
+          → (new : IsTraceText name first level rounds bytes ends printed)
+          × (new.read ≡ is.read)
+      simulated_back =
+          simulation_carried second first other_name name (renamed joined.to) other level
+          back_alike forms_same trace_from_back rounds bytes ends printed

@@ -7,7 +7,6 @@ use Rattle.std.specs.List.{slice_get, list_all}
 use Rattle.std.proofs.lemmas.Bool.{and_from}
 use Rattle.sv_system.proofs.Lists.{Contains-head, Contains-later, Contains-cases, Contains-nil}
 use Rattle.sv_lattice.specs.Tables.{flow_test, FlowsTo, IsLatticeTable}
-use Rattle.sv_ast.specs.Instances.{top_module}
 use Rattle.sv_ast.specs.Reach.{Leads, here, step}
 use Rattle.sv_ast.specs.SourceLabels.{points, pairs, Flows, flows, least}
 use Rattle.sv_ast.specs.SourceLabels.{PointsAreLattice}
@@ -15,21 +14,16 @@ use Rattle.sv_ast.specs.Tree.{TextTree}
 use Rattle.sv_ast.proofs.Reaching.{flows_by_pairs}
 use Rattle.sv_flat.specs.Design.{FlatDesign}
 use Rattle.sv_flat.proofs.Depths.{from_all}
-use Rattle.sv_elab_rules.specs.LabelMaps.{maps_walk}
 use Rattle.sv_elab_rules.specs.Lattices.{PointOrder, lattice_walk}
-use Rattle.sv_elab_rules.specs.Rules.{no_top}
-use Rattle.sv_elab_rules.specs.Texts.{module_names, top_walk, tables_of, design_of, walk_of, flat_of}
-use Rattle.sv_elab_rules.specs.Walks.{found}
-use Rattle.sv_elab_rules.proofs.WalkLemmas.{parts_done}
+use Rattle.sv_elab_rules.specs.Texts.{flat_of}
 use Rattle.sv_elab_laws.proofs.JoinedLattice.{IsPointNumber, IsOrderFrom, order_of, exact_table}
 use Rattle.sv_elab_laws.proofs.JoinedLattice.{listed_number, number_at, number_in, one_point}
 use Rattle.sv_elab_laws.proofs.JoinedLattice.{flows_same, known_points}
 use Rattle.sv_elab_laws.proofs.JoinedLeast.{points_apart}
-use Rattle.sv_elab_laws.proofs.PartsDeclared.{same_ok}
 use Rattle.sv_elab_laws.proofs.PartsLinks.{find_some}
 use Rattle.sv_elab_laws.proofs.PartsLists.{get_contains, below_get, differ_places}
 use Rattle.sv_elab_laws.proofs.PartsNamed.{found_place, find_passes}
-use Rattle.sv_elab_laws.proofs.PartsTexts.{value_is}
+use Rattle.sv_elab_laws.proofs.PartsWalked.{walked_text}
 use Rattle.sv_run_laws.specs.SourceLattices.{PassesLattice, FlowsAreByPairs, IsLeast}
 use Rattle.sv_run_laws.specs.SourceLattices.{IsSourceLattice, FlowsAreOfText}
 use Rattle.sv_run_laws.proofs.LatticesAsked.{walked_lattice}
@@ -191,17 +185,8 @@ module _ (text : TextTree) (order : PointOrder)
 -- a text that stands for a flat design breaks no rule on its lattice
 pub design_passes : (text : TextTree) (asked : Option (List ℕ)) (design : FlatDesign)
     → flat_of text asked ≡ Some design → PassesLattice text × FlowsAreOfText text design
-unfolding walk_of
 design_passes text asked design h =
-    let walked = value_is (walk_of text asked).end design h in
-    let lattice = parts_done (lattice_walk text.lattice) _ design walked in
-    let order = lattice.0 in
-    let mapped = parts_done (maps_walk order.points [] text.maps) _ design lattice.2 in
-    let named = parts_done (module_names [] text.modules) _ design mapped.2 in
-    let topped = parts_done (found (top_module text.modules asked) no_top) _ design named.2 in
-    let tables = tables_of text.modules order mapped.0 in
-    let built = parts_done (top_walk tables topped.0) _ design topped.2 in (
-      (order, lattice.1),
-      subst (FlowsAreOfText text) (same_ok (design_of order tables built.0) design built.2)
-          (table_flows text order lattice.1),
+    let w = walked_text text asked design h in (
+      (w.order, w.lattice),
+      subst (FlowsAreOfText text) w.is (table_flows text w.order w.lattice),
     )

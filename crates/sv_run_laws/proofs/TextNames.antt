@@ -1,14 +1,13 @@
 -- The signals of a flat design have the full names of their paths, and what is asked for by a
 -- point's name is shown or refused of the design as of its text.
-use Rattle.std.proofs.Common.{◌≡◌, ℕ, Bool, true, cond, List, [], ◌∷◌, map, Option, Some, None}
-use Rattle.std.proofs.Common.{refl, sym, ap, subst, ◌∙◌, ⊎_elim}
+use Rattle.std.proofs.Common.{◌≡◌, ℕ, Bool, true, cond, List, Option, Some, None}
+use Rattle.std.proofs.Common.{refl, sym, ap, subst, ◌∙◌}
 use Rattle.std.specs.Prelude.{Contains, position, option_map}
 use Rattle.std.specs.List.{slice_get}
 use Rattle.std.specs.Str.{bytes_eq}
 use Rattle.std.proofs.Math.Path.{fun_ext}
 use Rattle.std.proofs.lemmas.Bool.{false_from_ne_true}
 use Rattle.sv_system.specs.Joining.{Agree, Joined}
-use Rattle.sv_system.proofs.Lists.{Contains-cases, Contains-nil}
 use Rattle.sv_lattice.specs.declared.points.Point.{Point}
 use Rattle.sv_lattice.specs.Tables.{flow_test}
 use Rattle.sv_ast.specs.Meaning.{label_in, system}
@@ -21,14 +20,13 @@ use Rattle.sv_flat.specs.Admission.{IsAdmitted}
 use Rattle.sv_flat.specs.Design.{SignalForm, FlatDesign}
 use Rattle.sv_flat.specs.FlatSystem.{flat_system}
 use Rattle.sv_flat.proofs.LeastSets.{some_from, from_some}
-use Rattle.sv_elab_rules.specs.LabelSteps.{SharedTables}
 use Rattle.sv_elab_rules.specs.Texts.{flat_of}
 use Rattle.sv_elab_laws.specs.FlattenedTexts.{CanBeFlattened}
 use Rattle.sv_elab_laws.proofs.JoinedClocks.{same_bool}
 use Rattle.sv_elab_laws.proofs.JoinedLabels.{same_label}
 use Rattle.sv_elab_laws.proofs.JoinedLattice.{IsPointNumber, IsOrderFrom, order_of, flows_same}
 use Rattle.sv_elab_laws.proofs.JoinedLattice.{listed_number, position_found}
-use Rattle.sv_elab_laws.proofs.JoinedLeast.{least_number}
+use Rattle.sv_elab_laws.proofs.JoinedLeast.{least_beside}
 use Rattle.sv_elab_laws.proofs.JoinedNumbers.{at_number, signal_at, signal_below, signal_no_clock}
 use Rattle.sv_elab_laws.proofs.JoinedNumbers.{said_at, same_signals, to_is}
 use Rattle.sv_elab_laws.proofs.JoinedRuns.{source_system, path_to}
@@ -39,20 +37,12 @@ use Rattle.sv_elab_laws.proofs.PartsMaps.{same_some}
 use Rattle.sv_elab_laws.proofs.PartsTexts.{SideBySide, side_by_side}
 use Rattle.sv_trace.specs.Forms.{name_in}
 use Rattle.sv_sim_run.specs.Simulated.{level_asked}
+use Rattle.sv_sim_run.proofs.CycleFacts.{agree_on}
 use Rattle.sv_run_laws.specs.Signals.{text_signals, dotted, IsDeclared}
 use Rattle.sv_run_laws.specs.SimulatedTexts.{level_asked_of}
 use Rattle.sv_run_laws.proofs.CheckedDesigns.{admitted_checked}
 use Rattle.sv_run_laws.proofs.DeclaredSignals.{all_declared, same_points}
 use Rattle.sv_run_laws.proofs.SameSimulations.{SeeAlike}
-
--- two maps that give one list agree on each member
-agree_at : {X Y : Type 0} (f g : X → Y) (xs : List X) → map f xs ≡ map g xs
-    → (x : X) → Contains xs x → f x ≡ g x
-agree_at f g [] same x at = absurd (Contains-nil x at)
-agree_at f g (y ∷ xs) same x at = ⊎_elim
-    (λ is. subst (λ z. f z ≡ g z) is (let first : f y ≡ g y = cc same in first))
-    (λ inside. agree_at f g xs (let rest : map f xs ≡ map g xs = cc same in rest) x inside)
-    (Contains-cases y xs x at)
 
 turned : (m n : List ℕ) → bytes_eq m n ≡ bytes_eq n m
 turned m n = same_bool (bytes_eq m n) (bytes_eq n m)
@@ -74,7 +64,7 @@ module _ (text : TextTree) (asked : Option (List ℕ)) (design : FlatDesign)
       joined.to s ≡ path_to text asked design side s
   unfolding system
   path_is s at =
-      agree_at joined.to (path_to text asked design side) (flat_system design).signals
+      agree_on joined.to (path_to text asked design side) (flat_system design).signals
       (sym joined.signals ∙ same_signals text asked design side) s at
 
   pub same_names : (s : ℕ) → Contains (flat_system design).signals s →
@@ -96,9 +86,7 @@ module _ (text : TextTree) (asked : Option (List ℕ)) (design : FlatDesign)
   order_is = order_of text side.order side.lattice
 
   least_in : IsPointNumber side.order.points (least text) side.tables.least
-  least_in =
-      least_number text side.order order_is side.lattice
-      ∙ ap (λ (t : SharedTables). Some t.least) (sym side.tables_are)
+  least_in = least_beside text asked design side
 
   abbrev pub Alike : Option Point → Option (List ℕ) → Type 0
   Alike level other = SeeAlike (flat_system design) (text_system text asked) joined level other

@@ -27,8 +27,7 @@ use Rattle.sv_run_laws.specs.SimulatedTexts.{IsWrittenAlike, HasOneWrittenText}
 use Rattle.sv_run_laws.proofs.CheckedDesigns.{admitted_checked}
 use Rattle.sv_run_laws.proofs.SameSimulations.{forms_same, trace_from_over, trace_from_back}
 use Rattle.sv_run_laws.proofs.SameSimulations.{lines_over, lines_back}
-use Rattle.sv_run_laws.proofs.SameSimulations.{simulation_over, simulation_back}
-use Rattle.sv_run_laws.proofs.SameSimulations.{reads_over, reads_back}
+use Rattle.sv_run_laws.proofs.SameSimulations.{simulated_over, simulated_back}
 use Rattle.sv_run_laws.proofs.TextNames as names
 
 module _ (text : TextTree) (asked : Option (List ℕ)) (design : FlatDesign)
@@ -51,56 +50,42 @@ module _ (text : TextTree) (asked : Option (List ℕ)) (design : FlatDesign)
   -- ---- the whole text
 
   module _ (order : Option ℕ) (bytes : List ℕ) (ends : Ending) (printed : List ℕ) where
-    at_over : (level : Option (Option Point)) (other : Option (Option (List ℕ)))
+    at_both : (level : Option (Option Point)) (other : Option (Option (List ℕ)))
         → AskedAlike level other
-        → IsSimulatedAt design level order bytes ends printed
-        → IsTextSimulatedAt text asked design other order bytes ends printed
-    at_over None None alike is = is
-    at_over (Some level) (Some other) alike is = (
-      is.0,
-      simulation_over (flat_system design) (text_system text asked) joined
-          (name_in design.signals) dotted same_names level other alike is.0 bytes ends printed is.1,
-      subst (λ (read : LinesRead). AreRounds design order read is.0)
-          (sym (reads_over (flat_system design) (text_system text asked) joined
-          (name_in design.signals) dotted same_names level other alike is.0 bytes ends printed
-          is.1))
-          is.2,
+        → (IsSimulatedAt design level order bytes ends printed
+        → IsTextSimulatedAt text asked design other order bytes ends printed)
+        × (IsTextSimulatedAt text asked design other order bytes ends printed
+        → IsSimulatedAt design level order bytes ends printed)
+    at_both None None alike = (λ is. is, λ is. is)
+    at_both (Some level) (Some other) alike = (
+      λ is. let new = simulated_over (flat_system design) (text_system text asked) joined
+          (name_in design.signals) dotted same_names level other alike is.0 bytes ends printed is.1
+          in
+          (is.0, new.0, subst (λ (read : LinesRead). AreRounds design order read is.0) (sym new.1)
+          is.2),
+      λ is. let new = simulated_back (flat_system design) (text_system text asked) joined
+          (name_in design.signals) dotted same_names level other alike is.0 bytes ends printed is.1
+          in
+          (is.0, new.0, subst (λ (read : LinesRead). AreRounds design order read is.0) (sym new.1)
+          is.2),
     )
-    at_over None (Some other) alike is = absurd alike
-    at_over (Some level) None alike is = absurd alike
-
-    at_back : (level : Option (Option Point)) (other : Option (Option (List ℕ)))
-        → AskedAlike level other
-        → IsTextSimulatedAt text asked design other order bytes ends printed
-        → IsSimulatedAt design level order bytes ends printed
-    at_back None None alike is = is
-    at_back (Some level) (Some other) alike is = (
-      is.0,
-      simulation_back (flat_system design) (text_system text asked) joined
-          (name_in design.signals) dotted same_names level other alike is.0 bytes ends printed is.1,
-      subst (λ (read : LinesRead). AreRounds design order read is.0)
-          (sym (reads_back (flat_system design) (text_system text asked) joined
-          (name_in design.signals) dotted same_names level other alike is.0 bytes ends printed
-          is.1))
-          is.2,
-    )
-    at_back None (Some other) alike is = absurd alike
-    at_back (Some level) None alike is = absurd alike
+    at_both None (Some other) alike = absurd alike
+    at_both (Some level) None alike = absurd alike
 
   module _ (level : Option (List ℕ)) (order : Option ℕ) (bytes : List ℕ) where
     whole_over : (ends : Ending) (printed : List ℕ)
         → IsSimulated design level order bytes ends printed
         → IsTextSimulated text asked design level order bytes ends printed
     whole_over ends printed =
-        at_over order bytes ends printed (level_asked design level) (level_asked_of text level)
-        (asked_alike level)
+        (at_both order bytes ends printed (level_asked design level) (level_asked_of text level)
+        (asked_alike level)).0
 
     whole_back : (ends : Ending) (printed : List ℕ)
         → IsTextSimulated text asked design level order bytes ends printed
         → IsSimulated design level order bytes ends printed
     whole_back ends printed =
-        at_back order bytes ends printed (level_asked design level) (level_asked_of text level)
-        (asked_alike level)
+        (at_both order bytes ends printed (level_asked design level) (level_asked_of text level)
+        (asked_alike level)).1
 
     front_over : (old new : List ℕ) → WritesFrontFor design level order bytes old new
         → WritesTextFront text asked design level order bytes old new

@@ -20,8 +20,9 @@ use Rattle.sv_width.specs.WrittenLengths.{TextHasLengths}
 use Rattle.sv_elab_laws.specs.FlattenedTexts.{ItemNumbersFit, EachItem}
 use Rattle.sv_elab_laws.specs.SideBySide.{item_made, made_from, made_of}
 use Rattle.sv_elab_laws.proofs.JoinedSources.{from_option, to_option, links_forth}
-use Rattle.sv_elab_laws.proofs.PartsLists.{contains_either, contains_left, contains_right}
-use Rattle.sv_elab_laws.proofs.PartsPaths.{from_flat_map, to_flat_map}
+use Rattle.sv_flat.proofs.Members.{Contains-either as contains_either}
+use Rattle.sv_flat.proofs.Members.{Contains-left as contains_left, Contains-right as contains_right}
+use Rattle.sv_flat.proofs.Members.{from_flat_map, to_flat_map}
 use Rattle.sv_elab_laws.proofs.PartsShapes.{all_flattened}
 use Rattle.sv_elab_laws.proofs.PartsTexts.{made_beside}
 use Rattle.sv_elab_laws.proofs.SoundDesigns.{design_sound}

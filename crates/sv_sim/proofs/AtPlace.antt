@@ -5,13 +5,17 @@ use Rattle.std.proofs.Common.{sym, ap, subst, ◌∙◌, drop-cons, add-one}
 use Rattle.std.specs.Prelude.{Contains, IsTrue}
 use Rattle.std.proofs.lemmas.List.{length-map, get_or-map, take-append-drop}
 use Rattle.std.proofs.lemmas.List.Elements.{Contains-get_or}
+use Rattle.sv_flat.specs.declared.designs.Flat.{Flat}
 use Rattle.sv_flat.specs.declared.designs.Process.{Process}
+use Rattle.sv_flat.specs.declared.signals.Signal.{Signal}
+use Rattle.sv_flat.specs.ByNumber.{signal_forms}
 use Rattle.sv_flat.specs.Design.{ProcessForm, continuous, nothing, FlatDesign}
 use Rattle.sv_flat.specs.Admission.{IsAdmitted}
 use Rattle.sv_flat.specs.Clocks.{processes_of}
 use Rattle.sv_flat.specs.Soundness.{statement_sound, sound}
-use Rattle.sv_flat.specs.Views.{process_form, flat_statement}
+use Rattle.sv_flat.specs.Views.{design_of, process_form, flat_statement}
 use Rattle.sv_flat.proofs.AdmittedFacts.{body_is_sound}
+use Rattle.sv_design.specs.Designs.{IsDesign}
 use Rattle.sv_sim.specs.Simulations.{process_at}
 
 -- a process that does nothing
@@ -48,3 +52,15 @@ module _ (design : FlatDesign) (is_sound : IsTrue (sound design)) (admitted : Is
       ap (λ k. take place ps ++ process_at design place ∷ drop k ps) (add-one place)
       ∙ ap (λ qs. take place ps ++ qs) (sym (drop-cons ps place idle inside))
       ∙ take-append-drop place ps
+
+-- of a design as the code holds it
+module _ (flat : Flat) (fine : IsDesign (design_of flat)) where
+  pub statement_there : (signals : List Signal) (ps : List Process) (p : Process) (place : ℕ)
+      → place < length (processes_of (design_of flat)) → signals ≡ flat.signals.items
+      → map process_form ps ≡ processes_of (design_of flat) → p ≡ get_or ps place p
+      → IsTrue (statement_sound (signal_forms signals) (flat_statement p.body))
+  statement_there signals ps p place inside signals_are are is =
+      subst (λ (ss : List Signal).
+      IsTrue (statement_sound (signal_forms ss) (flat_statement p.body))) (sym signals_are)
+      (sound_there (design_of flat) fine.is_sound fine.is_admitted place inside p
+      (process_there (design_of flat) ps are place p inside is))

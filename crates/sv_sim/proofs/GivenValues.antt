@@ -1,17 +1,19 @@
 -- Listed signals have the values that are given for them, and all others keep theirs.
 use Rattle.std.proofs.Common.{◌≡◌, ℕ, zero, suc, ◌+◌, ◌<◌, Bool, cond, ◌==◌, List}
-use Rattle.std.proofs.Common.{[], ◌∷◌, ◌++◌, length, take, ⊎_elim, refl, sym, ap}
+use Rattle.std.proofs.Common.{[], ◌∷◌, ◌++◌, length, map, take, ⊎_elim, refl, sym, ap}
 use Rattle.std.proofs.Common.{subst}
 use Rattle.std.proofs.Common.{◌∙◌, arith, add-one}
 use Rattle.std.specs.Prelude.{Contains, slice_index}
 use Rattle.std.specs.List.{zip}
 use Rattle.std.proofs.lemmas.Bool.{eqb-true, eq-eqb, false≢true}
 use Rattle.std.proofs.lemmas.List.Elements.{Contains-get_or}
-use Rattle.sv_system.specs.System.{last_update}
+use Rattle.sv_system.specs.System.{Environment, last_update, put}
 use Rattle.sv_system.proofs.Lists.{Contains-head, Contains-later, Contains-nil, Contains-cases}
+use Rattle.sv_system.proofs.Pointwise.{either_way as contained_or_not}
+use Rattle.sv_flat.specs.Given.{with_given}
 use Rattle.sv_flat.specs.Sets.{those}
 use Rattle.sv_flat.proofs.LeastSets.{either_way, those_below}
-use Rattle.sv_flat.proofs.SameRuns.{none_found}
+use Rattle.sv_flat.proofs.SameRuns.{none_found, put_there}
 
 -- a listed signal's value does not hang on the one that it had
 pub listed_value : (listed values : List ℕ) (s a b : ℕ) → length values ≡ length listed
@@ -40,6 +42,20 @@ other_value (t ∷ ts) (v ∷ vs) s a none =
     (none_found (t == s) (λ same. none (subst (Contains (t ∷ ts)) (eqb-true t s same)
     (Contains-head t ts))))
     ∙ other_value ts vs s a (λ later. none (Contains-later t ts s later))
+
+-- each listed signal has its value in an environment whose values are given for all of them
+pub mapped_value : (listed : List ℕ) (f e : Environment ℕ) (s : ℕ) → Contains listed s →
+    with_given listed (map f listed) e s ≡ f s
+mapped_value [] f e s at = absurd (Contains-nil s at)
+mapped_value (t ∷ ts) f e s at =
+    let g : Environment ℕ = put ◌==◌ t (f t) e in
+    contained_or_not (with_given ts (map f ts) g s) (f s) (Contains ts s)
+    (λ later. mapped_value ts f g s later)
+    (λ none. other_value ts (map f ts) s (g s) none
+    ∙ ⊎_elim
+    (λ same. subst (λ r. g r ≡ f r) same (put_there t (f t) e))
+    (λ later. absurd (none later))
+    (Contains-cases t ts s at))
 
 -- one more value given
 pub zip_more : (listed values : List ℕ) (k : ℕ) → k < length listed → k < length values

@@ -5,6 +5,7 @@ pub mod Fitting
 pub mod Fronts
 pub mod GivenValues
 pub mod InOrder
+pub mod ListedSignals
 pub mod NextValues
 pub mod PlanFacts
 pub mod ReadRuns

@@ -1,37 +1,24 @@
 -- The registers' next values do not hang on clocks, and keep their widths.
-use Rattle.std.proofs.Common.{◌≡◌, ℕ, ◌<◌, ◌^◌, cond, not, ◌==◌, List, [], ◌∷◌}
-use Rattle.std.proofs.Common.{◌++◌, length, refl, sym, ap, subst, ◌∙◌, ⊎_elim, pow_pos, ltb-true}
+use Rattle.std.proofs.Common.{◌≡◌, ℕ, ◌<◌, ◌^◌, cond, not, ◌==◌}
+use Rattle.std.proofs.Common.{length, sym, ap, subst, ◌∙◌, ⊎_elim, pow_pos, ltb-true}
 use Rattle.std.proofs.Common.{lt-ltb}
-use Rattle.std.specs.Prelude.{Contains, IsTrue, IsFalse, flat_map}
-use Rattle.std.proofs.lemmas.Bool.{eq-eqb}
+use Rattle.std.specs.Prelude.{Contains, IsTrue, IsFalse}
 use Rattle.sv_system.specs.System.{Environment, last_update, Fits, KindFits}
-use Rattle.sv_system.proofs.Lists.{Contains-head, Contains-later}
 use Rattle.sv_system.proofs.Pointwise.{each, fits_at}
 use Rattle.sv_flat.specs.Design.{ProcessForm, FlatDesign}
 use Rattle.sv_flat.specs.Admission.{IsAdmitted}
 use Rattle.sv_flat.specs.Clocks.{is_clock, processes_of}
 use Rattle.sv_flat.specs.FlatSystem.{flat_system, clocked_processes, all_updates}
 use Rattle.sv_flat.specs.Processes.{is_clocked, is_register}
-use Rattle.sv_flat.specs.Readings.{Reading, readings, no_bits}
 use Rattle.sv_flat.specs.Runs.{updates_of}
 use Rattle.sv_flat.specs.Soundness.{is_signal, sound}
 use Rattle.sv_flat.specs.Values.{signal_width}
-use Rattle.sv_flat.proofs.AdmittedFacts.{body_is_sound, assigned_is_signal, assigns_no_clock}
-use Rattle.sv_flat.proofs.AdmittedFacts.{some_width, negated_true}
-use Rattle.sv_flat.proofs.ClockFacts.{reads_no_clock}
-use Rattle.sv_flat.proofs.LeastSets.{either_way, some_from, Contains-from_filter, in_those}
+use Rattle.sv_flat.proofs.AdmittedFacts.{negated_true}
+use Rattle.sv_flat.proofs.LeastSets.{either_way, Contains-from_filter, in_those}
 use Rattle.sv_flat.proofs.LeastSets.{those_below}
 use Rattle.sv_flat.proofs.LeastSets.{those_pass}
-use Rattle.sv_flat.proofs.ReadSignals.{readings_signals}
 use Rattle.sv_flat.proofs.RunsFit.{AllFit, edge_fits}
-use Rattle.sv_flat.proofs.SameUpdates.{run_alike}
-
-flat_map_same : {X Y : Type 0} (f g : X → List Y) (xs : List X) →
-    ((x : X) → Contains xs x → f x ≡ g x) → flat_map f xs ≡ flat_map g xs
-flat_map_same f g [] same = refl
-flat_map_same f g (x ∷ xs) same =
-    ap (λ ys. ys ++ flat_map f xs) (same x (Contains-head x xs))
-    ∙ ap (λ ys. g x ++ ys) (flat_map_same f g xs (λ y at. same y (Contains-later x xs y at)))
+use Rattle.sv_flat.proofs.AlikeUpdates.{flat_map_same, updates_hang}
 
 module _ (design : FlatDesign) (is_sound : IsTrue (sound design))
     (admitted : IsAdmitted design) where
@@ -49,19 +36,7 @@ module _ (design : FlatDesign) (is_sound : IsTrue (sound design))
   updates_same : (p : ProcessForm) → Contains (processes_of design) p → (e f : Environment ℕ)
       → ((s : ℕ) → IsSeen s → e s ≡ f s)
       → updates_of design.signals p.body e ≡ updates_of design.signals p.body f
-  updates_same p at e f same =
-      let sound_body = body_is_sound design is_sound admitted p at in
-      (run_alike design.signals (some_width design is_sound admitted) IsSeen p.body sound_body
-      no_bits no_bits
-      (λ r r_at. is_seen r.name.signal
-      (readings_signals design.signals p.body no_bits no_bits sound_body r r_at)
-      (reads_no_clock design is_sound admitted p r.name.signal at
-      (some_from (λ (z : Reading). z.name.signal == r.name.signal)
-      (readings design.signals p.body no_bits no_bits) r r_at
-      (eq-eqb r.name.signal r.name.signal refl))))
-      (λ s h. is_seen s (assigned_is_signal design.signals p.body sound_body s h)
-      (assigns_no_clock design is_sound admitted p s at h))
-      (e, []) (f, []) (same, refl)).1
+  updates_same = updates_hang design is_sound admitted IsSeen is_seen
 
   all_updates_same : (e f : Environment ℕ) → ((s : ℕ) → IsSeen s → e s ≡ f s)
       → all_updates design (clocked_processes design) e ≡

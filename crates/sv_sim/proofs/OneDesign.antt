@@ -1,7 +1,7 @@
 -- An admitted design has the drivers in order that the law on one trace asks for: each
 -- combinational signal is driven by its process, and lower signals come first.
 use Rattle.std.proofs.Common.{◌≡◌, ℕ, ◌<◌, ◌^◌, true, false, not, ◌==◌, ◌&&◌, List, [], ◌∷◌}
-use Rattle.std.proofs.Common.{◌++◌, map, refl, sym, ap, subst, ◌∙◌, ⊎_elim, None}
+use Rattle.std.proofs.Common.{◌++◌, map, length, refl, sym, ap, subst, ◌∙◌, ⊎_elim, None, ltb-true}
 use Rattle.std.specs.Prelude.{Contains, IsTrue, IsFalse, slice_index_or, slice_get}
 use Rattle.std.specs.List.{IsDistinct}
 use Rattle.std.proofs.lemmas.Bool.{eqb-true, eq-eqb}
@@ -20,7 +20,8 @@ use Rattle.sv_flat.specs.Clocks.{is_clock, processes_of}
 use Rattle.sv_flat.specs.FlatSystem.{flat_system, combinational_processes, run_of}
 use Rattle.sv_flat.specs.Processes.{is_clocked, is_top_input, is_register, drivers}
 use Rattle.sv_flat.specs.Reads.{is_combinational, depth, order}
-use Rattle.sv_flat.specs.Soundness.{sound}
+use Rattle.sv_flat.specs.SignalLists.{registers}
+use Rattle.sv_flat.specs.Soundness.{is_signal, sound}
 use Rattle.sv_flat.specs.Values.{signal_width}
 use Rattle.sv_flat.proofs.AdmittedFacts.{some_is_some, drives, extra_at, body_is_sound}
 use Rattle.sv_flat.proofs.AdmittedFacts.{assigned_is_signal, targets_are_combinational}
@@ -29,7 +30,7 @@ use Rattle.sv_flat.proofs.AdmittedFacts.{assigns_no_clock, negated_true}
 use Rattle.sv_flat.proofs.Depths.{first_of, second_of}
 use Rattle.sv_flat.proofs.FlatScheduled.{same_target, parts_of, in_processes, unclocked, to_system}
 use Rattle.sv_flat.proofs.FlatScheduled.{of_system}
-use Rattle.sv_flat.proofs.LeastSets.{either_way, from_some}
+use Rattle.sv_flat.proofs.LeastSets.{either_way, from_some, in_those}
 use Rattle.sv_flat.proofs.Members.{Contains-right}
 use Rattle.sv_flat.proofs.Orders.{order_has, order_only}
 use Rattle.sv_flat.proofs.RunsFit.{run_fits}
@@ -139,16 +140,36 @@ module _ (design : FlatDesign) (is_sound : IsTrue (sound design))
 
   -- ---- values
 
+  -- some process assigns the register
+  kept : (s : ℕ) → IsTrue (is_register design s) →
+      (q : ProcessForm) × Contains (processes_of design) q × IsTrue (assigns q.body s)
+  kept s register =
+      let found = from_some (λ (q : ProcessForm). is_clocked q.kind && assigns q.body s)
+      design.processes register in
+      let q = found.0 in
+      let clock = first_of (is_clocked q.kind) (assigns q.body s) found.2 in (
+        q,
+        clocked_is_process design is_sound admitted q found.1 clock,
+        second_of (is_clocked q.kind) (assigns q.body s) found.2,
+      )
+
   -- a clocked process assigns no clock
   pub register_no_clock : (t : ℕ) → IsTrue (is_register design t) → IsFalse (is_clock design t)
   register_no_clock t register =
-      let found = from_some (λ (q : ProcessForm). is_clocked q.kind && assigns q.body t)
-      design.processes register in
-      let q = found.0 in
-      let clock = first_of (is_clocked q.kind) (assigns q.body t) found.2 in
-      assigns_no_clock design is_sound admitted q t
-      (clocked_is_process design is_sound admitted q found.1 clock)
-      (second_of (is_clocked q.kind) (assigns q.body t) found.2)
+      let by = kept t register in assigns_no_clock design is_sound admitted by.0 t by.1 by.2
+
+  -- a register is a signal, and is listed
+  register_is_signal : (s : ℕ) → IsTrue (is_register design s) →
+      IsTrue (is_signal design.signals s)
+  register_is_signal s register =
+      let by = kept s register in
+      assigned_is_signal design.signals by.0.body (body_is_sound design is_sound admitted by.0 by.1)
+      s by.2
+
+  pub register_listed : (s : ℕ) → IsTrue (is_register design s) → Contains (registers design) s
+  register_listed s register =
+      in_those (length design.signals) (is_register design) s
+      (ltb-true s (length design.signals) (register_is_signal s register)) register
 
   value_same : (s : ℕ) → IsTrue (is_combinational design s) → (e f : Environment ℕ)
       → ((t : ℕ) → IsTrue (is_top_input design t && not (is_clock design t)) → e t ≡ f t)
@@ -185,18 +206,12 @@ module _ (design : FlatDesign) (is_sound : IsTrue (sound design))
   pub input_no_register : (s : ℕ) → IsTrue (is_top_input design s && not (is_clock design s)) →
       is_register design s ≡ false
   input_no_register s input = none_found (is_register design s) (λ register.
-      let found = from_some (λ (q : ProcessForm). is_clocked q.kind && assigns q.body s)
-      design.processes register in
-      let q = found.0 in
-      let clock = first_of (is_clocked q.kind) (assigns q.body s) found.2 in
-      let assigned = second_of (is_clocked q.kind) (assigns q.body s) found.2 in
-      let among = clocked_is_process design is_sound admitted q found.1 clock in
-      none_first (drivers (processes_of design) s) q
-      (drives design is_sound admitted q s among assigned)
+      let by = kept s register in
+      none_first (drivers (processes_of design) s) by.0
+      (drives design is_sound admitted by.0 s by.1 by.2)
       (extra_at design is_sound admitted true s
       (first_of (is_top_input design s) (not (is_clock design s)) input)
-      (assigned_is_signal design.signals q.body (body_is_sound design is_sound admitted q among) s
-      assigned)))
+      (register_is_signal s register)))
 
   -- ---- the facts of the law
 

@@ -1,26 +1,22 @@
 -- What one more cycle makes of the cycles that were run.
-use Rattle.std.proofs.Common.{◌≡◌, ℕ, ◌+◌, ◌*◌, ◌%◌, ◌^◌, ◌<◌, ◌≤◌, ◌&&◌, List, [], ◌∷◌, ◌++◌}
+use Rattle.std.proofs.Common.{◌≡◌, ℕ, ◌+◌, ◌*◌, ◌%◌, ◌^◌, ◌<◌, ◌≤◌, List, [], ◌∷◌, ◌++◌}
 use Rattle.std.proofs.Common.{length, map, refl}
 use Rattle.std.proofs.Common.{sym, ap, subst, ◌∙◌, arith, Option, Some, None, ⊎_elim}
 use Rattle.std.specs.Prelude.{Contains, IsTrue, IfSome, sum}
-use Rattle.std.proofs.lemmas.Bool.{ltb-true}
 use Rattle.std.proofs.lemmas.List.{map-append}
 use Rattle.std.proofs.lemmas.List.Sums.{fold-append}
 use Rattle.std.proofs.Math.Path.{fun_ext}
 use Rattle.sv_system.specs.System.{Environment, Settled, IsTrace}
 use Rattle.sv_system.proofs.Lists.{Contains-nil, Contains-cases}
-use Rattle.sv_flat.specs.Assigned.{assigns}
-use Rattle.sv_flat.specs.Design.{ProcessForm, FlatDesign}
+use Rattle.sv_flat.specs.Design.{FlatDesign}
 use Rattle.sv_flat.specs.FlatSystem.{flat_system}
-use Rattle.sv_flat.specs.Processes.{is_clocked, is_register}
+use Rattle.sv_flat.specs.Processes.{is_register}
 use Rattle.sv_flat.specs.Schedules.{IsOrderedRun, IsRoundCount, starting, after_tick}
 use Rattle.sv_flat.specs.Schedules.{tick_order, with_inputs, after_rounds}
 use Rattle.sv_flat.specs.SignalLists.{inputs, registers}
-use Rattle.sv_flat.proofs.AdmittedFacts.{assigned_is_signal, body_is_sound, clocked_is_process}
-use Rattle.sv_flat.proofs.Depths.{first_of, second_of}
-use Rattle.sv_flat.proofs.LeastSets.{from_some, in_those}
 use Rattle.sv_design.specs.Designs.{IsDesign}
 use Rattle.sv_flat.specs.Given.{given}
+use Rattle.sv_sim.proofs.OneDesign.{register_listed}
 use Rattle.sv_sim_run.specs.declared.runners.Runner.{Runner}
 use Rattle.sv_sim_run.specs.declared.runners.Runner.TheVariants as runner
 use Rattle.sv_sim_run.specs.Runners.{CountsRounds, values_in, order_in, rounds_in}
@@ -30,37 +26,21 @@ use Rattle.sv_sim_run.proofs.MoreCycles.{after_ordered_more}
 
 -- ---- registers
 
--- environments that agree on a list agree on its members
-same_mapped : (ss : List ℕ) (e f : Environment ℕ) (s : ℕ) → map e ss ≡ map f ss → Contains ss s →
-    e s ≡ f s
-same_mapped [] e f s same at = absurd (Contains-nil s at)
-same_mapped (t ∷ ts) e f s same at =
-    let first : e t ≡ f t = cc in
-    let later : map e ts ≡ map f ts = cc in
-    ⊎_elim
-    (λ is. subst (λ r. e r ≡ f r) is first)
-    (λ inside. same_mapped ts e f s later inside)
-    (Contains-cases t ts s at)
+-- two maps that give one list agree on each member
+pub agree_on : {X Y : Type 0} (f g : X → Y) (xs : List X) → map f xs ≡ map g xs
+    → (x : X) → Contains xs x → f x ≡ g x
+agree_on f g [] same x at = absurd (Contains-nil x at)
+agree_on f g (y ∷ xs) same x at = ⊎_elim
+    (λ is. subst (λ z. f z ≡ g z) is (let first : f y ≡ g y = cc same in first))
+    (λ inside. agree_on f g xs (let rest : map f xs ≡ map g xs = cc same in rest) x inside)
+    (Contains-cases y xs x at)
 
 module _ (design : FlatDesign) (is_design : IsDesign design) where
-  register_below : (s : ℕ) → IsTrue (is_register design s) → s < length design.signals
-  register_below s register =
-      let found = from_some (λ (q : ProcessForm). is_clocked q.kind && assigns q.body s)
-      design.processes register in
-      let q = found.0 in
-      let among = clocked_is_process design is_design.is_sound is_design.is_admitted q found.1
-      (first_of (is_clocked q.kind) (assigns q.body s) found.2) in
-      ltb-true s (length design.signals)
-      (assigned_is_signal design.signals q.body
-      (body_is_sound design is_design.is_sound is_design.is_admitted q among) s
-      (second_of (is_clocked q.kind) (assigns q.body s) found.2))
-
   pub same_registers : (e f : Environment ℕ) → map e (registers design) ≡ map f (registers design)
       → (s : ℕ) → IsTrue (is_register design s) → e s ≡ f s
   same_registers e f same s register =
-      same_mapped (registers design) e f s same
-      (in_those (length design.signals) (is_register design) s (register_below s register)
-      register)
+      agree_on e f (registers design) same s
+      (register_listed design is_design.is_sound is_design.is_admitted s register)
 
   -- ---- one more cycle
 

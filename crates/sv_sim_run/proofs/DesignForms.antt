@@ -1,8 +1,8 @@
 -- An admitted design's inputs and registers, as its system lists them, and what a stimulus gives
 -- them.
-use Rattle.std.proofs.Common.{◌≡◌, ℕ, ◌<◌, ◌^◌, Bool, true, false, cond, not, ◌&&◌, List, [], ◌∷◌}
+use Rattle.std.proofs.Common.{◌≡◌, ℕ, ◌<◌, ◌^◌, Bool, true, false, cond, not, List, [], ◌∷◌}
 use Rattle.std.proofs.Common.{◌++◌, length, map, flat_map, codes, refl, sym, ap, ◌∙◌, subst}
-use Rattle.std.proofs.Common.{ltb-true, arith}
+use Rattle.std.proofs.Common.{arith}
 use Rattle.std.specs.Prelude.{All, Contains, IsTrue, filter}
 use Rattle.std.specs.List.{range_with_len}
 use Rattle.std.proofs.lemmas.Bool.{false≢true}
@@ -11,18 +11,15 @@ use Rattle.sv_lattice.specs.declared.points.Point.{Point}
 use Rattle.sv_system.specs.System.{System, Environment, IsTrace, KindFits}
 use Rattle.sv_system.proofs.Pointwise.{each}
 use Rattle.sv_flat.specs.Admission.{IsAdmitted}
-use Rattle.sv_flat.specs.Assigned.{assigns}
 use Rattle.sv_flat.specs.Clocks.{is_clock}
-use Rattle.sv_flat.specs.Design.{ProcessForm, FlatDesign}
+use Rattle.sv_flat.specs.Design.{FlatDesign}
 use Rattle.sv_flat.specs.FlatSystem.{flat_system}
-use Rattle.sv_flat.specs.Processes.{is_clocked, is_top_input, is_register}
+use Rattle.sv_flat.specs.Processes.{is_top_input, is_register}
 use Rattle.sv_flat.specs.SignalLists.{inputs, registers}
 use Rattle.sv_flat.specs.Soundness.{sound}
-use Rattle.sv_flat.proofs.AdmittedFacts.{assigned_is_signal, body_is_sound, clocked_is_process}
-use Rattle.sv_flat.proofs.Depths.{first_of, second_of}
-use Rattle.sv_flat.proofs.LeastSets.{from_some, in_those}
+use Rattle.sv_flat.proofs.Depths.{second_of}
 use Rattle.sv_flat.specs.Given.{FitListed, given}
-use Rattle.sv_sim.proofs.OneDesign.{register_no_clock}
+use Rattle.sv_sim.proofs.OneDesign.{register_no_clock, register_listed}
 use Rattle.sv_sim.proofs.Simulated.{input_listed}
 use Rattle.sv_trace.specs.Forms.{StimForm, form_of, name_in}
 use Rattle.sv_trace.specs.Stimulus.{start_of, cycles_of}
@@ -110,17 +107,8 @@ module _ (design : FlatDesign) (is_sound : IsTrue (sound design))
   pub registers_listed : (s : ℕ) → IsTrue (system.is_register s)
       → Contains (registers_in system) s
   registers_listed s register =
-      let found = from_some (λ (q : ProcessForm). is_clocked q.kind && assigns q.body s)
-      design.processes register in
-      let q = found.0 in
-      let clock = first_of (is_clocked q.kind) (assigns q.body s) found.2 in
-      let assigned = second_of (is_clocked q.kind) (assigns q.body s) found.2 in
-      let at = clocked_is_process design is_sound admitted q found.1 clock in
-      let inside = assigned_is_signal design.signals q.body
-      (body_is_sound design is_sound admitted q at) s assigned in
       subst (λ ss. Contains ss s) (sym registers_are)
-      (in_those (length design.signals) (is_register design) s
-      (ltb-true s (length design.signals) inside) register)
+      (register_listed design is_sound admitted s register)
 
   -- ---- traces from given values
 

@@ -1,7 +1,7 @@
 -- Values given to the registers at the start and to the inputs of a cycle, and the starting
 -- environment.
 use mathlib.Core.Path.{fun_ext}
-use Rattle.std.proofs.Common.{◌≡◌, ℕ, zero, suc, ◌+◌, ◌<◌, ◌≤◌, ◌^◌, Bool, true, false, cond, not}
+use Rattle.std.proofs.Common.{◌≡◌, ℕ, zero, suc, ◌+◌, ◌<◌, ◌^◌, Bool, true, false, cond, not}
 use Rattle.std.proofs.Common.{◌&&◌, ◌==◌, List, [], ◌∷◌, length, map}
 use Rattle.std.proofs.Common.{get_or}
 use Rattle.std.proofs.Common.{⊎_elim, refl, sym, ap, subst, ◌∙◌, arith, pow_pos}
@@ -10,7 +10,6 @@ use Rattle.std.specs.List.{range_with_len}
 use Rattle.std.proofs.lemmas.Bool.{eqb-true, false≢true}
 use Rattle.std.proofs.lemmas.List.{length-map, get_or-map}
 use Rattle.sv_system.specs.System.{Environment, put}
-use Rattle.sv_system.proofs.Lists.{Contains-nil, Contains-cases}
 use Rattle.sv_system.proofs.Pointwise.{either_way as contained_or_not}
 use Rattle.sv_flat.specs.Admission.{IsAdmitted}
 use Rattle.sv_flat.specs.Clocks.{is_clock}
@@ -25,9 +24,11 @@ use Rattle.sv_flat.proofs.Depths.{second_of}
 use Rattle.sv_flat.proofs.LeastSets.{either_way, Contains-from_filter, in_those, those_below}
 use Rattle.sv_flat.proofs.LeastSets.{those_pass}
 use Rattle.sv_flat.proofs.SameRuns.{put_there}
+use Rattle.sv_graph.proofs.Differing.{range_above}
 use Rattle.sv_design.specs.Numbers.{numbers}
 use Rattle.sv_flat.specs.Given.{FitListed, with_given, given}
-use Rattle.sv_sim.proofs.GivenValues.{listed_value, other_value, listed_within}
+use Rattle.sv_sim.proofs.GivenValues.{listed_value, other_value, mapped_value}
+use Rattle.sv_sim.proofs.GivenValues.{listed_within}
 use Rattle.sv_sim.proofs.OneDesign.{register_no_clock}
 use Rattle.sv_sim.proofs.Simulated.{number_at, input_listed}
 use Rattle.sv_sim_run.specs.Runners.{OthersAreZero, with_values}
@@ -39,13 +40,6 @@ abbrev pub IsApart : List ℕ → Type 0
 IsApart [] = Unit {0}
 IsApart (t ∷ ts) = (Contains ts t → ⊥) × IsApart ts
 
-range_least : (a n k : ℕ) → Contains (range_with_len a n) k → a ≤ k
-range_least a zero k at = absurd (Contains-nil k at)
-range_least a (suc n) k at = ⊎_elim
-    (λ is. omega (arith, is))
-    (λ later. let more = range_least (a + 1) n k later in omega arith)
-    (Contains-cases a (range_with_len (a + 1) n) k at)
-
 kept_apart : (b : Bool) (a : ℕ) (rest : List ℕ) → (Contains rest a → ⊥) → IsApart rest →
     IsApart (cond b (a ∷ rest) rest)
 kept_apart true a rest none apart = (none, apart)
@@ -56,7 +50,7 @@ filter_apart test a zero = tt
 filter_apart test a (suc n) =
     let later = range_with_len (a + 1) n in
     kept_apart (test a) a (filter test later)
-    (λ at. let more = range_least (a + 1) n a (Contains-from_filter test later a at).1 in
+    (λ at. let more = range_above (a + 1) n a (Contains-from_filter test later a at).1 in
     omega arith)
     (filter_apart test (a + 1) n)
 
@@ -74,20 +68,6 @@ own_values (t ∷ ts) (v ∷ vs) e apart count =
     let f : Environment ℕ = put ◌==◌ t v e in
     ap (λ x. x ∷ map (with_given ts vs f) ts) (other_value ts vs t (f t) apart.0 ∙ put_there t v e)
     ∙ ap (λ xs. v ∷ xs) (own_values ts vs f apart.1 (omega (arith, count)))
-
--- so each has its value in an environment whose values are given for all of them
-mapped_value : (listed : List ℕ) (f e : Environment ℕ) (s : ℕ) → Contains listed s →
-    with_given listed (map f listed) e s ≡ f s
-mapped_value [] f e s at = absurd (Contains-nil s at)
-mapped_value (t ∷ ts) f e s at =
-    let g : Environment ℕ = put ◌==◌ t (f t) e in
-    contained_or_not (with_given ts (map f ts) g s) (f s) (Contains ts s)
-    (λ later. mapped_value ts f g s later)
-    (λ none. other_value ts (map f ts) s (g s) none
-    ∙ ⊎_elim
-    (λ same. subst (λ r. g r ≡ f r) same (put_there t (f t) e))
-    (λ later. absurd (none later))
-    (Contains-cases t ts s at))
 
 -- given values have their signals' widths
 pub given_fits : (signals : List SignalForm) (listed values : List ℕ) (e : Environment ℕ) (s : ℕ)

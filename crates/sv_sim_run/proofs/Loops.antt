@@ -288,16 +288,24 @@ module _ (bytes piece : List ℕ) (left : ℕ) (before accepted accepted_new : L
   piece_end_fails (Ok found) is some none front = absurd (false≢true is)
   piece_end_fails (Err fault) is some none front = piece_end_stops fault some none front
 
+  -- what is said where a part of the piece was read, and where it was not
+  abbrev PartCame : (part : List ℕ) → Result (Option Ending) SimFault → Type 0
+  PartCame part r = IfOk r (λ found. (bytes before : List ℕ) → HasCome bytes before accepted old
+      → HasCome (bytes ++ part) before accepted_new new)
+
+  abbrev PartEnds : Result (Option Ending) SimFault → Type 0
+  PartEnds r = IfOk r (λ found. ending_from (answer_of new.reader.fault) ≡ Ok found)
+
+  abbrev PartStops : (part : List ℕ) → Result (Option Ending) SimFault → Type 0
+  PartStops part r = OnErr r ((bytes before : List ℕ) → HasCome bytes before accepted old
+      → (first rest : List ℕ) × (bytes ++ part ≡ first ++ rest)
+      × HasFailed (read_front old.reader.form first) before accepted_new old)
+
   -- a piece was read, or not
   pub piece_reads : (part : List ℕ) (within : ℕ) (r : Result (Option Ending) SimFault)
       → 0 < length piece → within ≡ (if left == 0 then length piece - 1 else length piece)
       → part ≡ take within piece → IsSimulating new → IsFalse new.reader.finished
-      → IfOk r (λ found. (bytes before : List ℕ) → HasCome bytes before accepted old
-      → HasCome (bytes ++ part) before accepted_new new)
-      → IfOk r (λ found. ending_from (answer_of new.reader.fault) ≡ Ok found)
-      → OnErr r ((bytes before : List ℕ) → HasCome bytes before accepted old
-      → (first rest : List ℕ) × (bytes ++ part ≡ first ++ rest)
-      × HasFailed (read_front old.reader.form first) before accepted_new old)
+      → PartCame part r → PartEnds r → PartStops part r
       → PieceReads bytes piece left before accepted_new r old new
   piece_reads part within r some is parted made going = by_result r
     where
@@ -312,12 +320,7 @@ module _ (bytes piece : List ℕ) (left : ℕ) (before accepted accepted_new : L
       here = come_before (omega arith)
 
       by_result : (r : Result (Option Ending) SimFault)
-          → IfOk r (λ found. (bytes before : List ℕ) → HasCome bytes before accepted old
-          → HasCome (bytes ++ part) before accepted_new new)
-          → IfOk r (λ found. ending_from (answer_of new.reader.fault) ≡ Ok found)
-          → OnErr r ((bytes before : List ℕ) → HasCome bytes before accepted old
-          → (first rest : List ℕ) × (bytes ++ part ≡ first ++ rest)
-          × HasFailed (read_front old.reader.form first) before accepted_new old)
+          → PartCame part r → PartEnds r → PartStops part r
           → PieceReads bytes piece left before accepted_new r old new
       by_result (Ok None) come found stops = (
         some,
@@ -381,17 +384,6 @@ pub all_same : (bytes before accepted : List ℕ) (old new : Simulation) → IsS
 all_same bytes before accepted old new same all =
     subst (λ (f : Flat). WritesAllAt (design_of f) old.level bytes before accepted) same.design
     (subst (λ (l : Option Point). WritesAllAt (flat_of new) l bytes before accepted) same.level all)
-
-pub same_twice : (a b c : Simulation) → IsSameAs a b → IsSameAs b c → IsSameAs a c
-same_twice a b c first second = record {
-  design = second.design ∙ first.design;
-  level = second.level ∙ first.level;
-  order = second.order ∙ first.order;
-  form = second.form ∙ first.form;
-}
-
-pub same_itself : (s : Simulation) → IsSameAs s s
-same_itself s = record { design = refl; level = refl; order = refl; form = refl }
 
 -- a reading begins
 pub under_way : (before : List ℕ) (s : Simulation) → IsSimulating s → IsFalse s.reader.finished

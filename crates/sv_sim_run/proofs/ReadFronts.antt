@@ -20,7 +20,7 @@ use Rattle.sv_trace.specs.Stimulus.{start_lines}
 use Rattle.sv_trace.specs.Stimulus.{started, start_of, cycles_of, words}
 use Rattle.sv_trace.proofs.Splitting.{first_part}
 use Rattle.sv_trace.proofs.Stuck.{front_stays, whole_stays}
-use Rattle.sv_trace.proofs.Texts.{lines_more, read_more, long_is_wrong}
+use Rattle.sv_trace.proofs.Texts.{lines_begin, lines_more, read_more, long_is_wrong}
 
 -- ---- the parts of a text and of its front
 
@@ -94,21 +94,6 @@ all_right form before (x ∷ xs) ys e =
         (append_assoc before (x ∷ []) xs)
     go (Some kind) rest w = cc
 
--- what is read after right lines begins with them
-begins : (form : StimForm) (before xs : List (List ℕ))
-    → (more : List (List ℕ)) × ((read_after form before xs).right ≡ before ++ more)
-begins form before [] = ([], sym (append-nil before))
-begins form before (x ∷ xs) =
-    go (line_fault form before x) (begins form (before ++ x ∷ []) xs)
-  where
-    go : (o : Option StimKind)
-        → (more : List (List ℕ))
-        × ((read_after form (before ++ x ∷ []) xs).right ≡ (before ++ x ∷ []) ++ more)
-        → (more : List (List ℕ))
-        × ((read_next o before (read_after form (before ++ x ∷ []) xs)).right ≡ before ++ more)
-    go None rest = (x ∷ rest.0, rest.1 ∙ append_assoc before (x ∷ []) rest.0)
-    go (Some kind) rest = ([], sym (append-nil before))
-
 -- the lines of a front with no wrong line
 front_is : (form : StimForm) (before : List (List ℕ)) (last : List ℕ)
     → (read_after form [] (lines_if long (before ++ last ∷ []))).wrong ≡ None
@@ -154,7 +139,7 @@ after_front form test a b e =
     let front : read_front form a ≡ read_after form [] (lines_if long (s.before ++ s.last ∷ [])) =
     ap (λ ps. read_after form [] (lines_if long ps)) s.front in
     let is = front_is form s.before s.last (ap (λ (r : LinesRead). r.wrong) (sym front) ∙ e) in
-    let more = begins form s.before (lines_if test (first.0 ∷ first.1)) in
+    let more = lines_begin form s.before (lines_if test (first.0 ∷ first.1)) in
     let whole : read_after form [] (lines_if test (parts (a ++ b)))
     ≡ read_after form s.before (lines_if test (first.0 ∷ first.1)) =
     ap (λ ps. read_after form [] (lines_if test ps))
@@ -175,15 +160,20 @@ pub same_grows : (first second : LinesRead) → second ≡ first → Grows first
 same_grows first second e =
     ([], ap (λ (r : LinesRead). r.right) e ∙ sym (append-nil first.right))
 
+-- what was read wrong stays, and what was not grows
+grows_by : (first second : LinesRead) → (first.wrong ≡ None → Grows first second)
+    → ((kind : StimKind) → first.wrong ≡ Some kind → second ≡ first) → Grows first second
+grows_by first second more stays = by_fault first.wrong refl
+  where
+    by_fault : (o : Option StimKind) → first.wrong ≡ o → Grows first second
+    by_fault None e = more e
+    by_fault (Some kind) e = same_grows first second (stays kind e)
+
 pub front_of_front : (form : StimForm) (a b : List ℕ)
     → Grows (read_front form a) (read_front form (a ++ b))
-front_of_front form a b = by_fault (read_front form a).wrong refl
-  where
-    by_fault : (o : Option StimKind) → (read_front form a).wrong ≡ o
-        → Grows (read_front form a) (read_front form (a ++ b))
-    by_fault None e = after_front form long a b e
-    by_fault (Some kind) e =
-        same_grows (read_front form a) (read_front form (a ++ b)) (front_stays form a b kind e)
+front_of_front form a b =
+    grows_by (read_front form a) (read_front form (a ++ b)) (λ e. after_front form long a b e)
+    (λ kind e. front_stays form a b kind e)
 
 pub ended_right : (form : StimForm) (read : LinesRead) → (ended form read).right ≡ read.right
 ended_right form read = by_test read.wrong (has_header form read.right)
@@ -196,19 +186,14 @@ ended_right form read = by_test read.wrong (has_header form read.right)
 
 pub front_of_whole : (form : StimForm) (a b : List ℕ)
     → Grows (read_front form a) (read_whole form (a ++ b))
-front_of_whole form a b = by_fault (read_front form a).wrong refl
-  where
-    by_fault : (o : Option StimKind) → (read_front form a).wrong ≡ o
-        → Grows (read_front form a) (read_whole form (a ++ b))
-    by_fault None e =
-        let more = after_front form filled a b e in (
-          more.0,
-          ended_right form (read_after form [] (lines_if filled (parts (a ++ b)))) ∙ more.1,
-        )
-    by_fault (Some kind) e =
-        let stays = front_stays form a b kind e in
-        same_grows (read_front form a) (read_whole form (a ++ b))
-        (whole_stays form (a ++ b) kind (ap (λ (r : LinesRead). r.wrong) stays ∙ e) ∙ stays)
+front_of_whole form a b =
+    grows_by (read_front form a) (read_whole form (a ++ b))
+    (λ e. let more = after_front form filled a b e in (
+      more.0,
+      ended_right form (read_after form [] (lines_if filled (parts (a ++ b)))) ∙ more.1,
+    ))
+    (λ kind e. let stays = front_stays form a b kind e in
+    whole_stays form (a ++ b) kind (ap (λ (r : LinesRead). r.wrong) stays ∙ e) ∙ stays)
 
 -- ---- what more right lines say
 

@@ -31,6 +31,29 @@ unless_full (Ok done) P found is fact = fact
 unless_full (Err (stim.Line number kind)) P found is fact = fact
 unless_full (Err stim.OutOfMemory) P found is fact = cc
 
+-- a reader that has ended has read the whole, where its answer is no fault of memory
+pub whole_reads : (r : Result (Unit {0}) StimFault) (old new : Reading) (found : Option Ending)
+    → ending_from r ≡ Ok found
+    → UnlessFull r ((bytes : List ℕ) (taken : List (List ℕ)) → HasFed bytes taken old →
+    HasRead (read_whole new.form bytes) taken new)
+    → (bytes : List ℕ) (taken : List (List ℕ)) → HasFed bytes taken old
+    → HasRead (read_whole new.form bytes) taken new
+whole_reads r old new found is fact =
+    unless_full r ((bytes : List ℕ) (taken : List (List ℕ)) → HasFed bytes taken old →
+    HasRead (read_whole new.form bytes) taken new) found is fact
+
+-- and one that took a piece has read it too
+pub fed_reads : (r : Result (Unit {0}) StimFault) (old new : Reading) (piece : List ℕ)
+    (found : Option Ending)
+    → ending_from r ≡ Ok found
+    → UnlessFull r ((bytes : List ℕ) (taken : List (List ℕ)) → HasFed bytes taken old →
+    HasFed (bytes ++ piece) taken new)
+    → (bytes : List ℕ) (taken : List (List ℕ)) → HasFed bytes taken old
+    → HasFed (bytes ++ piece) taken new
+fed_reads r old new piece found is fact =
+    unless_full r ((bytes : List ℕ) (taken : List (List ℕ)) → HasFed bytes taken old →
+    HasFed (bytes ++ piece) taken new) found is fact
+
 -- the ending of a whole stimulus
 pub ended_is : (read : LinesRead) (found : Option Ending)
     → ending_from (answer_of (fault_of read)) ≡ Ok found

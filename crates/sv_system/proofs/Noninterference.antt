@@ -10,16 +10,16 @@ use Rattle.sv_system.proofs.OneCycle.{IsAtRest, rests, IsSeen, AgreesUp, AgreesO
 use Rattle.sv_system.proofs.OneCycle.{views_agree, registers_agree}
 
 module _ {X : Type 0} where
-  first_same : (x y : X) (xs ys : List X) → x ∷ xs ≡ y ∷ ys → x ≡ y
+  pub first_same : (x y : X) (xs ys : List X) → x ∷ xs ≡ y ∷ ys → x ≡ y
   first_same x y xs ys same = cc
 
-  rest_same : (x y : X) (xs ys : List X) → x ∷ xs ≡ y ∷ ys → xs ≡ ys
+  pub rest_same : (x y : X) (xs ys : List X) → x ∷ xs ≡ y ∷ ys → xs ≡ ys
   rest_same x y xs ys same = cc
 
-  none_is_some : (x : X) (xs : List X) → [] ≡ x ∷ xs → ⊥
+  pub none_is_some : (x : X) (xs : List X) → [] ≡ x ∷ xs → ⊥
   none_is_some x xs same = cc
 
-  joined : (x y : X) (xs ys : List X) → x ≡ y → xs ≡ ys → x ∷ xs ≡ y ∷ ys
+  pub joined : (x y : X) (xs ys : List X) → x ≡ y → xs ≡ ys → x ∷ xs ≡ y ∷ ys
   joined x y xs ys first rest = cc
 
 module _ {Signal Point : Type 0} (system : System Signal Point) where

@@ -1,5 +1,5 @@
 -- What a reader has read, after each of its calls.
-use Rattle.std.proofs.Common.{◌≡◌, ℕ, ◌+◌, ◌^◌, ◌<◌, true, false, List, [], ◌∷◌, ◌++◌, length, map}
+use Rattle.std.proofs.Common.{◌≡◌, ℕ, ◌+◌, ◌^◌, ◌<◌, false, List, [], ◌∷◌, ◌++◌, length, map}
 use Rattle.std.proofs.Common.{refl, sym, ap, ◌∙◌, subst, Option, Some, None, get_or}
 use Rattle.std.proofs.Common.{Bool, arith, pow_pos, ◌≤◌}
 use Rattle.std.specs.Prelude.{Result, Ok, Err, All, IfSome, replicate}
@@ -80,22 +80,21 @@ fed_stopped bytes taken new fault s is = record {
   cut = λ none. absurd (false≢true (sym none ∙ ap is_some is));
 }
 
+-- a reading of these fields
+abbrev pub reading_of : StimForm → Said → (rest : List ℕ) → (fault : Option StimFault) →
+    (finished : Bool) → Reading
+reading_of form said rest fault finished = record {
+  form = form;
+  said = said;
+  rest = rest;
+  fault = fault;
+  finished = finished;
+}
+
 pub piece_fed : (form : StimForm) (old_said new_said : Said) (old_rest new_rest piece : List ℕ)
     (r : Result (Unit {0}) StimFault) (old new : Reading)
-    → old ≡ record {
-      form = form;
-      said = old_said;
-      rest = old_rest;
-      fault = None;
-      finished = false;
-    }
-    → new ≡ record {
-      form = form;
-      said = new_said;
-      rest = new_rest;
-      fault = result_err r;
-      finished = false;
-    }
+    → old ≡ reading_of form old_said old_rest None false
+    → new ≡ reading_of form new_said new_rest (result_err r) false
     → ((bytes : List ℕ) (taken : List (List ℕ)) → Stands form bytes taken old_said old_rest
     → PieceRead form (bytes ++ piece) taken r new_said new_rest)
     → UnlessFull r ((bytes : List ℕ) (taken : List (List ℕ)) → HasFed bytes taken old
@@ -125,15 +124,21 @@ fed_still old piece (Line number kind) is = λ bytes taken fed.
     }
 fed_still old piece OutOfMemory is = tt
 
+-- what a reader said was read of the whole text, with this fault
+read_to_end : (form : StimForm) (said : Said) (new : Reading) (bytes : List ℕ)
+    (taken : List (List ℕ)) (fault : Option StimFault)
+    → new.form ≡ form → new.said ≡ said → new.fault ≡ fault
+    → HaveRead form (read_whole form bytes).right taken said
+    → fault_of (read_whole form bytes) ≡ fault → HasRead (read_whole new.form bytes) taken new
+read_to_end form said new bytes taken fault f s e lines is = record {
+  lines = subst (λ g. HaveRead g (read_whole g bytes).right taken new.said) (sym f)
+      (subst (λ z. HaveRead form (read_whole form bytes).right taken z) (sym s) lines);
+  fault = e ∙ sym (ap (λ g. fault_of (read_whole g bytes)) f ∙ is);
+}
+
 pub end_read : (form : StimForm) (old_said new_said : Said) (old_rest new_rest : List ℕ)
     (r : Result (Unit {0}) StimFault) (old new : Reading)
-    → old ≡ record {
-      form = form;
-      said = old_said;
-      rest = old_rest;
-      fault = None;
-      finished = false;
-    }
+    → old ≡ reading_of form old_said old_rest None false
     → new.form ≡ form → new.said ≡ new_said → new.fault ≡ result_err r
     → ((bytes : List ℕ) (taken : List (List ℕ)) → Stands form bytes taken old_said old_rest
     → EndRead form bytes taken r new_said)
@@ -142,19 +147,11 @@ pub end_read : (form : StimForm) (old_said new_said : Said) (old_rest new_rest :
 end_read form os ns or nr (Ok done) old new o f s e reads = λ bytes taken fed.
     let read = reads bytes taken (stands_from bytes taken _ (subst
     (HasFed bytes taken) o fed) refl) in
-    record {
-      lines = subst (λ g. HaveRead g (read_whole g bytes).right taken new.said) (sym f)
-          (subst (λ z. HaveRead form (read_whole form bytes).right taken z) (sym s) read.lines);
-      fault = e ∙ sym (ap (λ g. fault_of (read_whole g bytes)) f ∙ read.fault);
-    }
+    read_to_end form ns new bytes taken None f s e read.lines read.fault
 end_read form os ns or nr (Err (Line number kind)) old new o f s e reads = λ bytes taken fed.
     let read = reads bytes taken (stands_from bytes taken _ (subst
     (HasFed bytes taken) o fed) refl) in
-    record {
-      lines = subst (λ g. HaveRead g (read_whole g bytes).right taken new.said) (sym f)
-          (subst (λ z. HaveRead form (read_whole form bytes).right taken z) (sym s) read.lines);
-      fault = e ∙ sym (ap (λ g. fault_of (read_whole g bytes)) f ∙ read.is);
-    }
+    read_to_end form ns new bytes taken (Some (Line number kind)) f s e read.lines read.is
 end_read form os ns or nr (Err OutOfMemory) old new o f s e reads = tt
 
 pub end_still : (old : Reading) (fault : StimFault) → old.fault ≡ Some fault
@@ -188,13 +185,7 @@ full_still old OutOfMemory P is = λ bytes taken fed.
     absurd (never_full (read_front old.form bytes) (sym fed.read.fault ∙ is))
 
 module _ (form : StimForm) (old_said new_said : Said) (old_rest new_rest : List ℕ) (old : Reading)
-    (is : old ≡ record {
-      form = form;
-      said = old_said;
-      rest = old_rest;
-      fault = None;
-      finished = false;
-    }) where
+    (is : old ≡ reading_of form old_said old_rest None false) where
   pub piece_full : (piece : List ℕ) (r : Result (Unit {0}) StimFault)
       → ((bytes : List ℕ) (taken : List (List ℕ)) → Stands form bytes taken old_said old_rest
       → PieceRead form (bytes ++ piece) taken r new_said new_rest)
@@ -255,81 +246,34 @@ cycle_fits form values design fit is =
 
 -- ---- on the views of fields
 
+-- the reading with no fault, or another one, that is not finished
+still_open : (form : StimForm) (said : Said) (rest : List ℕ) (fault other : Option StimFault)
+    (finished : Bool) → fault ≡ other → finished ≡ false
+    → reading_of form said rest fault finished ≡ reading_of form said rest other false
+still_open form said rest fault other fin is unended =
+    ap (λ f. reading_of form said rest f fin) is ∙ ap (reading_of form said rest other) unended
+
 pub piece_read : (form : StimForm) (old_said new_said : Said) (old_rest new_rest piece : List ℕ)
     (r : Result (Unit {0}) StimFault) (old : Reading) (old_fault new_fault : Option StimFault)
     (finished : Bool)
-    → record {
-      form = form;
-      said = old_said;
-      rest = old_rest;
-      fault = old_fault;
-      finished = finished;
-    } ≡ old
+    → reading_of form old_said old_rest old_fault finished ≡ old
     → old_fault ≡ None → finished ≡ false → new_fault ≡ result_err r
     → ((bytes : List ℕ) (taken : List (List ℕ)) → Stands form bytes taken old_said old_rest
     → PieceRead form (bytes ++ piece) taken r new_said new_rest)
     → UnlessFull r ((bytes : List ℕ) (taken : List (List ℕ)) → HasFed bytes taken old
-    → HasFed (bytes ++ piece) taken (record {
-      form = form;
-      said = new_said;
-      rest = new_rest;
-      fault = new_fault;
-      finished = finished;
-    }))
+    → HasFed (bytes ++ piece) taken (reading_of form new_said new_rest new_fault finished))
 piece_read form os ns or nr piece r old of nf fin is none unended err reads =
     piece_fed form os ns or nr piece r old _
-    (sym is
-    ∙ ap (λ f. let x : Reading = record {
-      form = form;
-      said = os;
-      rest = or;
-      fault = f;
-      finished = fin;
-    } in x) none
-    ∙ ap (λ b. let x : Reading = record {
-      form = form;
-      said = os;
-      rest = or;
-      fault = None;
-      finished = b;
-    } in x) unended)
-    (ap (λ f. let x : Reading = record {
-      form = form;
-      said = ns;
-      rest = nr;
-      fault = f;
-      finished = fin;
-    } in x) err
-    ∙ ap (λ b. let x : Reading = record {
-      form = form;
-      said = ns;
-      rest = nr;
-      fault = result_err r;
-      finished = b;
-    } in x) unended)
-    reads
+    (sym is ∙ still_open form os or of None fin none unended)
+    (still_open form ns nr nf (result_err r) fin err unended) reads
 
 pub opened : (form : StimForm) (said : Said) (rest : List ℕ) (old : Reading)
     (fault : Option StimFault) (finished : Bool)
-    → record { form = form; said = said; rest = rest; fault = fault; finished = finished } ≡ old
+    → reading_of form said rest fault finished ≡ old
     → fault ≡ None → finished ≡ false
-    → old ≡ record { form = form; said = said; rest = rest; fault = None; finished = false }
+    → old ≡ reading_of form said rest None false
 opened form said rest old fault fin is none unended =
-    sym is
-    ∙ ap (λ f. let x : Reading = record {
-      form = form;
-      said = said;
-      rest = rest;
-      fault = f;
-      finished = fin;
-    } in x) none
-    ∙ ap (λ b. let x : Reading = record {
-      form = form;
-      said = said;
-      rest = rest;
-      fault = None;
-      finished = b;
-    } in x) unended
+    sym is ∙ still_open form said rest fault None fin none unended
 
 pub start_listed : (inside now : Reading) → inside ≡ now
     → FitWidths (widths_of inside.form.registers) inside.said.start → (design : FlatDesign)

@@ -1,5 +1,5 @@
 -- What small stimuli say, and what is wrong with others, by computation.
-use Rattle.std.proofs.Common.{◌≡◌, ℕ, List, [], ◌∷◌, Option, Some, None, refl}
+use Rattle.std.proofs.Common.{◌≡◌, ℕ, List, [], ◌∷◌, map, Option, Some, None, refl}
 use Rattle.std.specs.Prelude.{codes}
 use Rattle.sv_texts.specs.declared.stimuli.StimKind.TheVariants.{Header, Name, Value}
 use Rattle.sv_trace.specs.declared.faults.StimFault.{StimFault}
@@ -41,48 +41,47 @@ no_start = refl
 
 -- ---- wrong lines
 
-pub too_wide : wrong (codes "inputs d\n3\n10\n4\n") ≡ Some (Line 3 Value)
-too_wide = refl
-
 -- the cycles before a wrong line stay
 pub before_it : cycles_of (read_whole form (codes "inputs d\n3\n10\n4\n")).right ≡ (3 ∷ []) ∷ []
 before_it = refl
 
-pub seventeen_digits : wrong (codes "inputs d\n00000000000000003\n") ≡ Some (Line 2 Value)
-seventeen_digits = refl
-
-pub no_value : wrong (codes "inputs d\n\n") ≡ Some (Line 2 Value)
-no_value = refl
-
-pub two_values : wrong (codes "inputs d\n3 3\n") ≡ Some (Line 2 Value)
-two_values = refl
-
-pub trailing_blank : wrong (codes "inputs d\n3 \n") ≡ Some (Line 2 Value)
-trailing_blank = refl
-
-pub no_header : wrong (codes "start q 1\n") ≡ Some (Line 2 Header)
-no_header = refl
-
-pub no_text : wrong [] ≡ Some (Line 1 Header)
-no_text = refl
-
-pub other_header : wrong (codes "inputs q\n") ≡ Some (Line 1 Header)
-other_header = refl
-
-pub started_twice : wrong (codes "start q 1\nstart q zz\ninputs d\n") ≡ Some (Line 2 Name)
-started_twice = refl
-
-pub an_input_starts : wrong (codes "start d zz\ninputs d\n") ≡ Some (Line 1 Name)
-an_input_starts = refl
-
-pub two_blanks : wrong (codes "start  q 1\ninputs d\n") ≡ Some (Line 1 Name)
-two_blanks = refl
+pub too_wide : wrong (codes "inputs d\n3\n10\n4\n") ≡ Some (Line 3 Value)
+too_wide = refl
 
 pub no_second_blank : wrong (codes "start q\ninputs d\n") ≡ Some (Line 1 Value)
 no_second_blank = refl
 
-pub no_first_blank : wrong (codes "start\ninputs d\n") ≡ Some (Line 1 Header)
-no_first_blank = refl
+pub no_header : wrong (codes "start q 1\n") ≡ Some (Line 2 Header)
+no_header = refl
 
-pub late_start : wrong (codes "inputs d\nstart q 1\n") ≡ Some (Line 2 Value)
-late_start = refl
+pub started_twice : wrong (codes "start q 1\nstart q zz\ninputs d\n") ≡ Some (Line 2 Name)
+started_twice = refl
+
+-- that is wrong with each of the texts
+abbrev AreWrong : StimFault → List (List ℕ) → Type 0
+AreWrong fault texts = map wrong texts ≡ map (λ (t : List ℕ). Some fault) texts
+
+-- seventeen digits, no value, two values, a trailing blank, and a start that is late
+pub no_values : AreWrong (Line 2 Value) (
+    codes "inputs d\n00000000000000003\n"
+    ∷ codes "inputs d\n\n"
+    ∷ codes "inputs d\n3 3\n"
+    ∷ codes "inputs d\n3 \n"
+    ∷ codes "inputs d\nstart q 1\n"
+    ∷ [])
+no_values = refl
+
+-- no text, another header, and no first blank
+pub no_headers : AreWrong (Line 1 Header) (
+    []
+    ∷ codes "inputs q\n"
+    ∷ codes "start\ninputs d\n"
+    ∷ [])
+no_headers = refl
+
+-- an input that starts, and two blanks
+pub no_names : AreWrong (Line 1 Name) (
+    codes "start d zz\ninputs d\n"
+    ∷ codes "start  q 1\ninputs d\n"
+    ∷ [])
+no_names = refl

@@ -261,7 +261,7 @@ kept_lacks bytes right kept more cut lacks =
 
 -- ---- right lines come first in what is read
 
-lines_begin : (form : StimForm) (before lines : List (List ℕ))
+pub lines_begin : (form : StimForm) (before lines : List (List ℕ))
     → (later : List (List ℕ)) × ((read_after form before lines).right ≡ before ++ later)
 lines_begin form before [] = ([], sym (append-nil before))
 lines_begin form before (x ∷ xs) =

@@ -12,6 +12,8 @@ use Rattle.sv_system.proofs.Pointwise.{each}
 use Rattle.sv_lattice.specs.declared.points.Point.{Point}
 use Rattle.sv_flat.specs.Sets.{those}
 use Rattle.sv_flat.proofs.LeastSets.{either_way, in_those, those_below, Contains-from_filter}
+use Rattle.sv_flat.proofs.SameRuns.{and_none_left, and_none_right, both_false}
+use Rattle.sv_rules.proofs.Firsts.{or_left, or_right}
 use Rattle.sv_obl.proofs.PathLists.{cond_true}
 use Rattle.sv_tworun.specs.Comparisons.{SaySame, IsFirstApart}
 use Rattle.sv_tworun.specs.Sights.{sight, differs, IsFirst, FindsFirst, lower_of}
@@ -30,14 +32,6 @@ module _ (kind test : ℕ → Bool) where
   IsFoundFrom a n answer = MatchOption answer
       ((t : ℕ) → a ≤ t → t < a + n → IsFalse (kind t && test t)) (λ s.
       FoundFrom a s × (s < a + n))
-
-  both_false : (b c : Bool) → IsFalse b → IsFalse (b && c)
-  both_false true c h = absurd (false≢true (sym h))
-  both_false false c h = refl
-
-  second_false : (b c : Bool) → IsFalse c → IsFalse (b && c)
-  second_false true c h = h
-  second_false false c h = refl
 
   -- one more number in front, which does not pass
   passed_over : (a n : ℕ) → IsFalse (kind a && test a) → (answer : Option ℕ)
@@ -72,10 +66,10 @@ module _ (kind test : ℕ → Bool) where
       → IsFoundFrom (a + 1) n (find test ns)
       → IsFoundFrom a (suc n) (find test (cond b (a ∷ ns) ns))
   found_step false c a n ns k t later =
-      passed_over a n (both_false (kind a) (test a) k) (find test ns) later
+      passed_over a n (and_none_left (kind a) (test a) k) (find test ns) later
   found_step true false a n ns k t later =
       subst (λ d. IsFoundFrom a (suc n) (cond d (Some a) (find test ns))) (sym t)
-      (passed_over a n (second_false (kind a) (test a) t) (find test ns) later)
+      (passed_over a n (and_none_right (kind a) (test a) t) (find test ns) later)
   found_step true true a n ns k t later =
       subst (λ d. IsFoundFrom a (suc n) (cond d (Some a) (find test ns))) (sym t) (
         record {
@@ -124,49 +118,38 @@ passes_alike n p q same (Some s) some = record {
 }
 
 module _ (n : ℕ) (p q : ℕ → Bool) where
-  neither : (b c : Bool) → IsFalse b → IsFalse c → IsFalse (b || c)
-  neither true c h k = absurd (false≢true (sym h))
-  neither false c h k = k
-
-  left : (b c : Bool) → IsTrue b → IsTrue (b || c)
-  left true c h = refl
-  left false c h = absurd (false≢true h)
-
-  right : (b c : Bool) → IsTrue c → IsTrue (b || c)
-  right true c h = refl
-  right false c h = h
-
   abbrev either : ℕ → Bool
   either s = p s || q s
 
   -- the lower of what two searches find is the first that passes either
   pub lower_found : (one other : Option ℕ) → FindsFirst n p one → FindsFirst n q other →
       FindsFirst n either (lower_of one other)
-  lower_found None None one other = λ t below. neither (p t) (q t) (one t below) (other t below)
+  lower_found None None one other = λ t below. both_false (p t) (q t) (one t below) (other t below)
   lower_found None (Some b) one other = record {
     below = other.below;
-    here = right (p b) (q b) other.here;
-    before = λ t below. neither (p t) (q t)
+    here = or_right (p b) (q b) other.here;
+    before = λ t below. both_false (p t) (q t)
         (one t (let top = other.below in omega arith)) (other.before t below);
   }
   lower_found (Some a) None one other = record {
     below = one.below;
-    here = left (p a) (q a) one.here;
-    before = λ t below. neither (p t) (q t) (one.before t below)
+    here = or_left (p a) (q a) one.here;
+    before = λ t below. both_false (p t) (q t) (one.before t below)
         (other t (let top = one.below in omega arith));
   }
   lower_found (Some a) (Some b) one other = record {
     below = let x = one.below in let y = other.below in omega arith;
     here = lowest (min a b) refl;
-    before = λ t below. neither (p t) (q t) (one.before t (omega arith))
+    before = λ t below. both_false (p t) (q t) (one.before t (omega arith))
         (other.before t (omega arith));
   }
     where
       lowest : (m : ℕ) → min a b ≡ m → IsTrue (either m)
       lowest m is = ⊎_elim
-          (λ same. subst (λ z. IsTrue (either z)) (eqb-true a m same) (left (p a) (q a) one.here))
+          (λ same. subst (λ z. IsTrue (either z)) (eqb-true a m same)
+          (or_left (p a) (q a) one.here))
           (λ above. subst (λ z. IsTrue (either z))
-          (let apart = not_same a m above in omega (arith, is)) (right (p b) (q b) other.here))
+          (let apart = not_same a m above in omega (arith, is)) (or_right (p b) (q b) other.here))
           (either_way (a == m))
         where
           not_same : (x y : ℕ) → IsFalse (x == y) → x ≡ y → ⊥

@@ -6,6 +6,7 @@ use Rattle.std.proofs.lemmas.List.Elements.{All-contains}
 use Rattle.std.proofs.lemmas.Option.{slice_get_within, same_Some}
 use Rattle.sv_system.specs.System.{System, Environment, seen, view}
 use Rattle.sv_system.proofs.Lists.{Contains-head, Contains-later}
+use Rattle.sv_system.proofs.Noninterference.{first_same, rest_same}
 use Rattle.sv_lattice.specs.declared.points.Point.{Point}
 use Rattle.sv_flat.specs.declared.signals.SigId.{SigId}
 use Rattle.sv_flat.proofs.LeastSets.{either_way}
@@ -29,26 +30,20 @@ one_of m n not_lower not_higher = ⊎_elim
     (either_way (nat_lt m n))
 
 module _ {X : Type 0} where
-  first_is : (x y : X) (xs ys : List X) → x ∷ xs ≡ y ∷ ys → x ≡ y
-  first_is x y xs ys same = cc
-
-  rest_is : (x y : X) (xs ys : List X) → x ∷ xs ≡ y ∷ ys → xs ≡ ys
-  rest_is x y xs ys same = cc
-
   -- the first element of a list that has no property is one
   first_without : (P : X → Type 0) (s t : X) (front other rest more : List X)
       → front ++ s ∷ rest ≡ other ++ t ∷ more → ((x : X) → Contains front x → P x)
       → ((x : X) → Contains other x → P x) → ¬ P s → ¬ P t → s ≡ t
-  first_without P s t [] [] rest more same one two not_s not_t = first_is s t rest more same
+  first_without P s t [] [] rest more same one two not_s not_t = first_same s t rest more same
   first_without P s t [] (y ∷ ys) rest more same one two not_s not_t =
-      absurd (not_s (subst P (sym (first_is s y rest (ys ++ t ∷ more) same))
+      absurd (not_s (subst P (sym (first_same s y rest (ys ++ t ∷ more) same))
       (two y (Contains-head y ys))))
   first_without P s t (x ∷ xs) [] rest more same one two not_s not_t =
-      absurd (not_t (subst P (first_is x t (xs ++ s ∷ rest) more same)
+      absurd (not_t (subst P (first_same x t (xs ++ s ∷ rest) more same)
       (one x (Contains-head x xs))))
   first_without P s t (x ∷ xs) (y ∷ ys) rest more same one two not_s not_t =
       first_without P s t xs ys rest more
-      (rest_is x y (xs ++ s ∷ rest) (ys ++ t ∷ more) same)
+      (rest_same x y (xs ++ s ∷ rest) (ys ++ t ∷ more) same)
       (λ z at. one z (Contains-later x xs z at)) (λ z at. two z (Contains-later y ys z at))
       not_s not_t
 
@@ -83,29 +78,30 @@ module _ {Signal Level : Type 0} (system : System Signal Level) (level : Level)
   abbrev Differ : ℕ → Type 0
   Differ cycle = AtCycle cycle first second (λ e f. view system level e ≡ view system level f → ⊥)
 
-  apart_inputs : (cycle : ℕ) (s : Signal) → AtCycle cycle first second (InputsApart system level cycle s)
-      → Differ cycle
-  apart_inputs cycle s there = record {
+  differ_by : (cycle : ℕ) (P : Environment Signal → Environment Signal → Type 0)
+      → ((e f : Environment Signal) → P e f → view system level e ≡ view system level f → ⊥)
+      → AtCycle cycle first second P → Differ cycle
+  differ_by cycle P apart there = record {
     one = there.one;
     other = there.other;
     in_first = there.in_first;
     in_second = there.in_second;
-    holds = λ same. there.holds.apart (equal_say_same
-        (seen (is_given system cycle) system level there.one)
-        (seen (is_given system cycle) system level there.other) s
-        (seen_in_view system level (is_given system cycle) there.one there.other same));
+    holds = apart there.one there.other there.holds;
   }
+
+  apart_inputs : (cycle : ℕ) (s : Signal) → AtCycle cycle first second (InputsApart system level cycle s)
+      → Differ cycle
+  apart_inputs cycle s there =
+      differ_by cycle (InputsApart system level cycle s) (λ e f is same.
+      is.apart (equal_say_same (seen (is_given system cycle) system level e)
+      (seen (is_given system cycle) system level f) s
+      (seen_in_view system level (is_given system cycle) e f same))) there
 
   apart_views : (cycle : ℕ) (s : Signal) → AtCycle cycle first second (ViewsApart system level cycle s) →
       Differ cycle
-  apart_views cycle s there = record {
-    one = there.one;
-    other = there.other;
-    in_first = there.in_first;
-    in_second = there.in_second;
-    holds = λ same. there.holds.first.apart (equal_say_same (view system level there.one)
-        (view system level there.other) s same);
-  }
+  apart_views cycle s there =
+      differ_by cycle (ViewsApart system level cycle s) (λ e f is same.
+      is.first.apart (equal_say_same (view system level e) (view system level f) s same)) there
 
   never : (cycles k : ℕ) → SameViews system level cycles first second → Differ k → k < cycles → ⊥
   never cycles k same there below =
@@ -135,42 +131,57 @@ module _ {Signal Level : Type 0} (system : System Signal Level) (level : Level)
       let inside = inside_second k there in
       never cycles k is.2 there (let shorter = is.1 in omega arith)
 
+  -- two that tell environments apart are of one cycle, and of the same environments
+  both_of : (P Q : ℕ → Environment Signal → Environment Signal → Type 0)
+      → ((k : ℕ) → AtCycle k first second (P k) → Differ k)
+      → ((k : ℕ) → AtCycle k first second (Q k) → Differ k) → (j k : ℕ)
+      → (one : SameViews system level j first second × AtCycle j first second (P j))
+      → SameViews system level k first second × AtCycle k first second (Q k)
+      → (j ≡ k) × Q j one.1.one one.1.other
+  both_of P Q one_apart other_apart j k one other =
+      let same = one_cycle j k one.0 (one_apart j one.1) other.0 (other_apart k other.1) in (
+        same,
+        both_there first second j (P j) (Q j) one.1
+            (subst (λ n. AtCycle n first second (Q n)) (sym same) other.1),
+      )
+
+  -- and where they are of one kind they are one
+  two_alike : (makes : ℕ → Signal → Finding Signal)
+      (P : Signal → ℕ → Environment Signal → Environment Signal → Type 0)
+      (sees : ℕ → Environment Signal → List (Signal × ℕ))
+      → ((s : Signal) (k : ℕ) → AtCycle k first second (P s k) → Differ k)
+      → ((s : Signal) (k : ℕ) (e f : Environment Signal) → P s k e f
+      → IsFirstApart system.signals (sees k e) (sees k f) s)
+      → (j k : ℕ) (s t : Signal)
+      → SameViews system level j first second × AtCycle j first second (P s j)
+      → SameViews system level k first second × AtCycle k first second (P t k)
+      → makes j s ≡ makes k t
+  two_alike makes P sees apart tells j k s t one other =
+      let both = both_of (P s) (P t) (apart s) (apart t) j k one other in
+      ap₂ makes both.0
+      (one_signal system.signals (sees j one.1.one) (sees j one.1.other) s t
+      (tells s j one.1.one one.1.other one.1.holds) (tells t j one.1.one one.1.other both.1))
+
   two_inputs : (j k : ℕ) (s t : Signal) → IsFound system level first second (inputs_differ j s)
       → IsFound system level first second (inputs_differ k t) → inputs_differ j s ≡ inputs_differ k t
-  two_inputs j k s t one other =
-      let same = one_cycle j k one.0 (apart_inputs j s one.1) other.0
-      (apart_inputs k t other.1) in
-      let there = both_there first second j (InputsApart system level j s)
-      (InputsApart system level j t) one.1
-      (subst (λ n. AtCycle n first second (InputsApart system level n t)) (sym same) other.1) in
-      ap₂ (λ n r. inputs_differ n r) same
-      (one_signal system.signals
-      (seen (is_given system j) system level one.1.one)
-      (seen (is_given system j) system level one.1.other) s t one.1.holds there)
+  two_inputs =
+      two_alike (λ n r. inputs_differ n r) (λ s n. InputsApart system level n s)
+      (λ n. seen (is_given system n) system level) (λ s n. apart_inputs n s) (λ s n e f is. is)
 
   two_views : (j k : ℕ) (s t : Signal) → IsFound system level first second (views_differ j s)
       → IsFound system level first second (views_differ k t) → views_differ j s ≡ views_differ k t
-  two_views j k s t one other =
-      let same = one_cycle j k one.0 (apart_views j s one.1) other.0
-      (apart_views k t other.1) in
-      let there = both_there first second j (ViewsApart system level j s)
-      (ViewsApart system level j t) one.1
-      (subst (λ n. AtCycle n first second (ViewsApart system level n t)) (sym same) other.1) in
-      ap₂ (λ n r. views_differ n r) same
-      (one_signal system.signals (view system level one.1.one) (view system level one.1.other)
-      s t one.1.holds.first there.first)
+  two_views =
+      two_alike (λ n r. views_differ n r) (λ s n. ViewsApart system level n s)
+      (λ n. view system level) (λ s n. apart_views n s) (λ s n e f is. is.first)
 
   inputs_or_views : (j k : ℕ) (s t : Signal)
       → IsFound system level first second (inputs_differ j s)
       → IsFound system level first second (views_differ k t) → ⊥
   inputs_or_views j k s t one other =
-      let same = one_cycle j k one.0 (apart_inputs j s one.1) other.0
-      (apart_views k t other.1) in
-      let there = both_there first second j (InputsApart system level j s)
-      (ViewsApart system level j t) one.1
-      (subst (λ n. AtCycle n first second (ViewsApart system level n t)) (sym same) other.1) in
+      let both = both_of (λ n. InputsApart system level n s) (λ n. ViewsApart system level n t)
+      (λ n. apart_inputs n s) (λ n. apart_views n t) j k one other in
       one.1.holds.apart (equal_say_same (seen (is_given system j) system level one.1.one)
-      (seen (is_given system j) system level one.1.other) s there.alike)
+      (seen (is_given system j) system level one.1.other) s both.1.alike)
 
   pub one_finding : (a b : Finding Signal) → IsFound system level first second a
       → IsFound system level first second b → a ≡ b

@@ -4,6 +4,7 @@ use Rattle.std.proofs.Common.{refl, sym, ap, ap₂, ◌∙◌}
 use Rattle.std.specs.Prelude.{IsTrue}
 use Rattle.std.specs.Cmp.Lexicographic.{pointwise}
 use Rattle.std.proofs.lemmas.Bool.{false≢true, eqb-true, eq-eqb}
+use Rattle.sv_system.proofs.Noninterference.{first_same, rest_same, none_is_some}
 use Rattle.sv_flat.specs.declared.signals.SigId.{SigId}
 use Rattle.sv_flat.proofs.Depths.{first_of, second_of}
 use Rattle.sv_obl.proofs.PathLists.{both_true}
@@ -21,22 +22,10 @@ module _ {X Y : Type 0} (E : X → X → Bool) (f : X → Y)
       ap₂ (λ z zs. z ∷ zs) (tells x y (first_of (E x y) (pointwise E xs ys) h))
       (same_forms xs ys (second_of (E x y) (pointwise E xs ys) h))
 
-  first_same : (x y : Y) (xs ys : List Y) → x ∷ xs ≡ y ∷ ys → x ≡ y
-  first_same x y xs ys same = cc
-
-  rest_same : (x y : Y) (xs ys : List Y) → x ∷ xs ≡ y ∷ ys → xs ≡ ys
-  rest_same x y xs ys same = cc
-
-  none_is_some : (x : Y) (xs : List Y) → [] ≡ x ∷ xs → ⊥
-  none_is_some x xs same = cc
-
-  some_is_none : (x : Y) (xs : List Y) → x ∷ xs ≡ [] → ⊥
-  some_is_none x xs same = cc
-
   forms_same : (xs ys : List X) → map f xs ≡ map f ys → IsTrue (pointwise E xs ys)
   forms_same [] [] h = refl
   forms_same [] (y ∷ ys) h = absurd (none_is_some (f y) (map f ys) h)
-  forms_same (x ∷ xs) [] h = absurd (some_is_none (f x) (map f xs) h)
+  forms_same (x ∷ xs) [] h = absurd (none_is_some (f x) (map f xs) (sym h))
   forms_same (x ∷ xs) (y ∷ ys) h =
       both_true (E x y) (pointwise E xs ys)
       (told x y (first_same (f x) (f y) (map f xs) (map f ys) h))

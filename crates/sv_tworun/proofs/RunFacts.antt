@@ -1,8 +1,8 @@
 -- Two runs of an admitted design, side by side.
-use Rattle.std.proofs.Common.{◌≡◌, ℕ, suc, ◌<◌, ◌==◌, min, Bool, true, false, ◌&&◌, not, List}
+use Rattle.std.proofs.Common.{◌≡◌, ℕ, suc, ◌==◌, min, Bool, true, false, not, List}
 use Rattle.std.proofs.Common.{map, drop, length, Some, option_map, sym, ap, ap₂, subst, ◌∙◌}
-use Rattle.std.proofs.Common.{ltb-true, lt-ltb, refl, arith}
-use Rattle.std.specs.Prelude.{IsTrue, Contains, slice_get}
+use Rattle.std.proofs.Common.{lt-ltb, refl, arith}
+use Rattle.std.specs.Prelude.{Contains, slice_get}
 use Rattle.std.proofs.lemmas.Bool.{false≢true, eqb-true, eq-eqb}
 use Rattle.std.proofs.lemmas.List.{length-map}
 use Rattle.std.proofs.lemmas.Option.{slice_get-map}
@@ -11,25 +11,22 @@ use Rattle.sv_system.specs.Schedules.{IsTheSettled}
 use Rattle.sv_lattice.specs.declared.points.Point.{Point}
 use Rattle.sv_flat.specs.ByNumber.{by_number}
 use Rattle.sv_flat.specs.Clocks.{is_clock}
-use Rattle.sv_flat.specs.Design.{ProcessForm, FlatDesign}
-use Rattle.sv_flat.specs.Assigned.{assigns}
+use Rattle.sv_flat.specs.Design.{FlatDesign}
 use Rattle.sv_flat.specs.FlatSystem.{flat_system}
-use Rattle.sv_flat.specs.Processes.{is_clocked, is_register}
 use Rattle.sv_flat.specs.SignalLists.{inputs, registers}
 use Rattle.sv_flat.specs.Values.{signal_of}
-use Rattle.sv_flat.proofs.AdmittedFacts.{assigned_is_signal, clocked_is_process, body_is_sound}
-use Rattle.sv_flat.proofs.Depths.{first_of, second_of}
-use Rattle.sv_flat.proofs.LeastSets.{from_some, in_those, those_below}
+use Rattle.sv_flat.proofs.LeastSets.{those_below}
 use Rattle.sv_design.specs.Designs.{IsDesign}
 use Rattle.sv_flat.proofs.SelectorFacts.{label_selected, selector_is_seen}
 use Rattle.sv_flat.specs.Given.{FitListed, with_given, given}
 use Rattle.sv_sim.proofs.GivenValues.{listed_value}
-use Rattle.sv_sim.proofs.OneDesign.{design_ordered}
+use Rattle.sv_sim.proofs.OneDesign.{design_ordered, register_listed}
 use Rattle.sv_tworun.specs.declared.compared.Compared.{Compared}
 use Rattle.sv_tworun.specs.declared.compared.Compared.TheVariants.{Equal, InputsDiffer}
 use Rattle.sv_tworun.specs.declared.compared.Compared.TheVariants.{ViewsDiffer, LengthsDiffer}
-use Rattle.sv_tworun.specs.Comparisons.{IsFirstApart, is_given, SameViews, IsFound}
-use Rattle.sv_tworun.specs.Forms.{Run, IsTraceOf, inputs_differ, views_differ}
+use Rattle.sv_tworun.specs.Comparisons.{IsFirstApart, is_given, SameViews, InputsApart, ViewsApart}
+use Rattle.sv_tworun.specs.Comparisons.{AtCycle}
+use Rattle.sv_tworun.specs.Forms.{Run, IsTraceOf}
 use Rattle.sv_tworun.specs.Sights.{IsDifference}
 use Rattle.sv_tworun.proofs.RunTraces.{IsFoundOfAll}
 use Rattle.sv_tworun.proofs.TraceFacts.{same_start, trace_length, ahead, agrees, one_more}
@@ -65,19 +62,6 @@ HasInCycle design run cycle values =
 -- ---- an admitted design
 
 module _ (design : FlatDesign) (is : IsDesign design) where
-  -- a register is a signal
-  pub register_inside : (s : ℕ) → IsTrue (is_register design s) → s < length design.signals
-  register_inside s register =
-      let found = from_some (λ (q : ProcessForm). is_clocked q.kind && assigns q.body s)
-      design.processes register in
-      let q = found.0 in
-      let at = clocked_is_process design is.is_sound is.is_admitted q found.1
-      (first_of (is_clocked q.kind) (assigns q.body s) found.2) in
-      ltb-true s (length design.signals)
-      (assigned_is_signal design.signals q.body
-      (body_is_sound design is.is_sound is.is_admitted q at) s
-      (second_of (is_clocked q.kind) (assigns q.body s) found.2))
-
   labels_alike : (e f : Environment ℕ) (s : ℕ) → Contains (flat_system design).signals s
       → ((t : ℕ) → Contains (flat_system design).signals t → e t ≡ f t)
       → (flat_system design).label s e ≡ (flat_system design).label s f
@@ -177,54 +161,55 @@ module _ (design : FlatDesign) (is : IsDesign design) where
             sym (looks_alike level kind (by_number values) e here) ∙ same
             ∙ looks_alike level kind (by_number others) f there
 
+    -- what a cycle shows of its values holds of the environments of the traces there
+    seen_there : (k at : ℕ) (values others : List ℕ)
+        (P : ℕ → Environment ℕ → Environment ℕ → Type 0)
+        → AreAlike design level first second k → HasInCycle design first k values
+        → HasInCycle design second k others → at ≡ k
+        → ((e f : Environment ℕ)
+        → ((s : ℕ) → Contains (flat_system design).signals s → by_number values s ≡ e s)
+        → ((s : ℕ) → Contains (flat_system design).signals s → by_number others s ≡ f s) → P k e f)
+        → (one other : List (Environment ℕ)) → IsTraceOf design first one
+        → IsTraceOf design second other
+        → SameViews (flat_system design) level at one other × AtCycle at one other (P at)
+    seen_there k at values others P alike in_first in_second is shows one other of_first of_second =
+        let here = in_first one of_first in
+        let there = in_second other of_second in
+        subst (λ cycle. SameViews (flat_system design) level cycle one other
+        × AtCycle cycle one other (P cycle))
+        (sym is) (
+          alike one other of_first of_second,
+          record {
+            one = here.here;
+            other = there.here;
+            in_first = here.is;
+            in_second = there.is;
+            holds = shows here.here there.here here.same there.same;
+          },
+        )
+
     -- the difference that a cycle shows is what the comparison finds
     pub found_there : (k : ℕ) (values others : List ℕ) (found : Compared)
         → AreAlike design level first second k → HasInCycle design first k values
         → HasInCycle design second k others
         → IsDifference (flat_system design) level k (by_number values) (by_number others) found
         → IsFoundOfAll design level first second found
-    found_there k values others (InputsDiffer at signal) alike in_first in_second shown one other
-        of_first of_second =
-        let here = in_first one of_first in
-        let there = in_second other of_second in
-        subst (λ cycle. IsFound (flat_system design) level one other
-        (inputs_differ cycle signal.0))
-        (sym shown.0) (
-          alike one other of_first of_second,
-          record {
-            one = here.here;
-            other = there.here;
-            in_first = here.is;
-            in_second = there.is;
-            holds = first_there values others here.here there.here here.same there.same
-                (is_given (flat_system design) k) signal.0 shown.1;
-          },
-        )
-    found_there k values others (ViewsDiffer at signal) alike in_first in_second shown one other
-        of_first of_second =
-        let here = in_first one of_first in
-        let there = in_second other of_second in
-        subst (λ cycle. IsFound (flat_system design) level one other
-        (views_differ cycle signal.0))
-        (sym shown.0) (
-          alike one other of_first of_second,
-          record {
-            one = here.here;
-            other = there.here;
-            in_first = here.is;
-            in_second = there.is;
-            holds = record {
-              alike = alike_there values others here.here there.here here.same there.same
-                  (is_given (flat_system design) k) (shown.1).alike;
-              first = first_there values others here.here there.here here.same there.same
-                  (λ s. true) signal.0 (shown.1).first;
-            };
-          },
-        )
-    found_there k values others (Equal cycles) alike in_first in_second shown one other of_first
-        of_second = absurd shown
-    found_there k values others (LengthsDiffer cycles) alike in_first in_second shown one other
-        of_first of_second = absurd shown
+    found_there k values others (InputsDiffer at signal) alike in_first in_second shown =
+        seen_there k at values others (λ cycle.
+        InputsApart (flat_system design) level cycle signal.0) alike in_first in_second shown.0
+        (λ e f here there. first_there values others e f here there
+        (is_given (flat_system design) k) signal.0 shown.1)
+    found_there k values others (ViewsDiffer at signal) alike in_first in_second shown =
+        seen_there k at values others (λ cycle.
+        ViewsApart (flat_system design) level cycle signal.0) alike in_first in_second shown.0
+        (λ e f here there. record {
+          alike = alike_there values others e f here there (is_given (flat_system design) k)
+              (shown.1).alike;
+          first = first_there values others e f here there (λ s. true) signal.0 (shown.1).first;
+        })
+    found_there k values others (Equal cycles) alike in_first in_second shown = absurd shown
+    found_there k values others (LengthsDiffer cycles) alike in_first in_second shown =
+        absurd shown
 
 -- ---- the start and the end
 
@@ -238,8 +223,7 @@ module _ (design : FlatDesign) where
       same_start (flat_system design) (given (registers design) run.start) (by_number values)
       (map (given (inputs design)) run.cycles) trace
       (λ s register. listed_value (registers design) run.start s 0 (by_number old s) fit.count
-      (in_those (length design.signals) (is_register design) s
-      (register_inside design is s register) register)
+      (register_listed design is.is_sound is.is_admitted s register)
       ∙ sym (ap (λ e. e s) loaded))
       of_run
 

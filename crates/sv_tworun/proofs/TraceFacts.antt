@@ -10,22 +10,11 @@ use Rattle.sv_system.specs.System.{System, Environment, Settled, IsTrace, seen, 
 use Rattle.sv_system.specs.System.{Noninterferent}
 use Rattle.sv_system.specs.Schedules.{IsTheSettled}
 use Rattle.sv_system.proofs.Lists.{told, told_next, told_same}
+use Rattle.sv_system.proofs.Noninterference.{first_same, rest_same, none_is_some, joined}
 
 -- ---- lists
 
 module _ {X : Type 0} where
-  first_same : (x y : X) (xs ys : List X) → x ∷ xs ≡ y ∷ ys → x ≡ y
-  first_same x y xs ys same = cc
-
-  rest_same : (x y : X) (xs ys : List X) → x ∷ xs ≡ y ∷ ys → xs ≡ ys
-  rest_same x y xs ys same = cc
-
-  none_is_some : (x : X) (xs : List X) → [] ≡ x ∷ xs → ⊥
-  none_is_some x xs same = cc
-
-  joined : (x y : X) (xs ys : List X) → x ≡ y → xs ≡ ys → x ∷ xs ≡ y ∷ ys
-  joined x y xs ys first rest = cc
-
   not_there : (x : X) → None ≡ Some x → ⊥
   not_there x same = cc
 

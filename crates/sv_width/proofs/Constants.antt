@@ -35,7 +35,7 @@ use Rattle.sv_width.proofs.Low.{one_low, bit_low, unary_low, binary_low, odd_low
 
 -- ---- values of constants are low
 
-bit_or_zero_low : (w v : ℕ) (i : ℤ) → bit_or_zero w v i < 2
+pub bit_or_zero_low : (w v : ℕ) (i : ℤ) → bit_or_zero w v i < 2
 bit_or_zero_low w v (pos k) = by (nat_lt k w)
   where
     by : (b : Bool) → (if b then v / 2 ^ k % 2 else 0) < 2
@@ -43,11 +43,11 @@ bit_or_zero_low w v (pos k) = by (nat_lt k w)
     by false = omega arith
 bit_or_zero_low w v (negsuc k) = omega arith
 
-chosen_low : (b : Bool) (x y m : ℕ) → x < m → y < m → (if b then x else y) < m
+pub chosen_low : (b : Bool) (x y m : ℕ) → x < m → y < m → (if b then x else y) < m
 chosen_low true x y m p q = p
 chosen_low false x y m p q = q
 
-repeated_low : (k w v : ℕ) → v < 2 ^ w → repeated k w v < 2 ^ (k * w)
+pub repeated_low : (k w v : ℕ) → v < 2 ^ w → repeated k w v < 2 ^ (k * w)
 repeated_low zero w v low = pow_pos (0 * w)
 repeated_low (suc k) w v low =
     subst (λ m. repeated k w v * 2 ^ w + v < 2 ^ m) (omega arith)

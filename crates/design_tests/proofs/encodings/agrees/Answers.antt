@@ -1,15 +1,9 @@
-use Rattle.std.proofs.Common.{map, sym, subst}
-use Rattle.std.specs.Prelude.{All}
 use Rattle.sv_flat.specs.Views.{design_of}
-use Rattle.sv_obl.specs.DesignQueries.{IsQueryOf}
-use Rattle.sv_obl.specs.Views.{obligation_of}
-use Rattle.design_tests.proofs.QueryFacts.{asked_at}
+use Rattle.design_tests.proofs.QueryFacts.{asked_item}
 use Rattle.design_tests.proofs.encodings.agrees.Goals as goal
 
 pub holds-requires : goal.holds-requires
 holds-requires c =
-    let design = design_of c.args.design.now in
-    let all = subst (λ qs. All (IsQueryOf design) (map obligation_of qs))
-    (sym c.as_slice.ensures.value) c.in_ok-queries.ensures.queries in
-    subst (λ q. IsQueryOf design (obligation_of q)) (sym c.first-item.is)
-    (asked_at design c.as_slice.result.now 0 c.first-item.result all c.in-len1-up.len_at_least)
+    asked_item (design_of c.args.design.now) c.as_slice.result.now _ 0 c.first-item.result
+    c.as_slice.ensures.value c.in_ok-queries.ensures.queries c.first-item.is
+    c.in-len1-up.len_at_least

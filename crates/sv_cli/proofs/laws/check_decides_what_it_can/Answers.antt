@@ -1,7 +1,6 @@
-use Rattle.sv_encoding.specs.Encoding.{encoding}
 use Rattle.sv_cli.proofs.Complete.{never_falsified, never_limit, large_never_undecided}
 use Rattle.sv_cli.proofs.Complete.{units_never_undecided, is_done, never_done}
-use Rattle.sv_cli.proofs.Secrets.{is_checked}
+use Rattle.sv_cli.proofs.Secrets.{is_checked, refuted_valid}
 use Rattle.sv_cli.proofs.laws.check_decides_what_it_can.Goals as goal
 
 pub returns-clause-valid : goal.returns-clause-valid
@@ -10,9 +9,7 @@ returns-clause-valid c top text passes style proof budget exchanges answer print
 
 pub returns-clause-falsified : goal.returns-clause-falsified
 returns-clause-falsified c top text passes style proof budget exchanges answer printed decides =
-    never_done (λ design checked o steps asked refutes.
-    c.unmet_clauses_mean_valid.ensures design o checked asked
-    (c.refuted_has_no_solution.ensures (encoding design o).clauses steps refutes))
+    never_done (refuted_valid c.unmet_clauses_mean_valid.ensures c.refuted_has_no_solution.ensures)
     top text passes style proof budget exchanges answer printed decides
 
 pub returns-clause-fits : goal.returns-clause-fits

@@ -10,8 +10,8 @@ use Rattle.sv_io.specs.declared.faults.FetchFault.TheVariants.{Failed, Long}
 use Rattle.sv_cli.specs.Prepared.{Says, MayFetchOwn, VerifiesFetched}
 use Rattle.sv_cli.specs.Verifies.{largest_proof, Judges}
 use Rattle.sv_cli.proofs.Certificates.{judged_readied, oversized_readied, unread_readied}
-use Rattle.sv_cli.proofs.Certificates.{spent_fetching, err_is, may_fetch, passed_by}
-use Rattle.sv_cli.proofs.Passing.{spent_readied}
+use Rattle.sv_cli.proofs.Certificates.{spent_fetching, err_is, may_fetch}
+use Rattle.sv_cli.proofs.Passing.{passed_as, spent_readied}
 use Rattle.sv_cli.proofs.verifying.verify_fetched.Goals as goal
 
 pub returns-in_err-report_of_proof-in-Ok : goal.returns-in_err-report_of_proof-in-Ok
@@ -52,8 +52,8 @@ returns-in_err-report_of_bare_limit-in-Err-Long g c =
     spent_readied (MayFetchOwn proof design)
     (λ exchanges. Says (VerifiesFetched proof design exchanges)) C.tells old new
     (fetched proof got ∷ []) c.from_residual-in_err-report_of_bare_limit-in-Err-Long.result
-    (passed_by proof design c.requires.few C.tells old new c.in-Err-Long.field-0
-    c.in-Err-Long.ensures.passed (Long c.in-Err-Long.field-0-0) c.in-Err-Long.field-0-is)
+    (passed_as C.tells old new proof c.in-Err-Long.field-0 (Long c.in-Err-Long.field-0-0)
+    c.in-Err-Long.field-0-is c.in-Err-Long.ensures.passed)
     (may_fetch proof design c.requires.few got)
     c.from_residual-in_err-report_of_bare_limit-in-Err-Long.ensures.1
 

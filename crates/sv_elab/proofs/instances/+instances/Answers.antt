@@ -9,12 +9,12 @@ use Rattle.sv_ast.specs.Views.{instance_tree, item_tree, module_tree}
 use Rattle.sv_elab_rules.specs.InstanceSteps.{item_walk, items_from, site_walk}
 use Rattle.sv_width.specs.Scopes.{Known, names_of}
 use Rattle.sv_elab_decl.specs.Sites.{tables_of}
+use Rattle.sv_elab_decl.proofs.SiteLemmas.{shaped_items}
 use Rattle.sv_elab.specs.Instances.{built_form, declared_names, taken_in}
 use Rattle.sv_elab.specs.Nests.{InstanceNesting, site_at}
 use Rattle.sv_elab.proofs.DeclaredLattices.{breach_on}
 use Rattle.sv_elab.proofs.InstanceEnds.{master_broken, set_up_broken, instance_ends_at}
-use Rattle.sv_elab.proofs.InstanceCode.{items_shaped, items_none}
-use Rattle.sv_elab.proofs.InstanceCode.{items_more, items_broken, name_free, name_taken}
+use Rattle.sv_elab.proofs.InstanceCode.{items_none, items_more, items_broken, name_free, name_taken}
 use Rattle.sv_elab.proofs.NameLemmas.{left_more, left_none}
 use Rattle.sv_elab.proofs.instances.+instances.Goals as goal
 
@@ -59,7 +59,7 @@ add_instance-add_items-requires t c = (
     c.requires.ready,
     (
       ap (λ xs. list_all is_shaped_item (map item_tree xs)) c.deref-2.ensures.value
-          ∙ items_shaped (module_tree c.in_ok-master.master.now) c.in_ok-master.ensures.shaped,
+          ∙ shaped_items (module_tree c.in_ok-master.master.now) c.in_ok-master.ensures.shaped,
       omega (arith, c.requires.room, c.in_ok-master.ensures.few, c.in_ok-scope.ensures.instances),
     ),
   ),

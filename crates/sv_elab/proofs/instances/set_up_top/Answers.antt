@@ -1,4 +1,4 @@
-use Rattle.std.proofs.Common.{[], length, refl, sym, ap, ◌∙◌}
+use Rattle.std.proofs.Common.{◌≡◌, [], length, refl, sym, ap, ◌∙◌}
 use Rattle.std.proofs.lemmas.List.{length-map}
 use Rattle.std.proofs.lemmas.Result.{err_from_is_err_and}
 use Rattle.sv_ast.specs.Instances.{entry}
@@ -9,7 +9,7 @@ use Rattle.sv_elab_rules.specs.InstanceSteps.{Built}
 use Rattle.sv_elab_rules.specs.Walks.{Walk}
 use Rattle.sv_width.proofs.Breaches.{ok_weaker, err_weaker}
 use Rattle.sv_elab_decl.specs.Sites.{SameSite, tables_of, settings_of}
-use Rattle.sv_elab.specs.Instances.{Opened, opened_walk, nothing_built, top_site}
+use Rattle.sv_elab.specs.Instances.{Opened, built_form, opened_walk, nothing_built, top_site}
 use Rattle.sv_elab.proofs.DeclaredLattices.{breach_on}
 use Rattle.sv_elab.proofs.InstanceEnds.{header_stops, opened_same}
 use Rattle.sv_elab.proofs.instances.set_up_top.Goals as goal
@@ -32,6 +32,18 @@ same c = record {
   set = λ n. ap (λ es. entry (settings_of es) n) (sym c.new-set.ensures.empty);
 }
 
+-- the walk goes on as from what is built
+opens : (c : After-path) →
+    (opened_walk (tables_of c.args.shared.now.tables) (top_site (module_tree c.args.master.now))
+    nothing_built).end
+    ≡ (opened_walk (tables_of c.args.shared.now.tables) (there c)
+    (built_form c.args.built.now)).end
+opens c =
+    let tables = tables_of c.args.shared.now.tables in
+    ap (λ (w : Walk Opened). w.end) (opened_same tables (top_site (module_tree c.args.master.now))
+    (there c) (same c) nothing_built)
+    ∙ ap (λ (b : Built). (opened_walk tables (there c) b).end) (sym c.requires.first)
+
 pub returns-in_err-declared-clause-broken : goal.returns-in_err-declared-clause-broken
 returns-in_err-declared-clause-broken c =
     let a = (goal.at.returns-in_err-declared-clause-broken c).After-path in
@@ -49,21 +61,11 @@ opened-requires-clause-base c =
 
 pub returns-clause-found : goal.returns-clause-found
 returns-clause-found c =
-    let a = (goal.at.returns-clause-found c).After-path in
-    let tables = tables_of c.args.shared.now.tables in
-    let m = module_tree c.args.master.now in
-    let from = ap (λ (w : Walk Opened). w.end) (opened_same tables (top_site m) (there a)
-    (same a) nothing_built)
-    ∙ ap (λ (b : Built). (opened_walk tables (there a) b).end) (sym c.requires.first) in
+    let from = opens (goal.at.returns-clause-found c).After-path in
     ok_weaker c.opened.result _ _ (λ o h. from ∙ h) c.opened.ensures.found
 
 pub returns-clause-broken : goal.returns-clause-broken
 returns-clause-broken c =
-    let a = (goal.at.returns-clause-broken c).After-path in
-    let tables = tables_of c.args.shared.now.tables in
-    let m = module_tree c.args.master.now in
-    let from = ap (λ (w : Walk Opened). w.end) (opened_same tables (top_site m) (there a)
-    (same a) nothing_built)
-    ∙ ap (λ (b : Built). (opened_walk tables (there a) b).end) (sym c.requires.first) in
+    let from = opens (goal.at.returns-clause-broken c).After-path in
     err_weaker c.opened.result _ _ (λ f h. breach_on f _ _ (λ s e. from ∙ e) h)
     c.opened.ensures.broken

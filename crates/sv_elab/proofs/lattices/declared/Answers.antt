@@ -9,12 +9,13 @@ use Rattle.sv_num.specs.declared.faults.Place.{Place}
 use Rattle.sv_lattice.specs.Flows.{IsKnown}
 use Rattle.sv_ast.specs.declared.modules.LatticeText.{LatticeText}
 use Rattle.sv_ast.specs.Views.{lattice_tree, pair_tree, placed_name}
-use Rattle.sv_elab_rules.specs.Lattices.{lattice_walk, numbered_pair}
+use Rattle.sv_elab_rules.specs.Lattices.{lattice_walk, numbered_pair, checked_order, table_of}
 use Rattle.sv_width.proofs.Breaches.{breach_of, ok_weaker, err_weaker}
 use Rattle.sv_elab.specs.Earliest.{name_steps}
 use Rattle.sv_elab.proofs.DeclaredLattices.{breach_on, count_test, size_end, names_end, order_end}
 use Rattle.sv_elab.proofs.DeclaredLattices.{known_pairs, order_is}
 use Rattle.sv_elab.proofs.lattices.declared.Goals as goal
+use Rattle.sv_elab.proofs.lattices.declared.Goals.{In_ok-pairs}
 
 -- the test of the number of points
 counted : (text : LatticeText) (ps : List (List ℕ × Place)) (b : Bool) → ps ≡ text.points.items
@@ -61,29 +62,33 @@ ordered-requires-clause-known c =
     c.if-not-is_count.ensures) c.in_ok-names.ensures.names)
     (map pair_tree c.deref-2.result.now))
 
-pub returns-clause-found : goal.returns-clause-found
-returns-clause-found c =
+-- the walk goes on to the order of the points, by the pairs that the code has
+checked : (c : In_ok-pairs) (ps : List (ℕ × ℕ))
+    → ps ≡ map (numbered_pair c.in_ok-names.names.keys) (map pair_tree c.deref-2.result.now)
+    → (lattice_walk (Some (lattice_tree c.args.text.now))).end
+    ≡ (checked_order c.args.text.now.place (record {
+      points = c.in_ok-names.names.keys;
+      table = table_of (length c.in_ok-names.names.keys) ps;
+    })).end
+checked c ps listed =
     let t = lattice_tree c.args.text.now in
     let test = counted c.args.text.now c.deref.result.now true c.deref.ensures.value
     c.if-not-is_count.ensures in
-    let pairs = c.deref-3.ensures.value ∙ c.in_ok-pairs.ensures
+    let pairs = listed
     ∙ ap (λ ps. map (numbered_pair c.in_ok-names.names.keys) (map pair_tree ps))
     c.deref-2.ensures.value in
-    let same = order_end t test c.in_ok-names.ensures.asked
-    ∙ sym (order_is t c.in_ok-names.names.keys c.deref-3.result.now c.in_ok-names.ensures.names
-    pairs) in
+    order_end t test c.in_ok-names.ensures.asked
+    ∙ sym (order_is t c.in_ok-names.names.keys ps c.in_ok-names.ensures.names pairs)
+
+pub returns-clause-found : goal.returns-clause-found
+returns-clause-found c =
+    let same = checked (goal.at.returns-clause-found c).In_ok-pairs c.deref-3.result.now
+    (c.deref-3.ensures.value ∙ c.in_ok-pairs.ensures) in
     ok_weaker c.ordered.result _ _ (λ p h. same ∙ h) c.ordered.ensures.found
 
 pub returns-clause-broken : goal.returns-clause-broken
 returns-clause-broken c =
-    let t = lattice_tree c.args.text.now in
-    let test = counted c.args.text.now c.deref.result.now true c.deref.ensures.value
-    c.if-not-is_count.ensures in
-    let pairs = c.deref-3.ensures.value ∙ c.in_ok-pairs.ensures
-    ∙ ap (λ ps. map (numbered_pair c.in_ok-names.names.keys) (map pair_tree ps))
-    c.deref-2.ensures.value in
-    let same = order_end t test c.in_ok-names.ensures.asked
-    ∙ sym (order_is t c.in_ok-names.names.keys c.deref-3.result.now c.in_ok-names.ensures.names
-    pairs) in
-    err_weaker c.ordered.result _ _ (λ f h.
-    breach_on f _ (lattice_walk (Some t)).end (λ s e. same ∙ e) h) c.ordered.ensures.broken
+    let same = checked (goal.at.returns-clause-broken c).In_ok-pairs c.deref-3.result.now
+    (c.deref-3.ensures.value ∙ c.in_ok-pairs.ensures) in
+    err_weaker c.ordered.result _ _ (λ f h. breach_on f _ _ (λ s e. same ∙ e) h)
+    c.ordered.ensures.broken

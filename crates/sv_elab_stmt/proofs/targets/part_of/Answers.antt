@@ -7,28 +7,34 @@ use Rattle.sv_elab_rules.specs.Targets.{target_steps}
 use Rattle.sv_width.specs.Scopes.{names_of, bindings_of, binding_of, signal_number}
 use Rattle.sv_elab_stmt.proofs.TargetFacts.{target_unknown, target_unselected, target_found}
 use Rattle.sv_elab_stmt.proofs.targets.part_of.Goals as goal
+use Rattle.sv_elab_stmt.proofs.targets.part_of.Goals.{In-Some-Signal}
+
+-- the name that was found is a signal's
+there : (c : In-Some-Signal) →
+    is_signal (bindings_of c.args.scope.now c.args.target.now.name) ≡ true
+there c =
+    let h = rw c.in-Some-Signal.field-0-is at c.in-Some-Signal.ensures in
+    ap (λ m. is_signal (option_map binding_of m)) (sym h)
 
 pub returns-in_err-high-in-Some-Signal-clause-broken :
     goal.returns-in_err-high-in-Some-Signal-clause-broken
 returns-in_err-high-in-Some-Signal-clause-broken c =
-    let h = rw c.in-Some-Signal.field-0-is at c.in-Some-Signal.ensures in
-    let there : is_signal (bindings_of c.args.scope.now c.args.target.now.name) ≡ true =
-    ap (λ m. is_signal (option_map binding_of m)) (sym h) in
+    let a = (goal.at.returns-in_err-high-in-Some-Signal-clause-broken c).In-Some-Signal in
     let p = err_from_is_err_and c.from_residual.result c.from_residual.ensures.1 in
     rw (p.1, p.2)
     (target_unselected (names_of c.args.scope.now) (target_tree c.args.target.now)
-    c.in_err-high-in-Some-Signal.field-0.0 there
+    c.in_err-high-in-Some-Signal.field-0.0 (there a)
     c.in_err-high-in-Some-Signal.ensures.broken)
 
 pub returns-in_ok-high-in-Some-Signal-clause-found :
     goal.returns-in_ok-high-in-Some-Signal-clause-found
 returns-in_ok-high-in-Some-Signal-clause-found c =
+    let a = (goal.at.returns-in_ok-high-in-Some-Signal-clause-found c).In-Some-Signal in
     let h = rw c.in-Some-Signal.field-0-is at c.in-Some-Signal.ensures in
-    let there : is_signal (bindings_of c.args.scope.now c.args.target.now.name) ≡ true =
-    ap (λ m. is_signal (option_map binding_of m)) (sym h) in
     target_found (names_of c.args.scope.now) (target_tree c.args.target.now)
     c.in-Some-Signal.known.signal.0
-    c.in_ok-high-in-Some-Signal.high c.in_ok-high-in-Some-Signal.low there (ap signal_number h)
+    c.in_ok-high-in-Some-Signal.high c.in_ok-high-in-Some-Signal.low (there a)
+    (ap signal_number h)
     c.in_ok-high-in-Some-Signal.ensures.found
 
 pub returns-in-Some-Param-clause-broken : goal.returns-in-Some-Param-clause-broken

@@ -1,4 +1,4 @@
-use Rattle.std.proofs.Common.{ℕ, ◌+◌, ◌<◌, length, get_or, sym, ap, subst, ◌∙◌, arith}
+use Rattle.std.proofs.Common.{◌≡◌, ℕ, ◌+◌, ◌<◌, length, get_or, sym, ap, subst, ◌∙◌, arith}
 use Rattle.std.specs.Prelude.{IsTrue, IsFalse}
 use Rattle.std.proofs.lemmas.Bool.{false≢true}
 use Rattle.std.proofs.lemmas.List.{length-map}
@@ -14,6 +14,21 @@ use Rattle.sv_event.proofs.RoundFacts.{one_more_state, one_more_round, drawn_num
 use Rattle.sv_event.proofs.RoundFacts.{rounds_quiet, rounds_settled, most_rounds}
 use Rattle.sv_event.proofs.RoundFacts.{fewer_combinational}
 use Rattle.sv_event.proofs.rounds.run_rounds.Goals as goal
+use Rattle.sv_event.proofs.rounds.run_rounds.Goals.{After-run_all}
+
+-- after a round the values are those after one more round
+one_round : (c : After-run_all) → by_number c.run_all.new.values
+    ≡ after_rounds (design_of c.args.design.now) c.args.number (c.loop-before.before + 1)
+    (by_number c.args.values.now)
+one_round c =
+    let design = design_of c.args.design.now in
+    let before = c.loop-before.invariant in
+    one_more_round design c.args.number c.loop-before.before c.loop-before.order
+    c.loop-before.state
+    (before.order ∙ comb_count design c.args.combs.now c.requires.combs) before.state
+    c.draw_round-state.new.order (by_number c.loop-before.values)
+    (by_number c.run_all.new.values) (by_number c.args.values.now)
+    c.draw_round-state.ensures.order before.run c.run_all.ensures.runs
 
 pub run_all-requires-clause-schedule : goal.run_all-requires-clause-schedule
 run_all-requires-clause-schedule c = λ k d inside.
@@ -27,25 +42,13 @@ run_all-requires-clause-schedule c = λ k d inside.
 
 pub returns-then-is_quiet-clause-values : goal.returns-then-is_quiet-clause-values
 returns-then-is_quiet-clause-values c =
-    let design = design_of c.args.design.now in
-    let before = c.loop-before.invariant in
-    one_more_round design c.args.number c.loop-before.before c.loop-before.order
-    c.loop-before.state
-    (before.order ∙ comb_count design c.args.combs.now c.requires.combs) before.state
-    c.draw_round-state.new.order (by_number c.loop-before.values)
-    (by_number c.run_all.new.values) (by_number c.args.values.now)
-    c.draw_round-state.ensures.order before.run c.run_all.ensures.runs
+    one_round (goal.at.returns-then-is_quiet-clause-values c).After-run_all
 
 pub returns-then-is_quiet-clause-count : goal.returns-then-is_quiet-clause-count
 returns-then-is_quiet-clause-count c =
     let design = design_of c.args.design.now in
     let before = c.loop-before.invariant in
-    let after' = one_more_round design c.args.number c.loop-before.before c.loop-before.order
-    c.loop-before.state
-    (before.order ∙ comb_count design c.args.combs.now c.requires.combs) before.state
-    c.draw_round-state.new.order (by_number c.loop-before.values)
-    (by_number c.run_all.new.values) (by_number c.args.values.now)
-    c.draw_round-state.ensures.order before.run c.run_all.ensures.runs in
+    let after' = one_round (goal.at.returns-then-is_quiet-clause-count c).After-run_all in
     record {
       some = omega arith;
       quiet = subst (λ (e : Environment ℕ). IsTrue (is_quiet design e)) after'
@@ -67,13 +70,7 @@ returns-then-is_quiet-clause-settled c =
     let design = design_of c.args.design.now in
     let fine = c.signals.ensures.design in
     let start = by_number c.args.values.now in
-    let before = c.loop-before.invariant in
-    let after' = one_more_round design c.args.number c.loop-before.before c.loop-before.order
-    c.loop-before.state
-    (before.order ∙ comb_count design c.args.combs.now c.requires.combs) before.state
-    c.draw_round-state.new.order (by_number c.loop-before.values)
-    (by_number c.run_all.new.values) start
-    c.draw_round-state.ensures.order before.run c.run_all.ensures.runs in
+    let after' = one_round (goal.at.returns-then-is_quiet-clause-settled c).After-run_all in
     subst (λ (e : Environment ℕ). IsTheSettled (flat_system design) start start e) (sym after')
     (rounds_settled design fine.is_sound fine.is_admitted c.args.number start
     (numbers_fit design c.args.values.now c.requires.fit) (c.loop-before.before + 1)
@@ -86,11 +83,7 @@ loop-before-preserved c =
     let start = by_number c.args.values.now in
     let before = c.loop-before.invariant in
     let size = before.order ∙ comb_count design c.args.combs.now c.requires.combs in
-    let after' = one_more_round design c.args.number c.loop-before.before c.loop-before.order
-    c.loop-before.state size before.state
-    c.draw_round-state.new.order (by_number c.loop-before.values)
-    (by_number c.run_all.new.values) start
-    c.draw_round-state.ensures.order before.run c.run_all.ensures.runs in
+    let after' = one_round (goal.at.loop-before-preserved c).After-run_all in
     record {
       order = omega (arith, c.draw_round-state.auto.order, before.order);
       fit = c.run_all.ensures.fit;

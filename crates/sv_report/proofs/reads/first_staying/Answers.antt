@@ -8,7 +8,7 @@ use Rattle.sv_flat.specs.FlatSystem.{flat_system}
 use Rattle.sv_flat.specs.declared.signals.SigId.{SigId}
 use Rattle.sv_flat.specs.Views.{design_of}
 use Rattle.sv_design.specs.Numbers.{number_if_any}
-use Rattle.sv_report.proofs.StayFacts.{all_inside, find_numbers}
+use Rattle.sv_sim.proofs.ListedSignals.{all_inside, find_numbers}
 use Rattle.sv_report.proofs.reads.first_staying.Goals as goal
 use borrow.Author.Tests.{tests}
 

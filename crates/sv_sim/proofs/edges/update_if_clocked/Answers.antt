@@ -8,11 +8,22 @@ use Rattle.sv_flat.specs.Design.{ProcessForm}
 use Rattle.sv_flat.specs.ByNumber.{by_number, updated}
 use Rattle.sv_flat.specs.FlatSystem.{after_edge, all_updates}
 use Rattle.sv_flat.specs.Processes.{is_clocked}
-use Rattle.sv_flat.specs.Views.{design_of, process_kind}
+use Rattle.sv_flat.specs.Views.{design_of, process_form, process_kind}
 use Rattle.sv_sim.specs.Settling.{clocked_before}
+use Rattle.sv_sim.specs.Simulations.{process_at}
 use Rattle.sv_sim.proofs.AtPlace.{process_there}
 use Rattle.sv_sim.proofs.EdgeFacts.{clocked_more, clocked_same}
 use Rattle.sv_sim.proofs.edges.update_if_clocked.Goals as goal
+use Rattle.sv_sim.proofs.edges.update_if_clocked.Goals.{After-index-processes-place}
+
+-- the process there
+there : (c : After-index-processes-place) →
+    process_form c.index-processes-place.result ≡
+    process_at (design_of c.args.design.now) c.args.place
+there c =
+    process_there (design_of c.args.design.now) c.processes-processes.result.now
+    c.processes-processes.ensures.processes c.args.place c.index-processes-place.result
+    c.requires.place c.index-processes-place.is
 
 -- what no clock's kind is
 not_clocked : (k : ProcKind) → ((s : SigId) → k ≡ kind.Clocked s → ⊥) →
@@ -26,23 +37,16 @@ not_clocked (kind.Release point) no_clock = refl
 
 pub update_at-requires-clause-clocked : goal.update_at-requires-clause-clocked
 update_at-requires-clause-clocked c =
-    let design = design_of c.args.design.now in
-    let process = c.index-processes-place.result in
-    let is = process_there design c.processes-processes.result.now
-    c.processes-processes.ensures.processes c.args.place process c.requires.place
-    c.index-processes-place.is in
+    let is = there (goal.at.update_at-requires-clause-clocked c).After-index-processes-place in
     subst (λ (p : ProcessForm). IsTrue (is_clocked p.kind)) is
     (ap (λ (k : ProcKind). is_clocked (process_kind k)) c.in-Clocked.is)
 
 pub returns-in-Clocked-clause-after : goal.returns-in-Clocked-clause-after
 returns-in-Clocked-clause-after c =
     let design = design_of c.args.design.now in
-    let process = c.index-processes-place.result in
     let fine = c.processes-processes.ensures.design in
     let e = by_number c.args.values.now in
-    let is = process_there design c.processes-processes.result.now
-    c.processes-processes.ensures.processes c.args.place process c.requires.place
-    c.index-processes-place.is in
+    let is = there (goal.at.returns-in-Clocked-clause-after c).After-index-processes-place in
     let clock = subst (λ (p : ProcessForm). IsTrue (is_clocked p.kind)) is
     (ap (λ (k : ProcKind). is_clocked (process_kind k)) c.in-Clocked.is) in
     let before = all_updates design (clocked_before design c.args.place) e in
@@ -53,14 +57,11 @@ returns-in-Clocked-clause-after c =
 pub returns-in_default : goal.returns-in_default
 returns-in_default c =
     let design = design_of c.args.design.now in
-    let process = c.index-processes-place.result in
     let fine = c.processes-processes.ensures.design in
     let e = by_number c.args.values.now in
-    let is = process_there design c.processes-processes.result.now
-    c.processes-processes.ensures.processes c.args.place process c.requires.place
-    c.index-processes-place.is in
+    let is = there (goal.at.returns-in_default c).After-index-processes-place in
     let no_clock = subst (λ (p : ProcessForm). IsFalse (is_clocked p.kind)) is
-    (not_clocked process.kind c.in_default.not-Clocked) in
+    (not_clocked c.index-processes-place.result.kind c.in_default.not-Clocked) in
     record {
       fit = c.requires.next_fit;
       after = c.requires.before ∙ ap (λ ps. after_edge design ps e)

@@ -5,7 +5,8 @@ use Rattle.std.proofs.lemmas.Result.{IfOk-from_err}
 use Rattle.sv_sim.proofs.Simulated.{written}
 use Rattle.sv_sim_run.specs.Simulated.{largest_stimulus}
 use Rattle.sv_sim_run.proofs.CallFacts.{on_error}
-use Rattle.sv_sim_run.proofs.Loops.{same_itself, same_twice, under_way, takes_none}
+use Rattle.sv_sim_run.proofs.Loops.{under_way, takes_none}
+use Rattle.sv_sim_run.proofs.ProgressFacts.{same_again, same_then}
 use Rattle.sv_sim_run.proofs.Loops.{stops_taken, large_ends, all_taken}
 use Rattle.sv_sim_run.proofs.Loops.{stops_with_same, all_same, large_open}
 use Rattle.sv_sim_run.proofs.Loops.{stops_open, open_same}
@@ -21,7 +22,7 @@ use Rattle.sv_sim_run.proofs.stimuli.read_all.Goals as goal
 -- ---- no buffer
 
 pub returns-in_err-buffer-clause-same : goal.returns-in_err-buffer-clause-same
-returns-in_err-buffer-clause-same g c = same_itself c.args.simulation.now
+returns-in_err-buffer-clause-same g c = same_again c.args.simulation.now
 
 pub returns-in_err-buffer-clause-ends : goal.returns-in_err-buffer-clause-ends
 returns-in_err-buffer-clause-ends g c =
@@ -64,7 +65,7 @@ returns-in_err-buffer-clause-front_to_the_end g c =
     let accepted = g.K.Sink.accepted c.args.out.now in
     let s = c.args.simulation.now in
     let ended = g.S.Source.ended c.args.input.now in
-    open_same c.from_residual.result ended given given accepted accepted s s (same_itself s)
+    open_same c.from_residual.result ended given given accepted accepted s s (same_again s)
     (stops_open g.S.Source.tells given given left left [] (largest_stimulus + 1) accepted accepted
     s (takes_none g.S.Source.tells given left)
     (under_way accepted s c.requires.made c.requires.open c.requires.come) ended)
@@ -89,7 +90,7 @@ pub pieces-init : goal.pieces-init
 pieces-init g c =
     let accepted = g.K.Sink.accepted c.args.out.now in
     record {
-      same = same_itself c.args.simulation.now;
+      same = same_again c.args.simulation.now;
       way = (
         [],
         takes_none g.S.Source.tells (g.S.Source.given c.args.input.now)
@@ -257,7 +258,7 @@ read_piece-requires-clause-way g c =
 
 pub returns-in_err-ending-clause-same : goal.returns-in_err-ending-clause-same
 returns-in_err-ending-clause-same g c =
-    same_twice c.args.simulation.now c.pieces.simulation c.read_piece.new.simulation
+    same_then c.args.simulation.now c.pieces.simulation c.read_piece.new.simulation
     c.pieces.invariant.same c.read_piece.ensures.same
 
 pub returns-in_err-ending-clause-ends : goal.returns-in_err-ending-clause-ends
@@ -345,7 +346,7 @@ returns-in_err-ending-clause-no_write_fault g c = λ read.
 
 pub returns-in-Some-clause-same : goal.returns-in-Some-clause-same
 returns-in-Some-clause-same g c =
-    same_twice c.args.simulation.now c.pieces.simulation c.read_piece.new.simulation
+    same_then c.args.simulation.now c.pieces.simulation c.read_piece.new.simulation
     c.pieces.invariant.same c.read_piece.ensures.same
 
 pub returns-in-Some-clause-ends : goal.returns-in-Some-clause-ends
@@ -436,7 +437,7 @@ pieces-preserved g c =
     c.in_ok-count.ensures.within (g.K.Sink.accepted c.read_piece.new.out)
     c.read_piece.new.simulation _ c.in_default.is reads in
     record {
-      same = same_twice c.args.simulation.now c.pieces.simulation c.read_piece.new.simulation
+      same = same_then c.args.simulation.now c.pieces.simulation c.read_piece.new.simulation
           c.pieces.invariant.same c.read_piece.ensures.same;
       way = (
         c.pieces.invariant.way.0 ++ take c.in_ok-count.count c.deref.result.now,

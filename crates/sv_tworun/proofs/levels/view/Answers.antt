@@ -9,7 +9,8 @@ use Rattle.sv_flat.specs.SignalLists.{system_signals}
 use Rattle.sv_flat.specs.Views.{design_of}
 use Rattle.sv_design.specs.Numbers.{numbers}
 use Rattle.sv_tworun.specs.Forms.{pair_form}
-use Rattle.sv_tworun.proofs.DifferenceFacts.{listed_inside, inside_of}
+use Rattle.sv_sim.proofs.ListedSignals.{inside_of}
+use Rattle.sv_tworun.proofs.DifferenceFacts.{listed_inside}
 use Rattle.sv_tworun.proofs.levels.view.Goals as goal
 
 pub loop-signal-init : goal.loop-signal-init

@@ -8,8 +8,8 @@ use Rattle.sv_flat.specs.FlatSystem.{flat_system}
 use Rattle.sv_flat.specs.declared.signals.SigId.{SigId}
 use Rattle.sv_flat.specs.Views.{design_of}
 use Rattle.sv_design.specs.Numbers.{number_if_any}
+use Rattle.sv_sim.proofs.ListedSignals.{all_inside, find_numbers}
 use Rattle.sv_tworun.specs.Sights.{differs}
-use Rattle.sv_tworun.proofs.DifferenceFacts.{all_inside, find_numbers}
 use Rattle.sv_tworun.proofs.sights.first_apart.Goals as goal
 use borrow.Author.Tests.{tests}
 

@@ -1,10 +1,7 @@
-use Rattle.std.proofs.lemmas.Result.{IfOk-weaker}
-use Rattle.sv_words.proofs.Added.{added}
+use Rattle.sv_words.proofs.Added.{added_two}
 use Rattle.sv_words.proofs.lines.cnf_line.Goals as goal
 
 pub returns : goal.returns
-returns c = IfOk-weaker c.arg-2.result _ _ (λ line adds.
-    added adds c.top_option.ensures.local c.top_option.ensures.rule
-    (added c.in_ok-arg.ensures c.number_word.ensures.local c.number_word.ensures.rule
-    c.in_ok-of_file.ensures))
-    c.arg-2.ensures
+returns c = added_two c.arg-2.result c.in_ok-of_file.ensures c.in_ok-arg.ensures
+    c.number_word.ensures.local c.number_word.ensures.rule
+    c.top_option.ensures.local c.top_option.ensures.rule c.arg-2.ensures

@@ -1,5 +1,5 @@
-use Rattle.std.proofs.Common.{◌≡◌, ℕ, List, true, subst, sym, ap, ◌∙◌, refl, inl, inr}
-use Rattle.sv_trace.specs.Reading.{HasFed, HasRead, answer_of}
+use Rattle.std.proofs.Common.{◌≡◌, true, subst, sym, ap, ◌∙◌, refl, inl, inr}
+use Rattle.sv_trace.specs.Reading.{answer_of}
 use Rattle.sv_trace.specs.Stimulus.{read_front, read_whole}
 use Rattle.sv_sim_run.specs.declared.simulations.Simulation.{Simulation}
 use Rattle.sv_sim_run.specs.Progress.{HasEnded}
@@ -9,7 +9,7 @@ use Rattle.sv_sim_run.proofs.CallFacts.{on_error, same_reader, refused_by}
 use Rattle.sv_sim_run.proofs.EndFacts.{whole_keeps}
 use Rattle.sv_sim_run.proofs.LineFacts.{front_now}
 use Rattle.sv_sim_run.proofs.ProgressFacts.{failed_now, same_then, made_reader, read_more}
-use Rattle.sv_sim_run.proofs.StepFacts.{unless_full, room_of, whole_room, ended_is}
+use Rattle.sv_sim_run.proofs.StepFacts.{whole_reads, room_of, whole_room, ended_is}
 use Rattle.sv_sim_run.proofs.simulations.Simulation.end.Goals as goal
 
 pub returns-in_err-found-clause-same : goal.returns-in_err-found-clause-same
@@ -28,9 +28,7 @@ pub write_cycles-requires-clause-made : goal.write_cycles-requires-clause-made
 write_cycles-requires-clause-made g c =
     let s = c.args.self.now in
     let w = c.requires.within in
-    let reads = unless_full c.finish.result
-    ((bytes : List ℕ) (taken : List (List ℕ)) → HasFed bytes taken s.reader →
-    HasRead (read_whole c.finish.new.self.form bytes) taken c.finish.new.self) c.in_ok-found.found
+    let reads = whole_reads c.finish.result s.reader c.finish.new.self c.in_ok-found.found
     (sym c.in_ok-found.ensures) c.finish.ensures.read in
     made_reader s _ c.requires.made refl c.finish.ensures.form
     (λ begun. (whole_keeps w.bytes w.come.taken w.come.taken s.reader c.finish.new.self
@@ -40,9 +38,7 @@ pub write_cycles-requires-clause-room : goal.write_cycles-requires-clause-room
 write_cycles-requires-clause-room g c =
     let s = c.args.self.now in
     let w = c.requires.within in
-    let reads = unless_full c.finish.result
-    ((bytes : List ℕ) (taken : List (List ℕ)) → HasFed bytes taken s.reader →
-    HasRead (read_whole c.finish.new.self.form bytes) taken c.finish.new.self) c.in_ok-found.found
+    let reads = whole_reads c.finish.result s.reader c.finish.new.self c.in_ok-found.found
     (sym c.in_ok-found.ensures) c.finish.ensures.read in
     room_of s _ (read_whole c.finish.new.self.form w.bytes) w.come.taken w.before
     (g.K.Sink.accepted c.args.out.now) w.come.ran (reads w.bytes w.come.taken w.come.fed)
@@ -60,9 +56,7 @@ returns-in_err-write_cycles-clause-front g c =
     on_error c.from_residual-in_err-write_cycles.result (λ bytes before come.
     let s = c.args.self.now in
     let m : Simulation = record s { reader = c.finish.new.self } in
-    let reads = unless_full c.finish.result
-    ((bytes : List ℕ) (taken : List (List ℕ)) → HasFed bytes taken s.reader →
-    HasRead (read_whole c.finish.new.self.form bytes) taken c.finish.new.self) c.in_ok-found.found
+    let reads = whole_reads c.finish.result s.reader c.finish.new.self c.in_ok-found.found
     (sym c.in_ok-found.ensures) c.finish.ensures.read in
     let has = reads bytes come.taken come.fed in
     let ran = read_more s m come.taken before (g.K.Sink.accepted c.args.out.now) refl
@@ -85,9 +79,7 @@ returns-clause-ended g c = λ bytes before come.
     let s = c.args.self.now in
     let m : Simulation = record s { reader = c.finish.new.self } in
     let new = c.write_cycles.new.self in
-    let reads = unless_full c.finish.result
-    ((bytes : List ℕ) (taken : List (List ℕ)) → HasFed bytes taken s.reader →
-    HasRead (read_whole c.finish.new.self.form bytes) taken c.finish.new.self) c.in_ok-found.found
+    let reads = whole_reads c.finish.result s.reader c.finish.new.self c.in_ok-found.found
     (sym c.in_ok-found.ensures) c.finish.ensures.read in
     let has = reads bytes come.taken come.fed in
     let read = read_whole c.finish.new.self.form bytes in

@@ -1,12 +1,12 @@
-use Rattle.std.proofs.Common.{◌++◌, [], ℕ, List, sym, ap, ◌∙◌, refl, append-nil}
-use Rattle.sv_trace.specs.Reading.{HasFed, answer_of}
+use Rattle.std.proofs.Common.{◌++◌, [], sym, ap, ◌∙◌, refl, append-nil}
+use Rattle.sv_trace.specs.Reading.{answer_of}
 use Rattle.sv_trace.specs.Stimulus.{read_front}
 use Rattle.sv_sim_run.specs.declared.simulations.Simulation.{Simulation}
 use Rattle.sv_sim_run.specs.Runs.{ending_from}
 use Rattle.sv_sim_run.proofs.CallFacts.{on_error, same_reader, refused_by}
 use Rattle.sv_sim_run.proofs.LineFacts.{front_now}
 use Rattle.sv_sim_run.proofs.ProgressFacts.{failed_now, same_then, made_reader, read_more}
-use Rattle.sv_sim_run.proofs.StepFacts.{unless_full, room_of, front_room}
+use Rattle.sv_sim_run.proofs.StepFacts.{fed_reads, room_of, front_room}
 use Rattle.sv_sim_run.proofs.simulations.Simulation.read.Goals as goal
 
 pub feed-requires-clause-room : goal.feed-requires-clause-room
@@ -43,9 +43,7 @@ write_cycles-requires-clause-room g c =
     let s = c.args.self.now in
     let w = c.requires.within in
     let piece = c.args.piece.now in
-    let reads = unless_full c.feed.result
-    ((bytes : List ℕ) (taken : List (List ℕ)) → HasFed bytes taken s.reader →
-    HasFed (bytes ++ piece) taken c.feed.new.self) c.in_ok-found.found
+    let reads = fed_reads c.feed.result s.reader c.feed.new.self piece c.in_ok-found.found
     (sym c.in_ok-found.ensures) c.feed.ensures.read in
     room_of s _ (read_front c.feed.new.self.form (w.bytes ++ piece)) w.come.taken w.before
     (g.K.Sink.accepted c.args.out.now) w.come.ran (reads w.bytes w.come.taken w.come.fed).read
@@ -64,9 +62,7 @@ returns-in_err-write_cycles-clause-front g c =
     let s = c.args.self.now in
     let m : Simulation = record s { reader = c.feed.new.self } in
     let piece = c.args.piece.now in
-    let reads = unless_full c.feed.result
-    ((bytes : List ℕ) (taken : List (List ℕ)) → HasFed bytes taken s.reader →
-    HasFed (bytes ++ piece) taken c.feed.new.self) c.in_ok-found.found
+    let reads = fed_reads c.feed.result s.reader c.feed.new.self piece c.in_ok-found.found
     (sym c.in_ok-found.ensures) c.feed.ensures.read in
     let fed = reads bytes come.taken come.fed in
     let ran = read_more s m come.taken before (g.K.Sink.accepted c.args.out.now) refl
@@ -92,9 +88,7 @@ returns-clause-come g c = λ bytes before come.
     let s = c.args.self.now in
     let m : Simulation = record s { reader = c.feed.new.self } in
     let piece = c.args.piece.now in
-    let reads = unless_full c.feed.result
-    ((bytes : List ℕ) (taken : List (List ℕ)) → HasFed bytes taken s.reader →
-    HasFed (bytes ++ piece) taken c.feed.new.self) c.in_ok-found.found
+    let reads = fed_reads c.feed.result s.reader c.feed.new.self piece c.in_ok-found.found
     (sym c.in_ok-found.ensures) c.feed.ensures.read in
     c.in_ok-write_cycles.ensures.fed (bytes ++ piece) before come.taken
     (reads bytes come.taken come.fed)

@@ -5,6 +5,7 @@ use Rattle.sv_flat.specs.Schedules.{starting}
 use Rattle.sv_flat.specs.Given.{FitListed, given}
 use Rattle.sv_sim_run.specs.Progress.{flat_of}
 use Rattle.sv_sim_run.specs.Runners.{values_in, order_in}
+use Rattle.sv_sim_run.proofs.CallFacts.{made_runner}
 use Rattle.sv_sim_run.proofs.GivenFacts.{own_values, registers_apart}
 use Rattle.sv_sim_run.proofs.ProgressFacts.{started_now}
 use Rattle.sv_sim_run.proofs.StepFacts.{known_start}
@@ -19,15 +20,9 @@ load-requires-clause-fit c =
     (c.in-Some.ensures.fits (flat_of s) c.requires.made.form)
 
 pub returns-in_err-load-clause-made : goal.returns-in_err-load-clause-made
-returns-in_err-load-clause-made c = record {
-  admitted = c.requires.made.admitted;
-  runner = c.load.ensures.design ∙ c.requires.made.runner;
-  orders = c.load.ensures.made;
-  form = c.requires.made.form;
-  level = c.requires.made.level;
-  room = c.requires.made.room;
-  begun = c.requires.made.begun;
-}
+returns-in_err-load-clause-made c =
+    made_runner c.args.self.now _ c.requires.made refl c.load.ensures.design c.load.ensures.made
+    refl
 
 pub returns-in_ok-load-clause-made : goal.returns-in_ok-load-clause-made
 returns-in_ok-load-clause-made c =

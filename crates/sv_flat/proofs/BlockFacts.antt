@@ -29,7 +29,7 @@ use Rattle.sv_flat.proofs.Members.{Contains-left, Contains-right, Contains-eithe
 use Rattle.sv_flat.proofs.LeastSets.{either_way, or_cases, range_has, some_from, from_some}
 use Rattle.sv_flat.proofs.LeastSets.{least_set_has, least_set_closed, least_set_least}
 use Rattle.sv_flat.proofs.Depths.{first_of, second_of, from_all, reads_are_lower}
-use Rattle.sv_flat.proofs.SameRuns.{or_none_left, none_found, all_blocking}
+use Rattle.sv_flat.proofs.SameRuns.{or_none_left, none_found, all_blocking, can_is_assigned}
 use Rattle.sv_flat.proofs.ReadSignals.{readings_signals}
 use Rattle.sv_flat.proofs.AdmittedFacts.{and_true, negated_false, none_pass, empty_part, is_process}
 use Rattle.sv_flat.proofs.AdmittedFacts.{body_is_sound, process_is_sound, drives, phases}
@@ -37,24 +37,6 @@ use Rattle.sv_flat.proofs.AdmittedFacts.{no_latches, no_wrong_assigns, assigned_
 use Rattle.sv_flat.proofs.AdmittedFacts.{targets_are_combinational}
 
 -- ---- what follows a read
-
-pub can_is_assigned : (body : FlatStatement) (s b : ℕ) → IsTrue (can_assign body s b) →
-    IsTrue (assigns body s)
-can_is_assigned nothing s b h = absurd (false≢true h)
-can_is_assigned (after first second) s b h = ⊎_elim
-    (λ l. or_left (assigns first s) (assigns second s) (can_is_assigned first s b l))
-    (λ r. or_right (assigns first s) (assigns second s) (can_is_assigned second s b r))
-    (or_cases (can_assign first s b) (can_assign second s b) h)
-can_is_assigned (assign pieces place blocking right) s b h =
-    let found = from_some (has_bit s b) pieces h in
-    let p = found.0 in
-    some_from (λ (q : PieceForm). q.signal == s) pieces p found.1
-    (first_of (p.signal == s) (nat_le p.low b)
-    (first_of ((p.signal == s) && nat_le p.low b) (nat_le b p.high) found.2))
-can_is_assigned (branch place condition first second) s b h = ⊎_elim
-    (λ l. or_left (assigns first s) (assigns second s) (can_is_assigned first s b l))
-    (λ r. or_right (assigns first s) (assigns second s) (can_is_assigned second s b r))
-    (or_cases (can_assign first s b) (can_assign second s b) h)
 
 module _ (signals : List SignalForm) where
   pub follows_here : (whole : FlatStatement) (t : TypedTree) (before later : BitSet) (r : Reading)

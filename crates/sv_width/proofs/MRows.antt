@@ -1,18 +1,15 @@
 -- A vector of measured expressions, which stands in one as a row, has the plain forms of its items.
-use Rattle.std.proofs.Common.{◌≡◌, ℕ, ◌+◌, ◌<◌, ◌≤◌, Bool, List, length, get_or, drop, refl, sym}
-use Rattle.std.proofs.Common.{ap, subst, ◌∙◌}
-use Rattle.std.proofs.lemmas.List.{at_drop_all}
+use Rattle.std.proofs.Common.{◌≡◌, ℕ, Bool, List, refl, sym, ap, subst, ◌∙◌}
 use Rattle.std.specs.declared.alloc.Global.{Global}
 use Rattle.std.specs.declared.vec.Vec.{Vec}
 use Rattle.sv_num.specs.declared.faults.Fault.{Fault}
-use Rattle.sv_system.proofs.Fronts.{left_more}
 use Rattle.sv_elab_rules.specs.Walks.{Steps}
 use Rattle.sv_width.specs.declared.measured.Measured.{Measured, Row_of-Measured, end_of-Measured}
 use Rattle.sv_width.specs.declared.measured.Measured.{more_of-Measured, items-the_row-Measured}
 use Rattle.sv_width.specs.declared.measured.Measured.{items_hidden-the_row-Measured-0}
 use Rattle.sv_width.specs.declared.measured.Measured.TheBlock.{hidden-the_row-Measured-0}
 use Rattle.sv_width.specs.Answers.{IsBreach}
-use Rattle.sv_width.specs.Measured.{MeasuredTrees, no_parts, more_parts}
+use Rattle.sv_width.specs.Measured.{MeasuredTrees, more_parts}
 use Rattle.sv_width.specs.Pushed.{divisors_of, divisors_in}
 use Rattle.sv_width.specs.Views.{measured_tree, measured_trees, row_parts, parts_of}
 
@@ -48,15 +45,3 @@ parts_refused e whole n s v es f is inside listed h =
     subst (λ (x : Measured). IsBreach (divisors_of (measured_tree x) n s).end f) (sym is)
     (subst (λ (w : Steps). IsBreach w.end f) (sym inside)
     (subst (λ (ts : MeasuredTrees). IsBreach (divisors_in ts).end f) (row_at v es listed) h))
-
--- what is left is the next one and the rest
-pub measured_split : (xs : List Measured) (i : ℕ) (x : Measured) → i < length xs → x ≡ get_or xs i x
-    → parts_of (measured_trees (drop i xs)) ≡
-    more_parts (measured_tree x) (parts_of (measured_trees (drop (i + 1) xs)))
-measured_split xs i x within is =
-    ap (λ (es : List Measured). parts_of (measured_trees es)) (left_more xs i x within is)
-
-pub measured_done : (xs : List Measured) (i : ℕ) → length xs ≤ i →
-    parts_of (measured_trees (drop i xs)) ≡ no_parts
-measured_done xs i past =
-    at_drop_all (λ (es : List Measured). parts_of (measured_trees es)) xs i past

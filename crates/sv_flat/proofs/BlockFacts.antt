@@ -14,8 +14,8 @@ use Rattle.sv_flat.specs.Design.{combinational, clocked, release, ProcessForm, F
 use Rattle.sv_flat.specs.Values.{signal_width}
 use Rattle.sv_flat.specs.Soundness.{sound, statement_sound, kind_sound, is_whole, is_one_assignment}
 use Rattle.sv_flat.specs.Assigned.{assigns, can_assign, always_assigns, has_bit}
-use Rattle.sv_flat.specs.Readings.{ReadForm, reads, Reading, readings, readings_of, no_bits, BitSet}
-use Rattle.sv_flat.specs.Readings.{either, is_followed}
+use Rattle.sv_flat.specs.Readings.{reads, Reading, readings, readings_of, no_bits, BitSet}
+use Rattle.sv_flat.specs.Readings.{reading_of, either, is_followed}
 use Rattle.sv_flat.specs.Processes.{is_clocked, is_block, is_register, drivers}
 use Rattle.sv_flat.specs.Clocks.{processes_of}
 use Rattle.sv_flat.specs.Reads.{is_earlier, wants, followed, reads_settled, is_read_for, depth}
@@ -44,13 +44,8 @@ module _ (signals : List SignalForm) where
       → (s b : ℕ) → IsTrue (r.follows s b) → IsTrue (assigns whole s) ⊎ IsTrue (later s b)
   follows_here whole t before later r at s b h =
       let from = Contains-from_map
-      (λ (z : ReadForm). record {
-        name = z;
-        serves = assigns whole;
-        assigned = before;
-        follows = either
-            (can_assign whole) later;
-      }) (reads signals t) r at in
+      (reading_of (assigns whole) before (either (can_assign whole) later))
+      (reads signals t) r at in
       ⊎_elim
       (λ l. inl (can_is_assigned whole s b l))
       (λ m. inr m)
@@ -145,13 +140,8 @@ module _ (signals : List SignalForm) where
   one_serves (assign pieces place blocking right) h r at t assigned =
       let whole = assign pieces place blocking right in
       let from = Contains-from_map
-      (λ (z : ReadForm). record {
-        name = z;
-        serves = assigns whole;
-        assigned = no_bits;
-        follows = either
-            (can_assign whole) no_bits;
-      }) (reads signals right) r at in
+      (reading_of (assigns whole) no_bits (either (can_assign whole) no_bits))
+      (reads signals right) r at in
       subst (λ (y : Reading). IsTrue (y.serves t)) from.2 assigned
   one_serves _ h r at t assigned = absurd (false≢true h)
 

@@ -17,7 +17,7 @@ use Rattle.sv_flat.specs.Soundness.{node_well_formed, parts_well_formed, stateme
 use Rattle.sv_flat.specs.Assigned.{assigns, can_assign, always_assigns}
 use Rattle.sv_flat.specs.Readings.{ReadForm, whole_read, bit_read, indexed_read, is_constant, reads}
 use Rattle.sv_flat.specs.Readings.{node_reads, parts_reads, BitSet, either, Reading, readings_of}
-use Rattle.sv_flat.specs.Readings.{readings}
+use Rattle.sv_flat.specs.Readings.{reading_of, readings}
 use Rattle.sv_flat.proofs.Members.{Contains-either}
 use Rattle.sv_flat.proofs.Depths.{first_of, second_of}
 
@@ -142,9 +142,7 @@ module _ (signals : List SignalForm) where
       → Contains (readings_of signals t serves before later) r
       → IsTrue (is_signal signals r.name.signal)
   of_signal t serves before later h r at =
-      let from = Contains-from_map (λ (z : ReadForm).
-      record { name = z; serves = serves; assigned = before; follows = later })
-      (reads signals t) r at in
+      let from = Contains-from_map (reading_of serves before later) (reads signals t) r at in
       subst (λ (y : Reading).
       IsTrue (is_signal signals y.name.signal)) from.2 (reads_signals t h from.0 from.1)
 

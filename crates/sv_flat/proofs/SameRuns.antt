@@ -18,7 +18,8 @@ use Rattle.sv_flat.specs.Values.{signal_width, expression_width, value}
 use Rattle.sv_flat.specs.Runs.{Updates, with_piece, put_piece, run}
 use Rattle.sv_flat.specs.Soundness.{is_signal, is_part_of, piece_fits, well_formed, statement_sound}
 use Rattle.sv_flat.specs.Assigned.{has_bit, assigns, always_assigns, can_assign}
-use Rattle.sv_flat.specs.Readings.{ReadForm, BitSet, either, Reading, readings_of, readings, reads}
+use Rattle.sv_flat.specs.Readings.{BitSet, either, Reading, reading_of, readings_of}
+use Rattle.sv_flat.specs.Readings.{readings, reads}
 use Rattle.sv_flat.proofs.Members.{Contains-left, Contains-right}
 use Rattle.sv_flat.proofs.LeastSets.{either_way, or_cases, some_from, from_some}
 use Rattle.sv_flat.proofs.Depths.{first_of, second_of, from_all}
@@ -215,14 +216,8 @@ module _ (signals : List SignalForm) where
         (λ given. inl (agrees.0 r.signal given.0 given.1))
         (λ known. inr (λ b from to below.
         agrees.1 r.signal b known.0 below (known.1 b from to below)))
-        (ready (record { name = r; serves = serves; assigned = before; follows = follows })
-        (Contains-map (λ (z : ReadForm).
-        record {
-          name = z;
-          serves = serves;
-          assigned = before;
-          follows = follows;
-        }) (reads signals t) r at)
+        (ready (reading_of serves before follows r)
+        (Contains-map (reading_of serves before follows) (reads signals t) r at)
         target want served))
 
     -- ---- one piece

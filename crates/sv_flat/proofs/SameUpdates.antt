@@ -13,7 +13,7 @@ use Rattle.sv_flat.specs.Values.{signal_width, value}
 use Rattle.sv_flat.specs.Runs.{Updates, with_piece, put_piece, run}
 use Rattle.sv_flat.specs.Assigned.{assigns, can_assign, always_assigns}
 use Rattle.sv_flat.specs.Readings.{BitSet, either, Reading, reading_of, readings_of, readings}
-use Rattle.sv_flat.specs.Readings.{reads}
+use Rattle.sv_flat.specs.Readings.{ReadForm, reads}
 use Rattle.sv_flat.specs.Soundness.{is_signal, well_formed, piece_fits, statement_sound}
 use Rattle.sv_flat.proofs.Members.{Contains-left, Contains-right}
 use Rattle.sv_flat.proofs.Depths.{first_of, second_of}

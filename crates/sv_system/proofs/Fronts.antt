@@ -1,7 +1,10 @@
--- A list item by item: what is left from a place on, and what is made of some items before others.
+-- A list item by item: what is left from a place on, what is made of some items before others, and
+-- a list placed after another.
 use Rattle.std.proofs.Common.{◌≡◌, ℕ, ◌+◌, ◌<◌, List, [], ◌∷◌, ◌++◌, length, get_or, drop, refl}
-use Rattle.std.proofs.Common.{sym, ap, ◌∙◌}
+use Rattle.std.proofs.Common.{sym, ap, subst, ◌∙◌, ⊎_elim}
+use Rattle.std.specs.Prelude.{Contains}
 use Rattle.std.proofs.lemmas.List.{drop_more}
+use Rattle.sv_system.proofs.Lists.{Contains-head, Contains-later, Contains-nil, Contains-cases}
 
 -- what is left is the item there and what is behind it
 pub left_more : {X : Type 0} (xs : List X) (i : ℕ) (x : X) → i < length xs → x ≡ get_or xs i x
@@ -25,3 +28,20 @@ module _ {X M : Type 0} (more : X → M → M) where
       → (xs : List X) → before more xs (made []) ≡ made xs
   before_end made each [] = refl
   before_end made each (x ∷ xs) = ap (more x) (before_end made each xs) ∙ each x xs
+
+-- a list placed after another, one by one: the last comes first
+abbrev pub placed : {X : Type 0} → List X → List X → List X
+placed first [] = first
+placed first (x ∷ xs) = placed (x ∷ first) xs
+
+module _ {X : Type 0} where
+  pub stays_placed : (first xs : List X) (x : X) → Contains first x → Contains (placed first xs) x
+  stays_placed first [] x at = at
+  stays_placed first (z ∷ xs) x at = stays_placed (z ∷ first) xs x (Contains-later z first x at)
+
+  pub is_placed : (first xs : List X) (x : X) → Contains xs x → Contains (placed first xs) x
+  is_placed first [] x at = absurd (Contains-nil x at)
+  is_placed first (z ∷ xs) x at = ⊎_elim
+      (λ e. stays_placed (z ∷ first) xs x (subst (Contains (z ∷ first)) e (Contains-head z first)))
+      (λ inside. is_placed (z ∷ first) xs x inside)
+      (Contains-cases z xs x at)

@@ -2,7 +2,6 @@
 use Rattle.std.proofs.Common.{◌≡◌, ℕ, true, false, List, [], ◌∷◌, refl}
 use Rattle.std.specs.Prelude.{◌%◌, codes, map, slice_index}
 use Rattle.std.specs.List.{range_with_len}
-use Rattle.sv_num.specs.declared.operators.UnOp.TheVariants as unop
 use Rattle.sv_system.specs.System.{Environment}
 use Rattle.sv_flat.specs.declared.signals.SigKind.TheVariants.{TopInput, OutputReg}
 use Rattle.sv_flat.specs.Design.{clocked, FlatDesign}

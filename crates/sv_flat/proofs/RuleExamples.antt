@@ -1,7 +1,6 @@
 -- The rules of flat designs by computation: of each a design that breaks it, and one that does not.
 use Rattle.std.proofs.Common.{◌≡◌, ℕ, true, false, List, [], ◌∷◌, Option, Some, None, refl}
 use Rattle.std.specs.Prelude.{codes, map, if◌then◌else◌}
-use Rattle.sv_num.specs.declared.operators.UnOp.TheVariants as unop
 use Rattle.sv_flat.specs.declared.signals.SigKind.TheVariants.{TopInput, Input, Output, Net, Reg}
 use Rattle.sv_flat.specs.declared.signals.SigKind.TheVariants.{OutputReg}
 use Rattle.sv_flat.specs.Design.{TypedTree, typed, constant, read, read_bit, join, no_parts}

@@ -27,9 +27,6 @@ use Rattle.sv_parse_machine.proofs.ExpressionForms.{Next}
 
 -- ---- one after the other
 
-pub reads_nothing : (xs : State) (ts : List Placed) → Reads xs xs ts ts
-reads_nothing xs ts = record { runs = λ below. refl }
-
 pub reads_then : (xs ys zs : State) (ts mid rest : List Placed) → Reads xs ys ts mid →
     Reads ys zs mid rest → Reads xs zs ts rest
 reads_then xs ys zs ts mid rest first second =
@@ -111,27 +108,6 @@ level_is_too_deep y level ys t ts more e = record {
   runs = λ below. stepped (outer y ∷ below) t ts (fails_as too_deep)
       (outer_step y below t ts (takes level 0 ys) e
       ∙ ap (λ b. within_limits b true (outside_on ys ++ below)) (beyond level 64 more));
-}
-
--- it begins an arm
-pub takes_arm : (y : Outer) (arm : ℕ) (ys : List Outer) (t : Placed) (ts : List Placed) → arm ≤ 256
-    → outer_on y t.lexeme ≡ takes 0 arm ys
-    → Reads (outer y ∷ []) (outside_on ys) (t ∷ ts) ts
-takes_arm y arm ys t ts less e = record {
-  runs = λ below. stepped (outer y ∷ below) t ts (goes (outside_on ys ++ below))
-      (outer_step y below t ts (takes 0 arm ys) e
-      ∙ ap (λ b. within_limits true b (outside_on ys ++ below)) (within arm 256 less));
-}
-
-pub arm_is_too_long : (y : Outer) (arm : ℕ) (ys : List Outer) (t : Placed) (ts : List Placed)
-    → 256 < arm → outer_on y t.lexeme ≡ takes 0 arm ys
-    → Halts (outer y ∷ []) (t ∷ ts) too_long (length (t ∷ ts))
-arm_is_too_long y arm ys t ts more e = record {
-  rest = t ∷ ts;
-  many = refl;
-  runs = λ below. stepped (outer y ∷ below) t ts (fails_as too_long)
-      (outer_step y below t ts (takes 0 arm ys) e
-      ∙ ap (λ b. within_limits true b (outside_on ys ++ below)) (beyond arm 256 more));
 }
 
 ended_over : (b : Bool) (below : Outcome) → b ≡ true → ended b below ≡ below

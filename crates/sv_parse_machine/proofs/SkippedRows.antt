@@ -6,13 +6,11 @@ use Rattle.sv_token.specs.declared.signs.SignKind.TheVariants as signs
 use Rattle.sv_token.specs.Lexemes.{Lexeme, word, sign, Placed}
 use Rattle.sv_parse_machine.specs.Symbols.{punctuation, more_values, perhaps_lattice, perhaps_maps}
 use Rattle.sv_parse_machine.specs.Symbols.{perhaps_key_range, perhaps_second_key}
-use Rattle.sv_parse_machine.specs.Symbols.{perhaps_header_parameters, parameter_type, perhaps_ports}
-use Rattle.sv_parse_machine.specs.Symbols.{perhaps_wire, perhaps_wire_or_reg, perhaps_signed}
-use Rattle.sv_parse_machine.specs.Symbols.{perhaps_range, perhaps_label, perhaps_second_name}
-use Rattle.sv_parse_machine.specs.Symbols.{perhaps_value, value_or_release, more_assigned}
+use Rattle.sv_parse_machine.specs.Symbols.{perhaps_header_parameters, perhaps_ports}
+use Rattle.sv_parse_machine.specs.Symbols.{value_or_release, more_assigned}
 use Rattle.sv_parse_machine.specs.Symbols.{perhaps_overrides, overrides, links, link, statement}
-use Rattle.sv_parse_machine.specs.Symbols.{perhaps_block_name, perhaps_else, perhaps_bits, arms}
-use Rattle.sv_parse_machine.specs.Symbols.{more_choices, perhaps_colon, Outer, outer, over}
+use Rattle.sv_parse_machine.specs.Symbols.{perhaps_else, perhaps_bits, arms}
+use Rattle.sv_parse_machine.specs.Symbols.{more_choices, Outer, outer, over}
 use Rattle.sv_parse_machine.specs.ExpressionTable.{expression_on}
 use Rattle.sv_parse_machine.specs.Machine.{outer_on, may_be_empty}
 use Rattle.sv_parse_machine.specs.Reads.{IsNot, NextIsNot, Reads}
@@ -62,18 +60,6 @@ pub skips_perhaps_maps : (ts : List Placed) → NextIsNot (word words.Labelmap) 
     Reads (outer perhaps_maps ∷ []) [] ts ts
 skips_perhaps_maps = skips_without (word words.Labelmap) perhaps_maps refl row_perhaps_maps
 
-row_parameter_type : (x : Lexeme) → IsNot (word words.Signed) x → IsNot (sign signs.OpenBracket) x →
-    outer_on parameter_type x ≡ over
-row_parameter_type (word words.Signed) no_0 no_1 = absurd (no_0 refl)
-row_parameter_type (sign signs.OpenBracket) no_0 no_1 = absurd (no_1 refl)
-row_parameter_type x no_0 no_1 = refl
-
-pub skips_parameter_type : (ts : List Placed) → NextIsNot (word words.Signed) ts →
-    NextIsNot (sign signs.OpenBracket) ts → Reads (outer parameter_type ∷ []) [] ts ts
-skips_parameter_type [] no_0 no_1 = skips parameter_type [] refl tt
-skips_parameter_type (t ∷ ts) no_0 no_1 =
-    skips parameter_type (t ∷ ts) refl (row_parameter_type t.lexeme no_0 no_1)
-
 row_perhaps_header_parameters : (x : Lexeme) → IsNot (sign signs.Hash) x →
     outer_on perhaps_header_parameters x ≡ over
 row_perhaps_header_parameters (sign signs.Hash) no_0 = absurd (no_0 refl)
@@ -84,61 +70,6 @@ pub skips_perhaps_header_parameters : (ts : List Placed) → NextIsNot (sign sig
 skips_perhaps_header_parameters =
     skips_without (sign signs.Hash) perhaps_header_parameters refl row_perhaps_header_parameters
 
-row_perhaps_wire : (x : Lexeme) → IsNot (word words.Wire) x → outer_on perhaps_wire x ≡ over
-row_perhaps_wire (word words.Wire) no_0 = absurd (no_0 refl)
-row_perhaps_wire x no_0 = refl
-
-pub skips_perhaps_wire : (ts : List Placed) → NextIsNot (word words.Wire) ts →
-    Reads (outer perhaps_wire ∷ []) [] ts ts
-skips_perhaps_wire = skips_without (word words.Wire) perhaps_wire refl row_perhaps_wire
-
-row_perhaps_wire_or_reg : (x : Lexeme) → IsNot (word words.Wire) x → IsNot (word words.Reg) x →
-    outer_on perhaps_wire_or_reg x ≡ over
-row_perhaps_wire_or_reg (word words.Wire) no_0 no_1 = absurd (no_0 refl)
-row_perhaps_wire_or_reg (word words.Reg) no_0 no_1 = absurd (no_1 refl)
-row_perhaps_wire_or_reg x no_0 no_1 = refl
-
-pub skips_perhaps_wire_or_reg : (ts : List Placed) → NextIsNot (word words.Wire) ts →
-    NextIsNot (word words.Reg) ts → Reads (outer perhaps_wire_or_reg ∷ []) [] ts ts
-skips_perhaps_wire_or_reg [] no_0 no_1 = skips perhaps_wire_or_reg [] refl tt
-skips_perhaps_wire_or_reg (t ∷ ts) no_0 no_1 =
-    skips perhaps_wire_or_reg (t ∷ ts) refl (row_perhaps_wire_or_reg t.lexeme no_0 no_1)
-
-row_perhaps_signed : (x : Lexeme) → IsNot (word words.Signed) x → outer_on perhaps_signed x ≡ over
-row_perhaps_signed (word words.Signed) no_0 = absurd (no_0 refl)
-row_perhaps_signed x no_0 = refl
-
-pub skips_perhaps_signed : (ts : List Placed) → NextIsNot (word words.Signed) ts →
-    Reads (outer perhaps_signed ∷ []) [] ts ts
-skips_perhaps_signed = skips_without (word words.Signed) perhaps_signed refl row_perhaps_signed
-
-row_perhaps_range : (x : Lexeme) → IsNot (sign signs.OpenBracket) x →
-    outer_on perhaps_range x ≡ over
-row_perhaps_range (sign signs.OpenBracket) no_0 = absurd (no_0 refl)
-row_perhaps_range x no_0 = refl
-
-pub skips_perhaps_range : (ts : List Placed) → NextIsNot (sign signs.OpenBracket) ts →
-    Reads (outer perhaps_range ∷ []) [] ts ts
-skips_perhaps_range = skips_without (sign signs.OpenBracket) perhaps_range refl row_perhaps_range
-
-row_perhaps_second_name : (x : Lexeme) → IsNot (sign signs.Comma) x →
-    outer_on perhaps_second_name x ≡ over
-row_perhaps_second_name (sign signs.Comma) no_0 = absurd (no_0 refl)
-row_perhaps_second_name x no_0 = refl
-
-pub skips_perhaps_second_name : (ts : List Placed) → NextIsNot (sign signs.Comma) ts →
-    Reads (outer perhaps_second_name ∷ []) [] ts ts
-skips_perhaps_second_name =
-    skips_without (sign signs.Comma) perhaps_second_name refl row_perhaps_second_name
-
-row_perhaps_label : (x : Lexeme) → IsNot (sign signs.OpenBrace) x → outer_on perhaps_label x ≡ over
-row_perhaps_label (sign signs.OpenBrace) no_0 = absurd (no_0 refl)
-row_perhaps_label x no_0 = refl
-
-pub skips_perhaps_label : (ts : List Placed) → NextIsNot (sign signs.OpenBrace) ts →
-    Reads (outer perhaps_label ∷ []) [] ts ts
-skips_perhaps_label = skips_without (sign signs.OpenBrace) perhaps_label refl row_perhaps_label
-
 row_perhaps_ports : (x : Lexeme) → IsNot (sign signs.OpenParenthesis) x →
     outer_on perhaps_ports x ≡ over
 row_perhaps_ports (sign signs.OpenParenthesis) no_0 = absurd (no_0 refl)
@@ -148,14 +79,6 @@ pub skips_perhaps_ports : (ts : List Placed) → NextIsNot (sign signs.OpenParen
     Reads (outer perhaps_ports ∷ []) [] ts ts
 skips_perhaps_ports =
     skips_without (sign signs.OpenParenthesis) perhaps_ports refl row_perhaps_ports
-
-row_perhaps_value : (x : Lexeme) → IsNot (sign signs.Equals) x → outer_on perhaps_value x ≡ over
-row_perhaps_value (sign signs.Equals) no_0 = absurd (no_0 refl)
-row_perhaps_value x no_0 = refl
-
-pub skips_perhaps_value : (ts : List Placed) → NextIsNot (sign signs.Equals) ts →
-    Reads (outer perhaps_value ∷ []) [] ts ts
-skips_perhaps_value = skips_without (sign signs.Equals) perhaps_value refl row_perhaps_value
 
 row_value_or_release : (x : Lexeme) → IsNot (word words.Release) x →
     outer_on value_or_release x ≡ expression_on 0 0 (more_assigned ∷ []) x
@@ -230,24 +153,6 @@ pub skips_perhaps_bits : (n : ℕ) (ts : List Placed) → NextIsNot (sign signs.
     Reads (outer (perhaps_bits n) ∷ []) [] ts ts
 skips_perhaps_bits n =
     skips_without (sign signs.OpenBracket) (perhaps_bits n) refl (row_perhaps_bits n)
-
-row_perhaps_block_name : (x : Lexeme) → IsNot (sign signs.Colon) x →
-    outer_on perhaps_block_name x ≡ over
-row_perhaps_block_name (sign signs.Colon) no_0 = absurd (no_0 refl)
-row_perhaps_block_name x no_0 = refl
-
-pub skips_perhaps_block_name : (ts : List Placed) → NextIsNot (sign signs.Colon) ts →
-    Reads (outer perhaps_block_name ∷ []) [] ts ts
-skips_perhaps_block_name =
-    skips_without (sign signs.Colon) perhaps_block_name refl row_perhaps_block_name
-
-row_perhaps_colon : (x : Lexeme) → IsNot (sign signs.Colon) x → outer_on perhaps_colon x ≡ over
-row_perhaps_colon (sign signs.Colon) no_0 = absurd (no_0 refl)
-row_perhaps_colon x no_0 = refl
-
-pub skips_perhaps_colon : (ts : List Placed) → NextIsNot (sign signs.Colon) ts →
-    Reads (outer perhaps_colon ∷ []) [] ts ts
-skips_perhaps_colon = skips_without (sign signs.Colon) perhaps_colon refl row_perhaps_colon
 
 row_perhaps_else : (n : ℕ) (x : Lexeme) → IsNot (word words.Else) x →
     outer_on (perhaps_else n) x ≡ over

@@ -5,7 +5,8 @@ use Rattle.std.specs.List.{range_with_len}
 use Rattle.sv_num.specs.declared.operators.BinOp.TheVariants as binop
 use Rattle.sv_system.specs.System.{Environment}
 use Rattle.sv_flat.specs.declared.signals.SigKind.TheVariants.{TopInput, OutputReg}
-use Rattle.sv_flat.specs.Design.{SignalForm, typed, constant, read, read_part, binary}
+use Rattle.sv_num.specs.declared.faults.Place.{Place}
+use Rattle.sv_flat.specs.Design.{SignalForm, typed, constant, read, read_part, binary, PieceForm}
 use Rattle.sv_flat.specs.Design.{FlatStatement, assign, branch, combinational, FlatDesign}
 use Rattle.sv_flat.specs.Soundness.{well_formed, sound}
 use Rattle.sv_flat.specs.Runs.{run_alone, updates_of}

@@ -1,5 +1,5 @@
 -- From steps to forms: items and modules.
-use Rattle.std.proofs.Common.{◌≡◌, zero, suc, List, [], ◌∷◌, inl, inr, refl, ◌∙◌}
+use Rattle.std.proofs.Common.{zero, suc, List, [], ◌∷◌, inl, inr, refl, ◌∙◌}
 use Rattle.sv_num.specs.declared.faults.Place.{Place}
 use Rattle.sv_token.specs.declared.keywords.WordKind.TheVariants as words
 use Rattle.sv_token.specs.declared.signs.SignKind.TheVariants as signs
@@ -7,31 +7,33 @@ use Rattle.sv_token.specs.Lexemes.{Lexeme, word, identifier, sign, Placed}
 use Rattle.sv_token.specs.Words.{is_refused_word}
 use Rattle.sv_ast.specs.GrammarForms.{binary_operator}
 use Rattle.sv_ast.specs.GrammarExpressions.{Limits}
-use Rattle.sv_parse_machine.specs.Symbols.{punctuation, plain_name, plain_number, expression, more_names}
-use Rattle.sv_parse_machine.specs.Symbols.{more_values, perhaps_second_name, items, behind_reg_name}
-use Rattle.sv_parse_machine.specs.Symbols.{value_or_release, more_assigned, perhaps_overrides, links}
-use Rattle.sv_parse_machine.specs.Symbols.{more_instances}
-use Rattle.sv_parse_machine.specs.ModuleTable.{more_parameters_on, perhaps_value_on, more_wires_on}
-use Rattle.sv_parse_machine.specs.ModuleTable.{behind_reg_name_on, memory_name_on, label_selector_on}
-use Rattle.sv_parse_machine.specs.ModuleTable.{reg_name_on, reg_label_end_on, reg_label_on}
-use Rattle.sv_parse_machine.specs.ModuleTable.{later_assigned_on, more_assigned_on, value_or_release_on}
-use Rattle.sv_parse_machine.specs.ModuleTable.{assigned_on, event_inside_on, event_on}
-use Rattle.sv_parse_machine.specs.ModuleTable.{more_named_overrides_on, overrides_on}
-use Rattle.sv_parse_machine.specs.ModuleTable.{perhaps_overrides_on, link_on, more_named_links_on}
-use Rattle.sv_parse_machine.specs.ModuleTable.{links_on, more_instances_on, items_on, one_module_on}
+use Rattle.sv_parse_machine.specs.Symbols.{punctuation, plain_name, plain_number, expression}
+use Rattle.sv_parse_machine.specs.Symbols.{more_names, more_values, perhaps_second_name, items}
+use Rattle.sv_parse_machine.specs.Symbols.{behind_reg_name, value_or_release, more_assigned}
+use Rattle.sv_parse_machine.specs.Symbols.{perhaps_overrides, links, more_instances}
+use Rattle.sv_parse_machine.specs.ModuleTable.{more_parameters_on, more_wires_on}
+use Rattle.sv_parse_machine.specs.ModuleTable.{behind_reg_name_on, memory_name_on}
+use Rattle.sv_parse_machine.specs.ModuleTable.{label_selector_on, reg_name_on, reg_label_end_on}
+use Rattle.sv_parse_machine.specs.ModuleTable.{reg_label_on, later_assigned_on, more_assigned_on}
+use Rattle.sv_parse_machine.specs.ModuleTable.{value_or_release_on, assigned_on, event_inside_on}
+use Rattle.sv_parse_machine.specs.ModuleTable.{event_on, more_named_overrides_on, overrides_on}
+use Rattle.sv_parse_machine.specs.ModuleTable.{link_on, more_named_links_on, links_on}
+use Rattle.sv_parse_machine.specs.ModuleTable.{more_instances_on, items_on, one_module_on}
 use Rattle.sv_parse_machine.proofs.InnerSteps.{placed, no_token}
 use Rattle.sv_parse_machine.proofs.InnerForms.{last_token}
-use Rattle.sv_parse_machine.proofs.OuterForms.{more_parameters_form, perhaps_value_form, more_wires_form}
+use Rattle.sv_parse_machine.proofs.OuterForms.{more_parameters_form, more_wires_form}
 use Rattle.sv_parse_machine.proofs.OuterForms.{behind_reg_name_form, memory_name_form}
-use Rattle.sv_parse_machine.proofs.OuterForms.{label_selector_form, reg_name_form, reg_label_end_form}
-use Rattle.sv_parse_machine.proofs.OuterForms.{reg_label_form, later_assigned_form, more_assigned_form}
-use Rattle.sv_parse_machine.proofs.OuterForms.{value_or_release_form, assigned_form, event_inside_form}
-use Rattle.sv_parse_machine.proofs.OuterForms.{event_form, more_named_overrides_form, overrides_form}
-use Rattle.sv_parse_machine.proofs.OuterForms.{perhaps_overrides_form, link_form, more_named_links_form}
-use Rattle.sv_parse_machine.proofs.OuterForms.{links_form, more_instances_form, items_form}
-use Rattle.sv_parse_machine.proofs.OuterForms.{one_module_form, Accepts}
-use Rattle.sv_parse_machine.proofs.OuterTokens.{taken_as_name, taken_star, taken_star_inside, b_begins}
-use Rattle.sv_parse_machine.proofs.OuterTokens.{no_expression}
+use Rattle.sv_parse_machine.proofs.OuterForms.{label_selector_form, reg_name_form}
+use Rattle.sv_parse_machine.proofs.OuterForms.{reg_label_end_form, reg_label_form}
+use Rattle.sv_parse_machine.proofs.OuterForms.{later_assigned_form, more_assigned_form}
+use Rattle.sv_parse_machine.proofs.OuterForms.{value_or_release_form, assigned_form}
+use Rattle.sv_parse_machine.proofs.OuterForms.{event_inside_form, event_form}
+use Rattle.sv_parse_machine.proofs.OuterForms.{more_named_overrides_form, overrides_form, link_form}
+use Rattle.sv_parse_machine.proofs.OuterForms.{more_named_links_form, links_form}
+use Rattle.sv_parse_machine.proofs.OuterForms.{more_instances_form, items_form, one_module_form}
+use Rattle.sv_parse_machine.proofs.OuterForms.{Accepts}
+use Rattle.sv_parse_machine.proofs.OuterTokens.{taken_as_name, taken_star, taken_star_inside}
+use Rattle.sv_parse_machine.proofs.OuterTokens.{b_begins, no_expression}
 use Rattle.sv_parse_machine.proofs.OuterForms.{more_parameters_row, more_parameters_end}
 use Rattle.sv_parse_machine.proofs.OuterForms.{more_wires_row, more_wires_end, more_assigned_row}
 use Rattle.sv_parse_machine.proofs.OuterForms.{more_assigned_end, more_named_overrides_row}
@@ -55,17 +57,6 @@ b_more_parameters l x p ts rest is = absurd is
 pub none_more_parameters : (l : Limits) (rest : List Placed) → more_parameters_form l [] rest → ⊥
 none_more_parameters l rest (zero, (m, none, (p, e))) = no_token (none ∙ e)
 none_more_parameters l rest (suc k, (m, (m1, (m0, (p, e), behind), others), final)) = no_token e
-
-pub b_perhaps_value : (l : Limits) (x : Lexeme) (p : Place) (ts rest : List Placed) →
-    Accepts l (placed x p) ts rest (perhaps_value_on x) →
-    perhaps_value_form l (placed x p ∷ ts) rest
-b_perhaps_value l (sign signs.Equals) p ts rest is = inr (ts, (p, refl), is.2)
-b_perhaps_value l x p ts rest is = inl (tt, is)
-
-pub none_perhaps_value : (l : Limits) (rest : List Placed) → perhaps_value_form l [] rest →
-    [] ≡ rest
-none_perhaps_value l rest (inl (over, same)) = same
-none_perhaps_value l rest (inr (m, (p, e), behind)) = absurd (no_token e)
 
 pub b_more_wires : (l : Limits) (x : Lexeme) (p : Place) (ts rest : List Placed) →
     Accepts l (placed x p) ts rest (more_wires_on x) → more_wires_form l (placed x p ∷ ts) rest
@@ -261,17 +252,6 @@ b_overrides l x p ts rest is =
 pub none_overrides : (l : Limits) (rest : List Placed) → overrides_form l [] rest → ⊥
 none_overrides l rest (inl (m, (p, e), behind)) = no_token e
 none_overrides l rest (inr (m, is, behind)) = no_expression l 0 m is
-
-pub b_perhaps_overrides : (l : Limits) (x : Lexeme) (p : Place) (ts rest : List Placed) →
-    Accepts l (placed x p) ts rest (perhaps_overrides_on x) →
-    perhaps_overrides_form l (placed x p ∷ ts) rest
-b_perhaps_overrides l (sign signs.Hash) p ts rest is = inr (ts, (p, refl), is.2)
-b_perhaps_overrides l x p ts rest is = inl (tt, is)
-
-pub none_perhaps_overrides : (l : Limits) (rest : List Placed) → perhaps_overrides_form l [] rest →
-    [] ≡ rest
-none_perhaps_overrides l rest (inl (over, same)) = same
-none_perhaps_overrides l rest (inr (m, (p, e), behind)) = absurd (no_token e)
 
 pub b_link : (l : Limits) (x : Lexeme) (p : Place) (ts rest : List Placed) →
     Accepts l (placed x p) ts rest (link_on x) → link_form l (placed x p ∷ ts) rest

@@ -4,32 +4,34 @@ use Rattle.sv_token.specs.declared.keywords.WordKind.TheVariants as words
 use Rattle.sv_token.specs.declared.signs.SignKind.TheVariants as signs
 use Rattle.sv_token.specs.Lexemes.{Lexeme, word, sign, Placed}
 use Rattle.sv_ast.specs.GrammarExpressions.{Limits}
-use Rattle.sv_parse_machine.specs.Symbols.{punctuation, plain_name, plain_number, expression, more_names}
-use Rattle.sv_parse_machine.specs.Symbols.{more_values, perhaps_second_name, items, behind_reg_name}
-use Rattle.sv_parse_machine.specs.Symbols.{value_or_release, more_assigned, perhaps_overrides, links}
-use Rattle.sv_parse_machine.specs.Symbols.{more_instances}
+use Rattle.sv_parse_machine.specs.Symbols.{punctuation, plain_name, plain_number, expression}
+use Rattle.sv_parse_machine.specs.Symbols.{more_names, more_values, perhaps_second_name, items}
+use Rattle.sv_parse_machine.specs.Symbols.{behind_reg_name, value_or_release, more_assigned}
+use Rattle.sv_parse_machine.specs.Symbols.{perhaps_overrides, links, more_instances}
 use Rattle.sv_parse_machine.specs.ExpressionTable.{expression_on}
 use Rattle.sv_parse_machine.specs.StatementTable.{is_star, taken_if}
-use Rattle.sv_parse_machine.specs.ModuleTable.{more_parameters_on, perhaps_value_on, more_wires_on}
-use Rattle.sv_parse_machine.specs.ModuleTable.{behind_reg_name_on, memory_name_on, label_selector_on}
-use Rattle.sv_parse_machine.specs.ModuleTable.{reg_name_on, reg_label_end_on, reg_label_on}
-use Rattle.sv_parse_machine.specs.ModuleTable.{later_assigned_on, more_assigned_on, value_or_release_on}
-use Rattle.sv_parse_machine.specs.ModuleTable.{assigned_on, event_inside_on, event_on}
-use Rattle.sv_parse_machine.specs.ModuleTable.{more_named_overrides_on, overrides_on}
-use Rattle.sv_parse_machine.specs.ModuleTable.{perhaps_overrides_on, link_on, more_named_links_on}
-use Rattle.sv_parse_machine.specs.ModuleTable.{links_on, more_instances_on, items_on, one_module_on}
+use Rattle.sv_parse_machine.specs.ModuleTable.{more_parameters_on, more_wires_on}
+use Rattle.sv_parse_machine.specs.ModuleTable.{behind_reg_name_on, memory_name_on}
+use Rattle.sv_parse_machine.specs.ModuleTable.{label_selector_on, reg_name_on, reg_label_end_on}
+use Rattle.sv_parse_machine.specs.ModuleTable.{reg_label_on, later_assigned_on, more_assigned_on}
+use Rattle.sv_parse_machine.specs.ModuleTable.{value_or_release_on, assigned_on, event_inside_on}
+use Rattle.sv_parse_machine.specs.ModuleTable.{event_on, more_named_overrides_on, overrides_on}
+use Rattle.sv_parse_machine.specs.ModuleTable.{link_on, more_named_links_on, links_on}
+use Rattle.sv_parse_machine.specs.ModuleTable.{more_instances_on, items_on, one_module_on}
 use Rattle.sv_parse_machine.specs.ModuleTable.{star_in_event}
 use Rattle.sv_parse_machine.proofs.InnerSteps.{by_token, none_opens, no_arm}
-use Rattle.sv_parse_machine.proofs.OuterForms.{more_parameters_form, perhaps_value_form, more_wires_form}
+use Rattle.sv_parse_machine.proofs.OuterForms.{more_parameters_form, more_wires_form}
 use Rattle.sv_parse_machine.proofs.OuterForms.{behind_reg_name_form, memory_name_form}
-use Rattle.sv_parse_machine.proofs.OuterForms.{label_selector_form, reg_name_form, reg_label_end_form}
-use Rattle.sv_parse_machine.proofs.OuterForms.{reg_label_form, later_assigned_form, more_assigned_form}
-use Rattle.sv_parse_machine.proofs.OuterForms.{value_or_release_form, assigned_form, event_inside_form}
-use Rattle.sv_parse_machine.proofs.OuterForms.{event_form, more_named_overrides_form, overrides_form}
-use Rattle.sv_parse_machine.proofs.OuterForms.{perhaps_overrides_form, link_form, more_named_links_form}
-use Rattle.sv_parse_machine.proofs.OuterForms.{links_form, more_instances_form, items_form}
-use Rattle.sv_parse_machine.proofs.OuterForms.{one_module_form, Accepts}
-use Rattle.sv_parse_machine.proofs.OuterTokens.{unrefused, skipped, f_begins}
+use Rattle.sv_parse_machine.proofs.OuterForms.{label_selector_form, reg_name_form}
+use Rattle.sv_parse_machine.proofs.OuterForms.{reg_label_end_form, reg_label_form}
+use Rattle.sv_parse_machine.proofs.OuterForms.{later_assigned_form, more_assigned_form}
+use Rattle.sv_parse_machine.proofs.OuterForms.{value_or_release_form, assigned_form}
+use Rattle.sv_parse_machine.proofs.OuterForms.{event_inside_form, event_form}
+use Rattle.sv_parse_machine.proofs.OuterForms.{more_named_overrides_form, overrides_form, link_form}
+use Rattle.sv_parse_machine.proofs.OuterForms.{more_named_links_form, links_form}
+use Rattle.sv_parse_machine.proofs.OuterForms.{more_instances_form, items_form, one_module_form}
+use Rattle.sv_parse_machine.proofs.OuterForms.{Accepts}
+use Rattle.sv_parse_machine.proofs.OuterTokens.{unrefused, f_begins}
 
 pub f_more_parameters : (l : Limits) (t : Placed) (ts rest : List Placed) →
     more_parameters_form l (t ∷ ts) rest → Accepts l t ts rest (more_parameters_on t.lexeme)
@@ -44,13 +46,6 @@ f_more_parameters l t ts rest
           l,
       (q0, a0, (q1, a1, (m1, a2, (rest, (k, (m, others, final)), refl)))),
     )
-
-pub f_perhaps_value : (l : Limits) (t : Placed) (ts rest : List Placed) →
-    perhaps_value_form l (t ∷ ts) rest → Accepts l t ts rest (perhaps_value_on t.lexeme)
-f_perhaps_value l t ts rest (inl (over, same)) =
-    skipped l t ts rest (perhaps_value_on t.lexeme) over same
-f_perhaps_value l t ts rest (inr (m, (p, e), behind)) =
-    by_token (λ x us. Accepts l t us rest (perhaps_value_on x)) e (none_opens l, no_arm l, behind)
 
 pub f_more_wires : (l : Limits) (t : Placed) (ts rest : List Placed) →
     more_wires_form l (t ∷ ts) rest → Accepts l t ts rest (more_wires_on t.lexeme)
@@ -194,14 +189,6 @@ f_overrides l t ts rest (inl (m, (p, e), behind)) =
 f_overrides l t ts rest (inr (m, is, behind)) =
     overrides_as_expression l t ts rest t.lexeme
     (f_begins l 0 0 (more_values ∷ []) t ts m rest is (no_arm l) behind)
-
-pub f_perhaps_overrides : (l : Limits) (t : Placed) (ts rest : List Placed) →
-    perhaps_overrides_form l (t ∷ ts) rest → Accepts l t ts rest (perhaps_overrides_on t.lexeme)
-f_perhaps_overrides l t ts rest (inl (over, same)) =
-    skipped l t ts rest (perhaps_overrides_on t.lexeme) over same
-f_perhaps_overrides l t ts rest (inr (m, (p, e), behind)) =
-    by_token (λ x us. Accepts l t us rest (perhaps_overrides_on x)) e
-    (none_opens l, no_arm l, behind)
 
 link_as_expression : (l : Limits) (t : Placed) (ts rest : List Placed) (x : Lexeme) →
     Accepts l t ts rest (expression_on 0 0 (punctuation signs.CloseParenthesis ∷ []) x) →

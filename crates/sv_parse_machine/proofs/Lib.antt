@@ -47,6 +47,7 @@ pub mod Runs
 pub mod ShapedForms
 pub mod ShapedTexts
 pub mod SkippedRows
+pub mod OneToken
 pub mod StatementForms
 pub mod StatementSteps
 pub mod Syntax

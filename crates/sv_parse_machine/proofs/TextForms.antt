@@ -9,32 +9,25 @@ use Rattle.sv_ast.specs.GrammarExpressions.{Limits}
 use Rattle.sv_parse_machine.specs.Symbols.{punctuation, plain_name, plain_number, expression}
 use Rattle.sv_parse_machine.specs.Symbols.{lattice_lines, less_equal}
 use Rattle.sv_parse_machine.specs.StatementTable.{more_values_on}
-use Rattle.sv_parse_machine.specs.ModuleTable.{lattice_lines_on, perhaps_lattice_on, map_name_on}
-use Rattle.sv_parse_machine.specs.ModuleTable.{perhaps_key_range_on, perhaps_second_key_on, end_of_map_on}
+use Rattle.sv_parse_machine.specs.ModuleTable.{lattice_lines_on, map_name_on, end_of_map_on}
 use Rattle.sv_parse_machine.specs.ModuleTable.{rows_on, perhaps_maps_on, parameter_type_on}
 use Rattle.sv_parse_machine.specs.ModuleTable.{header_parameter_on, later_header_parameter_on}
-use Rattle.sv_parse_machine.specs.ModuleTable.{more_header_parameters_on, perhaps_header_parameters_on}
-use Rattle.sv_parse_machine.specs.ModuleTable.{perhaps_wire_on, perhaps_wire_or_reg_on, perhaps_signed_on}
-use Rattle.sv_parse_machine.specs.ModuleTable.{perhaps_range_on, perhaps_second_name_on, label_end_on}
-use Rattle.sv_parse_machine.specs.ModuleTable.{perhaps_label_on, later_port_on, more_ports_on, ports_on}
-use Rattle.sv_parse_machine.specs.ModuleTable.{perhaps_ports_on}
+use Rattle.sv_parse_machine.specs.ModuleTable.{more_header_parameters_on, perhaps_wire_or_reg_on}
+use Rattle.sv_parse_machine.specs.ModuleTable.{label_end_on, later_port_on, more_ports_on, ports_on}
 use Rattle.sv_parse_machine.proofs.InnerSteps.{placed, no_token}
 use Rattle.sv_parse_machine.proofs.InnerForms.{last_token}
-use Rattle.sv_parse_machine.proofs.OuterForms.{more_values_form, lattice_lines_form, perhaps_lattice_form}
-use Rattle.sv_parse_machine.proofs.OuterForms.{map_name_form, perhaps_key_range_form}
-use Rattle.sv_parse_machine.proofs.OuterForms.{perhaps_second_key_form, end_of_map_form, rows_form}
-use Rattle.sv_parse_machine.proofs.OuterForms.{perhaps_maps_form, parameter_type_form}
-use Rattle.sv_parse_machine.proofs.OuterForms.{header_parameter_form, later_header_parameter_form}
+use Rattle.sv_parse_machine.proofs.OuterForms.{more_values_form, lattice_lines_form, map_name_form}
+use Rattle.sv_parse_machine.proofs.OuterForms.{end_of_map_form, rows_form, perhaps_maps_form}
+use Rattle.sv_parse_machine.proofs.OuterForms.{parameter_type_form, header_parameter_form}
+use Rattle.sv_parse_machine.proofs.OuterForms.{later_header_parameter_form}
 use Rattle.sv_parse_machine.proofs.OuterForms.{more_header_parameters_form}
-use Rattle.sv_parse_machine.proofs.OuterForms.{perhaps_header_parameters_form, perhaps_wire_form}
-use Rattle.sv_parse_machine.proofs.OuterForms.{perhaps_wire_or_reg_form, perhaps_signed_form}
-use Rattle.sv_parse_machine.proofs.OuterForms.{perhaps_range_form, perhaps_second_name_form}
-use Rattle.sv_parse_machine.proofs.OuterForms.{label_end_form, perhaps_label_form, later_port_form}
-use Rattle.sv_parse_machine.proofs.OuterForms.{more_ports_form, ports_form, perhaps_ports_form, Accepts}
+use Rattle.sv_parse_machine.proofs.OuterForms.{perhaps_wire_or_reg_form, label_end_form}
+use Rattle.sv_parse_machine.proofs.OuterForms.{later_port_form, more_ports_form, ports_form}
+use Rattle.sv_parse_machine.proofs.OuterForms.{Accepts}
 use Rattle.sv_parse_machine.proofs.OuterTokens.{taken_as_name}
-use Rattle.sv_parse_machine.proofs.OuterForms.{more_values_row, more_values_end}
-use Rattle.sv_parse_machine.proofs.OuterForms.{lattice_lines_row, lattice_lines_end, rows_row}
-use Rattle.sv_parse_machine.proofs.OuterForms.{rows_end, perhaps_maps_row, perhaps_maps_end}
+use Rattle.sv_parse_machine.proofs.OuterForms.{more_values_row, more_values_end, lattice_lines_row}
+use Rattle.sv_parse_machine.proofs.OuterForms.{lattice_lines_end, rows_row, rows_end}
+use Rattle.sv_parse_machine.proofs.OuterForms.{perhaps_maps_row, perhaps_maps_end}
 use Rattle.sv_parse_machine.proofs.OuterForms.{more_header_parameters_row}
 use Rattle.sv_parse_machine.proofs.OuterForms.{more_header_parameters_end, more_ports_row}
 use Rattle.sv_parse_machine.proofs.OuterForms.{more_ports_end}
@@ -79,17 +72,6 @@ none_lattice_lines l rest (suc k, (m, (m1, inl (m0, (p, e), behind), others), fi
 none_lattice_lines l rest (suc k, (m, (m1, inr (m0, (x, (p, (free, e))), behind), others), final)) =
     no_token e
 
-pub b_perhaps_lattice : (l : Limits) (x : Lexeme) (p : Place) (ts rest : List Placed) →
-    Accepts l (placed x p) ts rest (perhaps_lattice_on x) →
-    perhaps_lattice_form l (placed x p ∷ ts) rest
-b_perhaps_lattice l (word words.Lattice) p ts rest is = inr (ts, (p, refl), is.2)
-b_perhaps_lattice l x p ts rest is = inl (tt, is)
-
-pub none_perhaps_lattice : (l : Limits) (rest : List Placed) → perhaps_lattice_form l [] rest →
-    [] ≡ rest
-none_perhaps_lattice l rest (inl (over, same)) = same
-none_perhaps_lattice l rest (inr (m, (p, e), behind)) = absurd (no_token e)
-
 pub b_map_name : (l : Limits) (x : Lexeme) (p : Place) (ts rest : List Placed) →
     Accepts l (placed x p) ts rest (map_name_on x) → map_name_form l (placed x p ∷ ts) rest
 b_map_name l (identifier x) p ts rest is =
@@ -101,28 +83,6 @@ b_map_name l x p ts rest is = absurd is
 
 pub none_map_name : (l : Limits) (rest : List Placed) → map_name_form l [] rest → ⊥
 none_map_name l rest (m, (x, (p, (free, e))), behind) = no_token e
-
-pub b_perhaps_key_range : (l : Limits) (x : Lexeme) (p : Place) (ts rest : List Placed) →
-    Accepts l (placed x p) ts rest (perhaps_key_range_on x) →
-    perhaps_key_range_form l (placed x p ∷ ts) rest
-b_perhaps_key_range l (sign signs.OpenBracket) p ts rest is = inr (ts, (p, refl), is.2)
-b_perhaps_key_range l x p ts rest is = inl (tt, is)
-
-pub none_perhaps_key_range : (l : Limits) (rest : List Placed) → perhaps_key_range_form l [] rest →
-    [] ≡ rest
-none_perhaps_key_range l rest (inl (over, same)) = same
-none_perhaps_key_range l rest (inr (m, (p, e), behind)) = absurd (no_token e)
-
-pub b_perhaps_second_key : (l : Limits) (x : Lexeme) (p : Place) (ts rest : List Placed) →
-    Accepts l (placed x p) ts rest (perhaps_second_key_on x) →
-    perhaps_second_key_form l (placed x p ∷ ts) rest
-b_perhaps_second_key l (sign signs.Comma) p ts rest is = inr (ts, (p, refl), is.2)
-b_perhaps_second_key l x p ts rest is = inl (tt, is)
-
-pub none_perhaps_second_key : (l : Limits) (rest : List Placed) →
-    perhaps_second_key_form l [] rest → [] ≡ rest
-none_perhaps_second_key l rest (inl (over, same)) = same
-none_perhaps_second_key l rest (inr (m, (p, e), behind)) = absurd (no_token e)
 
 pub b_end_of_map : (l : Limits) (x : Lexeme) (p : Place) (ts rest : List Placed) →
     Accepts l (placed x p) ts rest (end_of_map_on x) → end_of_map_form l (placed x p ∷ ts) rest
@@ -230,26 +190,6 @@ none_more_header_parameters l rest (zero, (m, none, (p, e))) = no_token (none �
 none_more_header_parameters l rest (suc k, (m, (m1, (m0, (p, e), behind), others), final)) =
     no_token e
 
-pub b_perhaps_header_parameters : (l : Limits) (x : Lexeme) (p : Place) (ts rest : List Placed) →
-    Accepts l (placed x p) ts rest (perhaps_header_parameters_on x) →
-    perhaps_header_parameters_form l (placed x p ∷ ts) rest
-b_perhaps_header_parameters l (sign signs.Hash) p ts rest is = inr (ts, (p, refl), is.2)
-b_perhaps_header_parameters l x p ts rest is = inl (tt, is)
-
-pub none_perhaps_header_parameters : (l : Limits) (rest : List Placed) →
-    perhaps_header_parameters_form l [] rest → [] ≡ rest
-none_perhaps_header_parameters l rest (inl (over, same)) = same
-none_perhaps_header_parameters l rest (inr (m, (p, e), behind)) = absurd (no_token e)
-
-pub b_perhaps_wire : (l : Limits) (x : Lexeme) (p : Place) (ts rest : List Placed) →
-    Accepts l (placed x p) ts rest (perhaps_wire_on x) → perhaps_wire_form l (placed x p ∷ ts) rest
-b_perhaps_wire l (word words.Wire) p ts rest is = inr (ts, (p, refl), is.2)
-b_perhaps_wire l x p ts rest is = inl (tt, is)
-
-pub none_perhaps_wire : (l : Limits) (rest : List Placed) → perhaps_wire_form l [] rest → [] ≡ rest
-none_perhaps_wire l rest (inl (over, same)) = same
-none_perhaps_wire l rest (inr (m, (p, e), behind)) = absurd (no_token e)
-
 pub b_perhaps_wire_or_reg : (l : Limits) (x : Lexeme) (p : Place) (ts rest : List Placed) →
     Accepts l (placed x p) ts rest (perhaps_wire_or_reg_on x) →
     perhaps_wire_or_reg_form l (placed x p ∷ ts) rest
@@ -263,39 +203,6 @@ none_perhaps_wire_or_reg l rest (inl (over, same)) = same
 none_perhaps_wire_or_reg l rest (inr (inl (m, (p, e), behind))) = absurd (no_token e)
 none_perhaps_wire_or_reg l rest (inr (inr (m, (p, e), behind))) = absurd (no_token e)
 
-pub b_perhaps_signed : (l : Limits) (x : Lexeme) (p : Place) (ts rest : List Placed) →
-    Accepts l (placed x p) ts rest (perhaps_signed_on x) →
-    perhaps_signed_form l (placed x p ∷ ts) rest
-b_perhaps_signed l (word words.Signed) p ts rest is = inr (ts, (p, refl), is.2)
-b_perhaps_signed l x p ts rest is = inl (tt, is)
-
-pub none_perhaps_signed : (l : Limits) (rest : List Placed) → perhaps_signed_form l [] rest →
-    [] ≡ rest
-none_perhaps_signed l rest (inl (over, same)) = same
-none_perhaps_signed l rest (inr (m, (p, e), behind)) = absurd (no_token e)
-
-pub b_perhaps_range : (l : Limits) (x : Lexeme) (p : Place) (ts rest : List Placed) →
-    Accepts l (placed x p) ts rest (perhaps_range_on x) →
-    perhaps_range_form l (placed x p ∷ ts) rest
-b_perhaps_range l (sign signs.OpenBracket) p ts rest is = inr (ts, (p, refl), is.2)
-b_perhaps_range l x p ts rest is = inl (tt, is)
-
-pub none_perhaps_range : (l : Limits) (rest : List Placed) → perhaps_range_form l [] rest →
-    [] ≡ rest
-none_perhaps_range l rest (inl (over, same)) = same
-none_perhaps_range l rest (inr (m, (p, e), behind)) = absurd (no_token e)
-
-pub b_perhaps_second_name : (l : Limits) (x : Lexeme) (p : Place) (ts rest : List Placed) →
-    Accepts l (placed x p) ts rest (perhaps_second_name_on x) →
-    perhaps_second_name_form l (placed x p ∷ ts) rest
-b_perhaps_second_name l (sign signs.Comma) p ts rest is = inr (ts, (p, refl), is.2)
-b_perhaps_second_name l x p ts rest is = inl (tt, is)
-
-pub none_perhaps_second_name : (l : Limits) (rest : List Placed) →
-    perhaps_second_name_form l [] rest → [] ≡ rest
-none_perhaps_second_name l rest (inl (over, same)) = same
-none_perhaps_second_name l rest (inr (m, (p, e), behind)) = absurd (no_token e)
-
 pub b_label_end : (l : Limits) (x : Lexeme) (p : Place) (ts rest : List Placed) →
     Accepts l (placed x p) ts rest (label_end_on x) → label_end_form l (placed x p ∷ ts) rest
 b_label_end l (sign signs.CloseBrace) p ts rest is = inl (ts, (p, refl), is.2)
@@ -305,17 +212,6 @@ b_label_end l x p ts rest is = absurd is
 pub none_label_end : (l : Limits) (rest : List Placed) → label_end_form l [] rest → ⊥
 none_label_end l rest (inl (m, (p, e), behind)) = no_token e
 none_label_end l rest (inr (m, (p, e), behind)) = no_token e
-
-pub b_perhaps_label : (l : Limits) (x : Lexeme) (p : Place) (ts rest : List Placed) →
-    Accepts l (placed x p) ts rest (perhaps_label_on x) →
-    perhaps_label_form l (placed x p ∷ ts) rest
-b_perhaps_label l (sign signs.OpenBrace) p ts rest is = inr (ts, (p, refl), is.2)
-b_perhaps_label l x p ts rest is = inl (tt, is)
-
-pub none_perhaps_label : (l : Limits) (rest : List Placed) → perhaps_label_form l [] rest →
-    [] ≡ rest
-none_perhaps_label l rest (inl (over, same)) = same
-none_perhaps_label l rest (inr (m, (p, e), behind)) = absurd (no_token e)
 
 pub b_later_port : (l : Limits) (x : Lexeme) (p : Place) (ts rest : List Placed) →
     Accepts l (placed x p) ts rest (later_port_on x) → later_port_form l (placed x p ∷ ts) rest
@@ -356,14 +252,3 @@ pub none_ports : (l : Limits) (rest : List Placed) → ports_form l [] rest → 
 none_ports l rest (inl (m, (p, e), behind)) = no_token e
 none_ports l rest (inr (inl (m, (p, e), behind))) = no_token e
 none_ports l rest (inr (inr (m, (p, e), behind))) = no_token e
-
-pub b_perhaps_ports : (l : Limits) (x : Lexeme) (p : Place) (ts rest : List Placed) →
-    Accepts l (placed x p) ts rest (perhaps_ports_on x) →
-    perhaps_ports_form l (placed x p ∷ ts) rest
-b_perhaps_ports l (sign signs.OpenParenthesis) p ts rest is = inr (ts, (p, refl), is.2)
-b_perhaps_ports l x p ts rest is = inl (tt, is)
-
-pub none_perhaps_ports : (l : Limits) (rest : List Placed) → perhaps_ports_form l [] rest →
-    [] ≡ rest
-none_perhaps_ports l rest (inl (over, same)) = same
-none_perhaps_ports l rest (inr (m, (p, e), behind)) = absurd (no_token e)

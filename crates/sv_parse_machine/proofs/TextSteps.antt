@@ -6,28 +6,21 @@ use Rattle.sv_ast.specs.GrammarExpressions.{Limits}
 use Rattle.sv_parse_machine.specs.Symbols.{punctuation, plain_name, plain_number, expression}
 use Rattle.sv_parse_machine.specs.Symbols.{lattice_lines, less_equal}
 use Rattle.sv_parse_machine.specs.StatementTable.{more_values_on}
-use Rattle.sv_parse_machine.specs.ModuleTable.{lattice_lines_on, perhaps_lattice_on, map_name_on}
-use Rattle.sv_parse_machine.specs.ModuleTable.{perhaps_key_range_on, perhaps_second_key_on, end_of_map_on}
+use Rattle.sv_parse_machine.specs.ModuleTable.{lattice_lines_on, map_name_on, end_of_map_on}
 use Rattle.sv_parse_machine.specs.ModuleTable.{rows_on, perhaps_maps_on, parameter_type_on}
 use Rattle.sv_parse_machine.specs.ModuleTable.{header_parameter_on, later_header_parameter_on}
-use Rattle.sv_parse_machine.specs.ModuleTable.{more_header_parameters_on, perhaps_header_parameters_on}
-use Rattle.sv_parse_machine.specs.ModuleTable.{perhaps_wire_on, perhaps_wire_or_reg_on, perhaps_signed_on}
-use Rattle.sv_parse_machine.specs.ModuleTable.{perhaps_range_on, perhaps_second_name_on, label_end_on}
-use Rattle.sv_parse_machine.specs.ModuleTable.{perhaps_label_on, later_port_on, more_ports_on, ports_on}
-use Rattle.sv_parse_machine.specs.ModuleTable.{perhaps_ports_on}
+use Rattle.sv_parse_machine.specs.ModuleTable.{more_header_parameters_on, perhaps_wire_or_reg_on}
+use Rattle.sv_parse_machine.specs.ModuleTable.{label_end_on, later_port_on, more_ports_on, ports_on}
 use Rattle.sv_parse_machine.proofs.ExpressionForms.{Next}
 use Rattle.sv_parse_machine.proofs.InnerSteps.{by_token, none_opens, no_arm}
 use Rattle.sv_parse_machine.proofs.OuterForms.{IsOver, more_values_form, lattice_lines_form}
-use Rattle.sv_parse_machine.proofs.OuterForms.{perhaps_lattice_form, map_name_form}
-use Rattle.sv_parse_machine.proofs.OuterForms.{perhaps_key_range_form, perhaps_second_key_form}
-use Rattle.sv_parse_machine.proofs.OuterForms.{end_of_map_form, rows_form, perhaps_maps_form}
-use Rattle.sv_parse_machine.proofs.OuterForms.{parameter_type_form, header_parameter_form}
-use Rattle.sv_parse_machine.proofs.OuterForms.{later_header_parameter_form, more_header_parameters_form}
-use Rattle.sv_parse_machine.proofs.OuterForms.{perhaps_header_parameters_form, perhaps_wire_form}
-use Rattle.sv_parse_machine.proofs.OuterForms.{perhaps_wire_or_reg_form, perhaps_signed_form}
-use Rattle.sv_parse_machine.proofs.OuterForms.{perhaps_range_form, perhaps_second_name_form}
-use Rattle.sv_parse_machine.proofs.OuterForms.{label_end_form, perhaps_label_form, later_port_form}
-use Rattle.sv_parse_machine.proofs.OuterForms.{more_ports_form, ports_form, perhaps_ports_form, Accepts}
+use Rattle.sv_parse_machine.proofs.OuterForms.{map_name_form, end_of_map_form, rows_form}
+use Rattle.sv_parse_machine.proofs.OuterForms.{perhaps_maps_form, parameter_type_form}
+use Rattle.sv_parse_machine.proofs.OuterForms.{header_parameter_form, later_header_parameter_form}
+use Rattle.sv_parse_machine.proofs.OuterForms.{more_header_parameters_form}
+use Rattle.sv_parse_machine.proofs.OuterForms.{perhaps_wire_or_reg_form, label_end_form}
+use Rattle.sv_parse_machine.proofs.OuterForms.{later_port_form, more_ports_form, ports_form}
+use Rattle.sv_parse_machine.proofs.OuterForms.{Accepts}
 use Rattle.sv_parse_machine.proofs.OuterTokens.{unrefused, skipped}
 
 pub f_more_values : (l : Limits) (t : Placed) (ts rest : List Placed) →
@@ -53,35 +46,12 @@ f_lattice_lines l t ts rest
     (unrefused l (less_equal ∷ plain_name ∷ punctuation signs.Semicolon ∷ lattice_lines ∷ []) t
     m0 rest x free (q0, a0, (q1, a1, (m1, a2, (rest, (k, (m, others, final)), refl)))))
 
-pub f_perhaps_lattice : (l : Limits) (t : Placed) (ts rest : List Placed) →
-    perhaps_lattice_form l (t ∷ ts) rest → Accepts l t ts rest (perhaps_lattice_on t.lexeme)
-f_perhaps_lattice l t ts rest (inl (over, same)) =
-    skipped l t ts rest (perhaps_lattice_on t.lexeme) over same
-f_perhaps_lattice l t ts rest (inr (m, (p, e), behind)) =
-    by_token (λ x us. Accepts l t us rest (perhaps_lattice_on x)) e (none_opens l, no_arm l, behind)
-
 pub f_map_name : (l : Limits) (t : Placed) (ts rest : List Placed) → map_name_form l (t ∷ ts) rest →
     Accepts l t ts rest (map_name_on t.lexeme)
 f_map_name l t ts rest (m, (x, (p, (free, e))), behind) =
     by_token (λ x us. Accepts l t us rest (map_name_on x)) e
     (unrefused l (punctuation signs.OpenBracket ∷ plain_number ∷ punctuation signs.Colon ∷
     plain_number ∷ punctuation signs.CloseBracket ∷ []) t m rest x free behind)
-
-pub f_perhaps_key_range : (l : Limits) (t : Placed) (ts rest : List Placed) →
-    perhaps_key_range_form l (t ∷ ts) rest → Accepts l t ts rest (perhaps_key_range_on t.lexeme)
-f_perhaps_key_range l t ts rest (inl (over, same)) =
-    skipped l t ts rest (perhaps_key_range_on t.lexeme) over same
-f_perhaps_key_range l t ts rest (inr (m, (p, e), behind)) =
-    by_token (λ x us. Accepts l t us rest (perhaps_key_range_on x)) e
-    (none_opens l, no_arm l, behind)
-
-pub f_perhaps_second_key : (l : Limits) (t : Placed) (ts rest : List Placed) →
-    perhaps_second_key_form l (t ∷ ts) rest → Accepts l t ts rest (perhaps_second_key_on t.lexeme)
-f_perhaps_second_key l t ts rest (inl (over, same)) =
-    skipped l t ts rest (perhaps_second_key_on t.lexeme) over same
-f_perhaps_second_key l t ts rest (inr (m, (p, e), behind)) =
-    by_token (λ x us. Accepts l t us rest (perhaps_second_key_on x)) e
-    (none_opens l, no_arm l, behind)
 
 pub f_end_of_map : (l : Limits) (t : Placed) (ts rest : List Placed) →
     end_of_map_form l (t ∷ ts) rest → Accepts l t ts rest (end_of_map_on t.lexeme)
@@ -155,22 +125,6 @@ f_more_header_parameters l t ts rest (suc k, (m, (m1, (m0, (p, e), a0), others),
     by_token (λ x us. Accepts l t us rest (more_header_parameters_on x)) e
     (none_opens l, no_arm l, (m1, a0, (rest, (k, (m, others, final)), refl)))
 
-pub f_perhaps_header_parameters : (l : Limits) (t : Placed) (ts rest : List Placed) →
-    perhaps_header_parameters_form l (t ∷ ts) rest →
-    Accepts l t ts rest (perhaps_header_parameters_on t.lexeme)
-f_perhaps_header_parameters l t ts rest (inl (over, same)) =
-    skipped l t ts rest (perhaps_header_parameters_on t.lexeme) over same
-f_perhaps_header_parameters l t ts rest (inr (m, (p, e), behind)) =
-    by_token (λ x us. Accepts l t us rest (perhaps_header_parameters_on x)) e
-    (none_opens l, no_arm l, behind)
-
-pub f_perhaps_wire : (l : Limits) (t : Placed) (ts rest : List Placed) →
-    perhaps_wire_form l (t ∷ ts) rest → Accepts l t ts rest (perhaps_wire_on t.lexeme)
-f_perhaps_wire l t ts rest (inl (over, same)) =
-    skipped l t ts rest (perhaps_wire_on t.lexeme) over same
-f_perhaps_wire l t ts rest (inr (m, (p, e), behind)) =
-    by_token (λ x us. Accepts l t us rest (perhaps_wire_on x)) e (none_opens l, no_arm l, behind)
-
 pub f_perhaps_wire_or_reg : (l : Limits) (t : Placed) (ts rest : List Placed) →
     perhaps_wire_or_reg_form l (t ∷ ts) rest → Accepts l t ts rest (perhaps_wire_or_reg_on t.lexeme)
 f_perhaps_wire_or_reg l t ts rest (inl (over, same)) =
@@ -182,41 +136,12 @@ f_perhaps_wire_or_reg l t ts rest (inr (inr (m, (p, e), behind))) =
     by_token (λ x us. Accepts l t us rest (perhaps_wire_or_reg_on x)) e
     (none_opens l, no_arm l, behind)
 
-pub f_perhaps_signed : (l : Limits) (t : Placed) (ts rest : List Placed) →
-    perhaps_signed_form l (t ∷ ts) rest → Accepts l t ts rest (perhaps_signed_on t.lexeme)
-f_perhaps_signed l t ts rest (inl (over, same)) =
-    skipped l t ts rest (perhaps_signed_on t.lexeme) over same
-f_perhaps_signed l t ts rest (inr (m, (p, e), behind)) =
-    by_token (λ x us. Accepts l t us rest (perhaps_signed_on x)) e (none_opens l, no_arm l, behind)
-
-pub f_perhaps_range : (l : Limits) (t : Placed) (ts rest : List Placed) →
-    perhaps_range_form l (t ∷ ts) rest → Accepts l t ts rest (perhaps_range_on t.lexeme)
-f_perhaps_range l t ts rest (inl (over, same)) =
-    skipped l t ts rest (perhaps_range_on t.lexeme) over same
-f_perhaps_range l t ts rest (inr (m, (p, e), behind)) =
-    by_token (λ x us. Accepts l t us rest (perhaps_range_on x)) e (none_opens l, no_arm l, behind)
-
-pub f_perhaps_second_name : (l : Limits) (t : Placed) (ts rest : List Placed) →
-    perhaps_second_name_form l (t ∷ ts) rest → Accepts l t ts rest (perhaps_second_name_on t.lexeme)
-f_perhaps_second_name l t ts rest (inl (over, same)) =
-    skipped l t ts rest (perhaps_second_name_on t.lexeme) over same
-f_perhaps_second_name l t ts rest (inr (m, (p, e), behind)) =
-    by_token (λ x us. Accepts l t us rest (perhaps_second_name_on x)) e
-    (none_opens l, no_arm l, behind)
-
 pub f_label_end : (l : Limits) (t : Placed) (ts rest : List Placed) →
     label_end_form l (t ∷ ts) rest → Accepts l t ts rest (label_end_on t.lexeme)
 f_label_end l t ts rest (inl (m, (p, e), behind)) =
     by_token (λ x us. Accepts l t us rest (label_end_on x)) e (none_opens l, no_arm l, behind)
 f_label_end l t ts rest (inr (m, (p, e), behind)) =
     by_token (λ x us. Accepts l t us rest (label_end_on x)) e (none_opens l, no_arm l, behind)
-
-pub f_perhaps_label : (l : Limits) (t : Placed) (ts rest : List Placed) →
-    perhaps_label_form l (t ∷ ts) rest → Accepts l t ts rest (perhaps_label_on t.lexeme)
-f_perhaps_label l t ts rest (inl (over, same)) =
-    skipped l t ts rest (perhaps_label_on t.lexeme) over same
-f_perhaps_label l t ts rest (inr (m, (p, e), behind)) =
-    by_token (λ x us. Accepts l t us rest (perhaps_label_on x)) e (none_opens l, no_arm l, behind)
 
 pub f_later_port : (l : Limits) (t : Placed) (ts rest : List Placed) →
     later_port_form l (t ∷ ts) rest → Accepts l t ts rest (later_port_on t.lexeme)
@@ -245,10 +170,3 @@ f_ports l t ts rest (inr (inl (m, (p, e), behind))) =
     by_token (λ x us. Accepts l t us rest (ports_on x)) e (none_opens l, no_arm l, behind)
 f_ports l t ts rest (inr (inr (m, (p, e), behind))) =
     by_token (λ x us. Accepts l t us rest (ports_on x)) e (none_opens l, no_arm l, behind)
-
-pub f_perhaps_ports : (l : Limits) (t : Placed) (ts rest : List Placed) →
-    perhaps_ports_form l (t ∷ ts) rest → Accepts l t ts rest (perhaps_ports_on t.lexeme)
-f_perhaps_ports l t ts rest (inl (over, same)) =
-    skipped l t ts rest (perhaps_ports_on t.lexeme) over same
-f_perhaps_ports l t ts rest (inr (m, (p, e), behind)) =
-    by_token (λ x us. Accepts l t us rest (perhaps_ports_on x)) e (none_opens l, no_arm l, behind)

@@ -3,7 +3,7 @@ use Rattle.std.proofs.Common.{◌≡◌, ℕ, Bool, true, false, List, [], ◌�
 use Rattle.std.proofs.lemmas.Bool.{false≢true}
 use Rattle.sv_num.specs.declared.faults.Place.{Place}
 use Rattle.sv_token.specs.declared.signs.SignKind.TheVariants as signs
-use Rattle.sv_token.specs.Lexemes.{Lexeme, word, identifier, numeral, sign, Placed}
+use Rattle.sv_token.specs.Lexemes.{Lexeme, identifier, sign, Placed}
 use Rattle.sv_ast.specs.Tree.{ExpressionTree, NamedOverride, OverrideTrees, named_overrides}
 use Rattle.sv_ast.specs.Tree.{ordered_overrides, NamedLink, LinkTrees, named_links, ordered_links}
 use Rattle.sv_ast.specs.Tree.{InstanceTree}
@@ -34,17 +34,11 @@ CloseIs = FirstIs is_close
 
 close_ends_list : (x : Lexeme) → is_close x ≡ true → ends_list x ≡ true
 close_ends_list (sign signs.CloseParenthesis) close = refl
-close_ends_list (sign _) close = absurd (false≢true close)
-close_ends_list (word w) close = absurd (false≢true close)
-close_ends_list (identifier x) close = absurd (false≢true close)
-close_ends_list (numeral v) close = absurd (false≢true close)
+close_ends_list x close = absurd (false≢true close)
 
 close_is_no_value : (x : Lexeme) → begins_expression x ≡ true → is_close x ≡ true → ⊥
 close_is_no_value (sign signs.CloseParenthesis) begins close = false≢true begins
-close_is_no_value (sign _) begins close = false≢true close
-close_is_no_value (word w) begins close = false≢true close
-close_is_no_value (identifier x) begins close = false≢true close
-close_is_no_value (numeral v) begins close = false≢true close
+close_is_no_value x begins close = false≢true close
 
 close_list : (ts : List Placed) → CloseIs ts → ListEnds ts
 close_list [] close = absurd close
@@ -64,10 +58,7 @@ DotIs = FirstIs is_dot
 
 dot_is_no_value : (x : Lexeme) → begins_expression x ≡ true → is_dot x ≡ true → ⊥
 dot_is_no_value (sign signs.Dot) begins dot = false≢true begins
-dot_is_no_value (sign _) begins dot = false≢true dot
-dot_is_no_value (word w) begins dot = false≢true dot
-dot_is_no_value (identifier x) begins dot = false≢true dot
-dot_is_no_value (numeral v) begins dot = false≢true dot
+dot_is_no_value x begins dot = false≢true dot
 
 value_is_no_dot : (l : Limits) (e : ExpressionTree) → Refuses DotIs (IsValue l e)
 value_is_no_dot l e = value_refused dot_is_no_value l 0 e

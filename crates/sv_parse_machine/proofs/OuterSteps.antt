@@ -273,7 +273,8 @@ f_outer l rows t ts rest is = f_rows l t ts rest is
 f_outer l perhaps_second_key t ts rest is = f_perhaps perhaps_second_key tt l t ts rest is
 f_outer l end_of_map t ts rest is = f_end_of_map l t ts rest is
 f_outer l one_module t ts rest is = f_one_module l t ts rest is
-f_outer l perhaps_header_parameters t ts rest is = f_perhaps perhaps_header_parameters tt l t ts rest is
+f_outer l perhaps_header_parameters t ts rest is =
+    f_perhaps perhaps_header_parameters tt l t ts rest is
 f_outer l header_parameter t ts rest is = f_header_parameter l t ts rest is
 f_outer l later_header_parameter t ts rest is = f_later_header_parameter l t ts rest is
 f_outer l more_header_parameters t ts rest is = f_more_header_parameters l t ts rest is
@@ -342,7 +343,8 @@ b_outer l rows x p ts rest is = b_rows l x p ts rest is
 b_outer l perhaps_second_key x p ts rest is = b_perhaps perhaps_second_key tt l x p ts rest is
 b_outer l end_of_map x p ts rest is = b_end_of_map l x p ts rest is
 b_outer l one_module x p ts rest is = b_one_module l x p ts rest is
-b_outer l perhaps_header_parameters x p ts rest is = b_perhaps perhaps_header_parameters tt l x p ts rest is
+b_outer l perhaps_header_parameters x p ts rest is =
+    b_perhaps perhaps_header_parameters tt l x p ts rest is
 b_outer l header_parameter x p ts rest is = b_header_parameter l x p ts rest is
 b_outer l later_header_parameter x p ts rest is = b_later_header_parameter l x p ts rest is
 b_outer l more_header_parameters x p ts rest is = b_more_header_parameters l x p ts rest is
@@ -411,7 +413,8 @@ none_outer l rows rest is = absurd (none_rows l rest is)
 none_outer l perhaps_second_key rest is = (refl, none_perhaps perhaps_second_key tt l rest is)
 none_outer l end_of_map rest is = absurd (none_end_of_map l rest is)
 none_outer l one_module rest is = absurd (none_one_module l rest is)
-none_outer l perhaps_header_parameters rest is = (refl, none_perhaps perhaps_header_parameters tt l rest is)
+none_outer l perhaps_header_parameters rest is =
+    (refl, none_perhaps perhaps_header_parameters tt l rest is)
 none_outer l header_parameter rest is = absurd (none_header_parameter l rest is)
 none_outer l later_header_parameter rest is = absurd (none_later_header_parameter l rest is)
 none_outer l more_header_parameters rest is = absurd (none_more_header_parameters l rest is)

@@ -1,5 +1,5 @@
 -- Single steps outside expressions: names, operators, and the first token of an expression.
-use Rattle.std.proofs.Common.{◌≡◌, ℕ, zero, suc, Bool, true, false, not, List, [], ◌∷◌, ◌++◌}
+use Rattle.std.proofs.Common.{◌≡◌, ℕ, zero, suc, Bool, true, false, not, List, [], ◌∷◌}
 use Rattle.std.proofs.Common.{Option, Some, refl, sym, subst}
 use Rattle.std.specs.Prelude.{IsTrue}
 use Rattle.sv_num.specs.declared.operators.BinOp.{BinOp}
@@ -10,16 +10,17 @@ use Rattle.sv_token.specs.Lexemes.{Lexeme, Placed}
 use Rattle.sv_token.specs.Words.{is_refused_word}
 use Rattle.sv_ast.specs.GrammarForms.{Form, ◌⨾◌, nothing}
 use Rattle.sv_ast.specs.GrammarExpressions.{Limits, is_within, read_tokens}
-use Rattle.sv_parse_machine.specs.Symbols.{Inner, operand, tail, Outer, punctuation, InnerReaction}
+use Rattle.sv_parse_machine.specs.Symbols.{operand, tail, Outer, punctuation, InnerReaction}
 use Rattle.sv_parse_machine.specs.Symbols.{takes_inner, over_inner, stuck_inner, OuterReaction, over}
 use Rattle.sv_parse_machine.specs.Symbols.{takes_all, unless_refused}
 use Rattle.sv_parse_machine.specs.ExpressionTable.{operand_on, as_expression, expression_on}
 use Rattle.sv_parse_machine.specs.StatementTable.{is_star, is_less_equal, taken_if}
 use Rattle.sv_parse_machine.specs.ModuleTable.{star_in_event}
-use Rattle.sv_parse_machine.proofs.ExpressionForms.{tail_form, inner_forms, AcceptsInner, expression_form}
+use Rattle.sv_parse_machine.proofs.ExpressionForms.{tail_form, inner_form, AcceptsInner, expression_form}
 use Rattle.sv_parse_machine.proofs.ExpressionParts.{to_parts, from_parts}
 use Rattle.sv_parse_machine.proofs.ReadSteps.{NotOver, operand_not_over}
-use Rattle.sv_parse_machine.proofs.InnerSteps.{placed, none_opens, no_arm, free_name, alone, f_inner}
+use Rattle.sv_parse_machine.proofs.InnerSteps.{placed, none_opens, no_arm, free_name, alone, append_forms}
+use Rattle.sv_parse_machine.proofs.InnerSteps.{split_forms, f_inner}
 use Rattle.sv_parse_machine.proofs.InnerForms.{b_inner, no_operand}
 use Rattle.sv_parse_machine.proofs.OuterForms.{IsOver, loop_form, outer_forms, Accepts}
 
@@ -73,20 +74,6 @@ taken_star_inside l t ts rest b is = absurd is
 
 -- ---- expressions
 
-append_inner : (l : Limits) (xs zs : List Inner) (ts mid rest : List Placed) →
-    inner_forms l xs ts mid → inner_forms l zs mid rest → inner_forms l (xs ++ zs) ts rest
-append_inner l [] zs ts mid rest first second =
-    subst (λ us. inner_forms l zs us rest) (sym first) second
-append_inner l (x ∷ xs) zs ts mid rest first second =
-    (first.0, first.1, append_inner l xs zs first.0 mid rest first.2 second)
-
-split_inner : (l : Limits) (xs zs : List Inner) (ts rest : List Placed) →
-    inner_forms l (xs ++ zs) ts rest → (inner_forms l xs ⨾ inner_forms l zs) ts rest
-split_inner l [] zs ts rest is = (ts, refl, is)
-split_inner l (x ∷ xs) zs ts rest is =
-    let others = split_inner l xs zs is.0 rest is.2 in
-    (others.0, (is.0, is.1, others.1), others.2)
-
 begun : (l : Limits) (n arm : ℕ) (ys : List Outer) (t : Placed) (ts m mid rest : List Placed)
     (r : InnerReaction) → NotOver r
     → AcceptsInner l t ts m r → tail_form l n m mid
@@ -96,7 +83,7 @@ begun l n arm ys t ts m mid rest (takes_inner level xs) kind first behind count 
   first.0,
   few,
   mid,
-  append_inner l xs (tail n ∷ []) ts m mid first.1
+  append_forms (inner_form l) xs (tail n ∷ []) ts m mid first.1
       (mid, behind, refl),
   count,
   others,
@@ -126,7 +113,7 @@ begun_back : (l : Limits) (n arm : ℕ) (ys : List Outer) (x : Lexeme) (p : Plac
     → Begun l n arm ys (placed x p) ts rest
 begun_back l n arm ys x p ts rest (takes_inner level xs) found kind
     (opens, few, mid, inners, count, others) =
-    let (m, first, behind) = split_inner l xs (tail n ∷ []) ts mid inners in
+    let (m, first, behind) = split_forms (inner_form l) xs (tail n ∷ []) ts mid inners in
     let operand = b_inner l (operand n) x p ts m
     (subst (AcceptsInner l (placed x p) ts m) (sym found) (opens, first)) in
     let whole = from_parts l n (placed x p ∷ ts) mid

@@ -13,8 +13,8 @@ use Rattle.sv_token.specs.Words.{is_refused_word}
 use Rattle.sv_ast.specs.GrammarForms.{unary_operator}
 use Rattle.sv_ast.specs.GrammarExpressions.{is_within}
 use Rattle.sv_ast.specs.GrammarRules.{all_limits}
-use Rattle.sv_parse_machine.specs.Symbols.{Inner, operand, tail, Outer, expression, inner, outer, State}
-use Rattle.sv_parse_machine.specs.Symbols.{Expected, InnerReaction, takes_inner, over_inner, stuck_inner}
+use Rattle.sv_parse_machine.specs.Symbols.{Inner, operand, tail, Outer, expression, Symbol, inner, outer}
+use Rattle.sv_parse_machine.specs.Symbols.{State, Expected, InnerReaction, takes_inner, over_inner, stuck_inner}
 use Rattle.sv_parse_machine.specs.Symbols.{OuterReaction, takes, over, stuck}
 use Rattle.sv_parse_machine.specs.ExpressionTable.{name_operand, prefix_operand, operand_on, inner_on}
 use Rattle.sv_parse_machine.specs.ExpressionTable.{as_expression, expression_on}
@@ -75,6 +75,15 @@ outer_step y below t ts r e =
     ap (λ r. after_outer all_limits (length ts) below
     (step all_limits (length ts) below t.lexeme) r) e
 
+fails_at : (y : Symbol) (t : Placed) (ts : List Placed) (f : Failure)
+    → ((below : State) → step all_limits (length ts) (y ∷ below) t.lexeme ≡ fails_as f)
+    → Halts (y ∷ []) (t ∷ ts) f (length (t ∷ ts))
+fails_at y t ts f fails = record {
+  rest = t ∷ ts;
+  many = refl;
+  runs = λ below. stepped (y ∷ below) t ts (fails_as f) (fails below);
+}
+
 pub takes_token : (y : Outer) (ys : List Outer) (t : Placed) (ts : List Placed) →
     outer_on y t.lexeme ≡ takes 0 0 ys → Reads (outer y ∷ []) (outside_on ys) (t ∷ ts) ts
 takes_token y ys t ts e = record {
@@ -102,13 +111,9 @@ takes_level y level ys t ts less e = record {
 pub level_is_too_deep : (y : Outer) (level : ℕ) (ys : List Outer) (t : Placed) (ts : List Placed)
     → 64 < level → outer_on y t.lexeme ≡ takes level 0 ys
     → Halts (outer y ∷ []) (t ∷ ts) too_deep (length (t ∷ ts))
-level_is_too_deep y level ys t ts more e = record {
-  rest = t ∷ ts;
-  many = refl;
-  runs = λ below. stepped (outer y ∷ below) t ts (fails_as too_deep)
-      (outer_step y below t ts (takes level 0 ys) e
-      ∙ ap (λ b. within_limits b true (outside_on ys ++ below)) (beyond level 64 more));
-}
+level_is_too_deep y level ys t ts more e = fails_at (outer y) t ts too_deep (λ below.
+    outer_step y below t ts (takes level 0 ys) e
+    ∙ ap (λ b. within_limits b true (outside_on ys ++ below)) (beyond level 64 more))
 
 ended_over : (b : Bool) (below : Outcome) → b ≡ true → ended b below ≡ below
 ended_over true below e = refl
@@ -185,32 +190,24 @@ pub inside_is_too_deep :
     → 64 < level
     → inner_on s t.lexeme ≡ takes_inner level xs
     → Halts (inner start s ∷ []) (t ∷ ts) too_deep (length (t ∷ ts))
-inside_is_too_deep start s level xs t ts more e = record {
-  rest = t ∷ ts;
-  many = refl;
-  runs = λ below. stepped (inner start s ∷ below) t ts (fails_as too_deep)
-      (inner_step start s below t ts (takes_inner level xs) e
-      ∙ ap (λ b. within_limits b
-      (is_within all_limits.tokens (tokens_of all_limits start (length ts)))
-      (inside_on start xs ++ below)) (beyond level 64 more));
-}
+inside_is_too_deep start s level xs t ts more e = fails_at (inner start s) t ts too_deep (λ below.
+    inner_step start s below t ts (takes_inner level xs) e
+    ∙ ap (λ b. within_limits b
+    (is_within all_limits.tokens (tokens_of all_limits start (length ts)))
+    (inside_on start xs ++ below)) (beyond level 64 more))
 
 pub inside_is_too_long :
     (start : ℕ) (s : Inner) (level : ℕ) (xs : List Inner) (t : Placed) (ts : List Placed)
     → level ≤ 64 → length (t ∷ ts) ≤ start - 1024
     → inner_on s t.lexeme ≡ takes_inner level xs
     → Halts (inner start s ∷ []) (t ∷ ts) too_long (length (t ∷ ts))
-inside_is_too_long start s level xs t ts less count e = record {
-  rest = t ∷ ts;
-  many = refl;
-  runs = λ below. stepped (inner start s ∷ below) t ts (fails_as too_long)
-      (inner_step start s below t ts (takes_inner level xs) e
-      ∙ ap (λ b. within_limits b
-      (is_within all_limits.tokens (tokens_of all_limits start (length ts)))
-      (inside_on start xs ++ below)) (within level 64 less)
-      ∙ ap (λ b. within_limits true b (inside_on start xs ++ below))
-      (overcounted start t ts count));
-}
+inside_is_too_long start s level xs t ts less count e = fails_at (inner start s) t ts too_long
+    (λ below.
+    inner_step start s below t ts (takes_inner level xs) e
+    ∙ ap (λ b. within_limits b
+    (is_within all_limits.tokens (tokens_of all_limits start (length ts)))
+    (inside_on start xs ++ below)) (within level 64 less)
+    ∙ ap (λ b. within_limits true b (inside_on start xs ++ below)) (overcounted start t ts count))
 
 pub skips_inside : (start : ℕ) (s : Inner) (ts : List Placed) → may_be_empty (inner start s) ≡ true
     → Next (λ x. inner_on s x ≡ over_inner) ts

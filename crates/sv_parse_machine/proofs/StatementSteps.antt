@@ -1,6 +1,6 @@
 -- What a token does to a statement and to the arms of a case is what their forms say, in the
 -- grammar's own trees.
-use Rattle.std.proofs.Common.{◌≡◌, ℕ, zero, suc, ◌+◌, Bool, true, false, List, [], ◌∷◌, ◌++◌, inl}
+use Rattle.std.proofs.Common.{◌≡◌, ℕ, zero, suc, ◌+◌, Bool, true, false, List, [], ◌∷◌, inl}
 use Rattle.std.proofs.Common.{inr, refl, sym, subst, ◌∙◌}
 use Rattle.std.specs.Prelude.{IsTrue}
 use Rattle.std.proofs.lemmas.Bool.{false≢true}
@@ -28,8 +28,9 @@ use Rattle.sv_parse_machine.specs.StatementTable.{perhaps_block_name_on, perhaps
 use Rattle.sv_parse_machine.specs.StatementTable.{perhaps_colon_on, assigns_on, taken_if, is_less_equal}
 use Rattle.sv_parse_machine.proofs.ExpressionForms.{Next, ends_tail, ends_name, expression_form}
 use Rattle.sv_parse_machine.proofs.ExpressionParts.{next_at, ends_any}
-use Rattle.sv_parse_machine.proofs.InnerSteps.{by_token, none_opens, no_arm}
-use Rattle.sv_parse_machine.proofs.OuterForms.{outer_forms, IsOver, assigns_form, perhaps_bits_form}
+use Rattle.sv_parse_machine.proofs.InnerSteps.{by_token, none_opens, no_arm, append_forms}
+use Rattle.sv_parse_machine.proofs.OuterForms.{outer_form, outer_forms, IsOver, assigns_form}
+use Rattle.sv_parse_machine.proofs.OuterForms.{perhaps_bits_form}
 use Rattle.sv_parse_machine.proofs.OuterForms.{more_targets_form, more_choices_form, statement_form}
 use Rattle.sv_parse_machine.proofs.OuterForms.{statements_form, arms_form, perhaps_block_name_form}
 use Rattle.sv_parse_machine.proofs.OuterForms.{perhaps_colon_form, Accepts}
@@ -341,13 +342,6 @@ f_statement l n t ts rest (case_of q v cs, (opens, (m, e, (m1, condition, are)))
 
 -- ---- statements in a row
 
-append_outer : (l : Limits) (ys zs : List Outer) (ts mid rest : List Placed) →
-    outer_forms l ys ts mid → outer_forms l zs mid rest → outer_forms l (ys ++ zs) ts rest
-append_outer l [] zs ts mid rest first second =
-    subst (λ us. outer_forms l zs us rest) (sym first) second
-append_outer l (y ∷ ys) zs ts mid rest first second =
-    (first.0, first.1, append_outer l ys zs first.0 mid rest first.2 second)
-
 abbrev pub IsNotOver : OuterReaction → Type 0
 IsNotOver over = ⊥
 IsNotOver r = Unit {0}
@@ -367,10 +361,10 @@ with_others : (l : Limits) (zs : List Outer) (t : Placed) (ts mid rest : List Pl
     (r : OuterReaction) → IsNotOver r → Accepts l t ts mid r
     → outer_forms l zs mid rest → Accepts l t ts rest (and_then zs r)
 with_others l zs t ts mid rest (takes level arm ys) kind (opens, few, is) others =
-    (opens, few, append_outer l ys zs ts mid rest is others)
+    (opens, few, append_forms (outer_form l) ys zs ts mid rest is others)
 with_others l zs t ts mid rest (begins level arm xs ys) kind (opens, few, m, inners, count, is)
     others =
-    (opens, few, m, inners, count, append_outer l ys zs m mid rest is others)
+    (opens, few, m, inners, count, append_forms (outer_form l) ys zs m mid rest is others)
 with_others l zs t ts mid rest over kind is others = absurd kind
 with_others l zs t ts mid rest (stuck e) kind is others = absurd is
 

@@ -118,10 +118,7 @@ b_later_header_parameter l a ts rest known (inl is) =
 b_later_header_parameter l a ts rest known (inr (m2, name, (m3, sets, (m4, value, same)))) =
     let named = b_named_parameter l ts m4 (m2, name, (m3, sets, value)) in
     let q : ParameterTree =
-    record {
-      local = a.local;
-      signed = a.signed;
-      span = a.span;
+    record a {
       name = named.0;
       place = named.1;
       value = named.2;
@@ -310,11 +307,7 @@ b_later_port l a ts rest known (inr (inl (m, is, (m1, wire, behind)))) =
     b_whole_port l a ts rest (b_port l nothing ts m1 rest (b_output l ts m m1 is wire) behind)
 b_later_port l a ts rest known (inr (inr (m, (x, (p, name)), same))) =
     let d : DeclarationTree =
-    record {
-      kind = a.kind;
-      signed = a.signed;
-      span = a.span;
-      label = a.label;
+    record a {
       name = x;
       place = p;
       value = None;

@@ -424,10 +424,7 @@ b_later_instance : (l : Limits) (a : InstanceTree) (ts rest : List Placed) → A
     named_instance_form l ts rest → NextInstance l a ts rest
 b_later_instance l a ts rest known is =
     let this = b_named_instance l a.master a.place a.overrides ts rest is in (
-      record {
-        master = a.master;
-        place = a.place;
-        overrides = a.overrides;
+      record a {
         name = this.0;
         name_place = this.1;
         links = this.2;

@@ -33,7 +33,7 @@ use Rattle.sv_parse_machine.proofs.ListTrees.{next_sign, next_name, Any, Follows
 use Rattle.sv_parse_machine.proofs.TypeTrees.{b_signed, f_signed_range, b_range}
 use Rattle.sv_parse_machine.proofs.TypeTrees.{f_second_name, b_second_name, next_label, f_typed, b_label}
 use Rattle.sv_parse_machine.proofs.TypeTrees.{f_parameter_type, b_parameter_type, named_parameter_form}
-use Rattle.sv_parse_machine.proofs.TypeTrees.{f_named_parameter, b_named_parameter}
+use Rattle.sv_parse_machine.proofs.TypeTrees.{f_named_parameter, typed_parameter, b_named_parameter}
 
 -- ---- parameters
 
@@ -114,14 +114,7 @@ b_parameters_of l local ts m rest is
     let types = b_parameter_type l m m1 type in
     let named = b_named_parameter l m1 m4 (m2, name, (m3, sets, value)) in
     let q : ParameterTree =
-    record {
-      local = local;
-      signed = types.0;
-      span = types.1;
-      name = named.0;
-      place = named.1;
-      value = named.2;
-    } in
+    typed_parameter local types.0 types.1 named.0 named.1 named.2 in
     let further = b_later (IsLaterParameter l) (named_parameter_form l) Any signs.Semicolon
     (b_later_parameter l) q k m4 m5 rest tt others final in
     (q ∷ further.0, (further.1.0, (m4, (m, is, (m1, types.2, named.3)), further.1.1), further.1.2))

@@ -26,7 +26,7 @@ use Rattle.sv_parse_machine.proofs.StatementSteps.{next_later}
 use Rattle.sv_parse_machine.proofs.ListTrees.{next_name, Any, Follows, f_later, b_later}
 use Rattle.sv_parse_machine.proofs.TypeTrees.{f_typed, next_typed, b_signed, b_range, b_label}
 use Rattle.sv_parse_machine.proofs.TypeTrees.{f_parameter_type, b_parameter_type, f_named_parameter}
-use Rattle.sv_parse_machine.proofs.TypeTrees.{b_named_parameter}
+use Rattle.sv_parse_machine.proofs.TypeTrees.{typed_parameter, b_named_parameter}
 
 -- ---- parameters
 
@@ -98,14 +98,7 @@ b_header_parameter l ts rest (m, is, (m1, type, (m2, name, (m3, sets, (m4, value
     let types = b_parameter_type l m m1 type in
     let named = b_named_parameter l m1 m4 (m2, name, (m3, sets, value)) in
     let q : ParameterTree =
-    record {
-      local = false;
-      signed = types.0;
-      span = types.1;
-      name = named.0;
-      place = named.1;
-      value = named.2;
-    } in
+    typed_parameter false types.0 types.1 named.0 named.1 named.2 in
     subst (HeaderParameter l ts) same (q, (refl, (m, is, (m1, types.2, named.3))))
 
 abbrev LaterHeader : Limits → ParameterTree → List Placed → List Placed → Type 0

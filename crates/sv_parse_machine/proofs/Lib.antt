@@ -44,6 +44,7 @@ pub mod ReadRows
 pub mod ReadSteps
 pub mod Refusals
 pub mod Runs
+pub mod SameTrees
 pub mod ShapedForms
 pub mod ShapedTexts
 pub mod SkippedRows

@@ -29,11 +29,12 @@ use Rattle.sv_parse_machine.proofs.OuterForms.{behind_reg_name_form, label_selec
 use Rattle.sv_parse_machine.proofs.OuterForms.{reg_label_end_form, reg_label_form}
 use Rattle.sv_parse_machine.proofs.StatementSteps.{value_up_to, next_later}
 use Rattle.sv_parse_machine.proofs.StatementForms.{expression_tree}
+use Rattle.sv_parse_machine.proofs.TreeParts.{typed_parameter, declared_tree}
 use Rattle.sv_parse_machine.proofs.ListTrees.{next_sign, next_name, Any, Follows, f_later, b_later}
 use Rattle.sv_parse_machine.proofs.TypeTrees.{b_signed, f_signed_range, b_range}
 use Rattle.sv_parse_machine.proofs.TypeTrees.{f_second_name, b_second_name, next_label, f_typed, b_label}
 use Rattle.sv_parse_machine.proofs.TypeTrees.{f_parameter_type, b_parameter_type, named_parameter_form}
-use Rattle.sv_parse_machine.proofs.TypeTrees.{f_named_parameter, typed_parameter, b_named_parameter}
+use Rattle.sv_parse_machine.proofs.TypeTrees.{f_named_parameter, b_named_parameter}
 
 -- ---- parameters
 
@@ -246,15 +247,7 @@ b_wires l ts rest (
     let label = b_label l m2 m3 label in
     let value = b_value l m4 m5 value in
     let d : DeclarationTree =
-    record {
-      kind = kinds.Wire;
-      signed = signed.0;
-      span = range.0;
-      label = label.0;
-      name = x;
-      place = p;
-      value = value.0;
-    } in
+    declared_tree kinds.Wire signed.0 range.0 label.0 x p value.0 in
     let further = b_later (LaterSignal l) (named_wire_form l) (IsOfKind kinds.Wire) signs.Semicolon
     (b_later_wire l) d k m5 m6 rest refl others final in (
       d ∷ further.0,
@@ -648,15 +641,7 @@ b_regs_behind l ts m m1 m2 rest is signed range
     let signed = b_signed l m m1 signed in
     let range = b_range l m1 m2 range in
     let d : DeclarationTree =
-    record {
-      kind = kinds.Reg;
-      signed = signed.0;
-      span = range.0;
-      label = b;
-      name = x;
-      place = p;
-      value = None;
-    } in
+    declared_tree kinds.Reg signed.0 range.0 b x p None in
     let further = b_later (LaterSignal l) some_name (IsOfKind kinds.Reg) signs.Semicolon
     (b_later_register l) d k m4 m5 rest refl others final in
     inl (

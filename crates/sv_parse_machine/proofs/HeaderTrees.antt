@@ -23,10 +23,11 @@ use Rattle.sv_parse_machine.proofs.OuterForms.{perhaps_wire_or_reg_form, perhaps
 use Rattle.sv_parse_machine.proofs.OuterForms.{perhaps_range_form, perhaps_label_form, later_port_form}
 use Rattle.sv_parse_machine.proofs.OuterForms.{more_ports_form, ports_form, perhaps_ports_form}
 use Rattle.sv_parse_machine.proofs.StatementSteps.{next_later}
+use Rattle.sv_parse_machine.proofs.TreeParts.{typed_parameter, declared_tree}
 use Rattle.sv_parse_machine.proofs.ListTrees.{next_name, Any, Follows, f_later, b_later}
 use Rattle.sv_parse_machine.proofs.TypeTrees.{f_typed, next_typed, b_signed, b_range, b_label}
 use Rattle.sv_parse_machine.proofs.TypeTrees.{f_parameter_type, b_parameter_type, f_named_parameter}
-use Rattle.sv_parse_machine.proofs.TypeTrees.{typed_parameter, b_named_parameter}
+use Rattle.sv_parse_machine.proofs.TypeTrees.{b_named_parameter}
 
 -- ---- parameters
 
@@ -274,15 +275,7 @@ b_port l Q ts m rest kind (m1, signed, (m2, range, (m3, label, (m4, (x, (p, name
     let range = b_range l m1 m2 range in
     let label = b_label l m2 m3 label in
     let d : DeclarationTree =
-    record {
-      kind = kind.0;
-      signed = signed.0;
-      span = range.0;
-      label = label.0;
-      name = x;
-      place = p;
-      value = None;
-    } in
+    declared_tree kind.0 signed.0 range.0 label.0 x p None in
     (d, (m4, (m, kind.1, (m3, (m1, signed.1, (m2, range.1, label.1)), (refl, name))), behind))
 
 abbrev LaterDeclaration : Limits → DeclarationTree → List Placed → List Placed → Type 0

@@ -44,7 +44,6 @@ pub mod ReadRows
 pub mod ReadSteps
 pub mod Refusals
 pub mod Runs
-pub mod SameTrees
 pub mod ShapedForms
 pub mod ShapedTexts
 pub mod SkippedRows
@@ -57,6 +56,7 @@ pub mod TextForms
 pub mod TextSteps
 pub mod TextTrees
 pub mod TokenFolds
+pub mod TreeParts
 pub mod TypeTrees
 pub mod Verdicts
 pub mod Walks

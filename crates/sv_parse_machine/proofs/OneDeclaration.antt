@@ -15,7 +15,7 @@ use Rattle.sv_ast.specs.GrammarDeclarations.{IsTyped, AreAlike, IsPortKind, IsNa
 use Rattle.sv_ast.specs.GrammarDeclarations.{ArePorts, IsSignalKind, IsSignalValue, IsNamedSignal}
 use Rattle.sv_ast.specs.GrammarDeclarations.{IsSignal, AreSignals, IsMemory}
 use Rattle.sv_ast.proofs.GrammarOneToken.{NextIs, ends_expression}
-use Rattle.sv_parse_machine.proofs.SameTrees.{same_declaration, same_memory}
+use Rattle.sv_parse_machine.proofs.TreeParts.{same_declaration, same_memory}
 use Rattle.sv_parse_machine.proofs.OneForm.{Behind, Anything, AreOne, AreApart, Leads, one_as}
 use Rattle.sv_parse_machine.proofs.OneForm.{one_anywhere, one_where, one_apart, one_turned, apart_turned}
 use Rattle.sv_parse_machine.proofs.OneForm.{one_nothing, leads_nothing, one_then, one_before, one_grouped}

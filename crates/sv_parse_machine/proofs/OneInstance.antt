@@ -13,7 +13,7 @@ use Rattle.sv_ast.specs.GrammarDeclarations.{IsValue}
 use Rattle.sv_ast.specs.GrammarModules.{by_name, IsNamedOverride, hash_parentheses, AreOverrides}
 use Rattle.sv_ast.specs.GrammarModules.{IsNamedLink, AreLinks, IsNamedInstance, IsInstance}
 use Rattle.sv_ast.specs.GrammarModules.{AreOfOneModule, AreInstances}
-use Rattle.sv_parse_machine.proofs.SameTrees.{same_instance}
+use Rattle.sv_parse_machine.proofs.TreeParts.{same_instance}
 use Rattle.sv_parse_machine.proofs.OneForm.{Behind, Anything, AreOne, AreApart, Leads, At, one_as}
 use Rattle.sv_parse_machine.proofs.OneForm.{one_where, one_apart, one_turned, apart_turned, one_nothing}
 use Rattle.sv_parse_machine.proofs.OneForm.{one_then, one_before, apart_then, apart_first, leads_first}

@@ -11,7 +11,7 @@ use Rattle.sv_ast.specs.GrammarDeclarations.{IsRange, equals, IsParameterType, I
 use Rattle.sv_ast.specs.GrammarDeclarations.{parameter_word, IsParameter, IsLaterParameter}
 use Rattle.sv_ast.specs.GrammarDeclarations.{AreParameters, IsHeaderParameter, AreHeaderParameters}
 use Rattle.sv_ast.proofs.GrammarOneToken.{NextIs}
-use Rattle.sv_parse_machine.proofs.SameTrees.{same_parameter}
+use Rattle.sv_parse_machine.proofs.TreeParts.{same_parameter}
 use Rattle.sv_parse_machine.proofs.OneForm.{Behind, Anything, AreOne, AreApart, Leads, one_as}
 use Rattle.sv_parse_machine.proofs.OneForm.{one_anywhere, one_apart, one_turned, apart_turned}
 use Rattle.sv_parse_machine.proofs.OneForm.{one_nothing, one_then, one_before, leads_first, leads_through}

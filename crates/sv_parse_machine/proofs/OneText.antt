@@ -23,7 +23,7 @@ use Rattle.sv_ast.specs.GrammarModules.{IsNumber, IsKeyRange, IsKey, IsRow, IsMa
 use Rattle.sv_ast.specs.GrammarMeaning.{Means}
 use Rattle.sv_ast.specs.GrammarRules.{TokensMean, all_limits}
 use Rattle.sv_ast.proofs.GrammarOneToken.{NextIs, is_no_bracket}
-use Rattle.sv_parse_machine.proofs.SameTrees.{same_module, same_map}
+use Rattle.sv_parse_machine.proofs.TreeParts.{same_module, same_map}
 use Rattle.sv_parse_machine.proofs.OneForm.{Behind, Anything, AreOne, AreApart, Leads, At, one_as}
 use Rattle.sv_parse_machine.proofs.OneForm.{one_anywhere, one_apart, one_turned, apart_turned}
 use Rattle.sv_parse_machine.proofs.OneForm.{one_nothing, leads_nothing, one_then, one_before, apart_then}

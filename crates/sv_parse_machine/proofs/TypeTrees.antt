@@ -280,11 +280,6 @@ NamedValue l ts rest =
     (x : List ℕ) × (p : Place) × (e : ExpressionTree)
     × (name_at x p ⨾ a_sign signs.Equals ⨾ IsValue l e) ts rest
 
-abbrev pub typed_parameter : (local signed : Bool) → Option SpanTree → List ℕ → Place →
-    ExpressionTree → ParameterTree
-typed_parameter local signed span x p e =
-    record { local = local; signed = signed; span = span; name = x; place = p; value = e }
-
 pub b_named_parameter : (l : Limits) (ts rest : List Placed) → named_parameter_form l ts rest →
     NamedValue l ts rest
 b_named_parameter l ts rest (m, (x, (p, name)), (m1, sets, value)) =

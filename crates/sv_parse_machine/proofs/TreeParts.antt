@@ -1,7 +1,38 @@
--- Trees of the grammar are the same where their parts are.
-use Rattle.std.proofs.Common.{◌≡◌}
+-- Trees of the grammar by their parts: what makes one of them, and that two are the same where
+-- their parts are.
+use Rattle.std.proofs.Common.{◌≡◌, ℕ, Bool, List, Option}
+use Rattle.sv_num.specs.declared.faults.Place.{Place}
+use Rattle.sv_ast.specs.declared.declarations.DeclKind.{DeclKind}
+use Rattle.sv_ast.specs.Tree.{ExpressionTree, SpanTree, LabelTree, OverrideTrees, LinkTrees}
 use Rattle.sv_ast.specs.Tree.{DeclarationTree, ParameterTree, MemoryTree, InstanceTree, ModuleTree}
 use Rattle.sv_ast.specs.Tree.{MapTree}
+
+abbrev pub typed_parameter : (local signed : Bool) → Option SpanTree → List ℕ → Place →
+    ExpressionTree → ParameterTree
+typed_parameter local signed span x p e =
+    record { local = local; signed = signed; span = span; name = x; place = p; value = e }
+
+abbrev pub declared_tree : DeclKind → Bool → Option SpanTree → Option LabelTree → List ℕ → Place →
+    Option ExpressionTree → DeclarationTree
+declared_tree k signed span label x p value = record {
+  kind = k;
+  signed = signed;
+  span = span;
+  label = label;
+  name = x;
+  place = p;
+  value = value;
+}
+
+abbrev pub instance_tree : List ℕ → Place → OverrideTrees → List ℕ → Place → LinkTrees → InstanceTree
+instance_tree master q overrides x p k = record {
+  master = master;
+  place = q;
+  overrides = overrides;
+  name = x;
+  name_place = p;
+  links = k;
+}
 
 pub same_declaration : (a b : DeclarationTree) → a.kind ≡ b.kind → a.signed ≡ b.signed
     → a.span ≡ b.span → a.label ≡ b.label → a.name ≡ b.name → a.place ≡ b.place → a.value ≡ b.value

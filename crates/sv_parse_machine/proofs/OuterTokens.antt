@@ -24,6 +24,24 @@ use Rattle.sv_parse_machine.proofs.InnerSteps.{split_forms, f_inner}
 use Rattle.sv_parse_machine.proofs.InnerForms.{b_inner, no_operand}
 use Rattle.sv_parse_machine.proofs.OuterForms.{IsOver, loop_form, outer_forms, Accepts}
 
+-- ---- what is shown of a symbol by its row of the table and its form
+
+-- where the form stands, its first token is taken as the row says
+abbrev pub StepsBy : (Lexeme → OuterReaction) → (Limits → Form) → Type 0
+StepsBy on form =
+    (l : Limits) (t : Placed) (ts rest : List Placed) → form l (t ∷ ts) rest
+    → Accepts l t ts rest (on t.lexeme)
+
+-- and back
+abbrev pub FormsBy : (Lexeme → OuterReaction) → (Limits → Form) → Type 0
+FormsBy on form =
+    (l : Limits) (x : Lexeme) (p : Place) (ts rest : List Placed)
+    → Accepts l (placed x p) ts rest (on x) → form l (placed x p ∷ ts) rest
+
+-- it does not stand where no token is left
+abbrev pub NeedsToken : (Limits → Form) → Type 0
+NeedsToken form = (l : Limits) (rest : List Placed) → form l [] rest → ⊥
+
 -- ---- any number of the one, and then the other
 
 pub loop_ends : (row last : Form) (ts rest : List Placed) → last ts rest →

@@ -1,8 +1,6 @@
 -- From forms to steps: lattices, label maps and headers.
-use Rattle.std.proofs.Common.{zero, suc, List, [], ◌∷◌, inl, inr, refl, sym, subst, ◌∙◌}
+use Rattle.std.proofs.Common.{zero, suc, [], ◌∷◌, inl, inr, refl, sym, subst, ◌∙◌}
 use Rattle.sv_token.specs.declared.signs.SignKind.TheVariants as signs
-use Rattle.sv_token.specs.Lexemes.{Placed}
-use Rattle.sv_ast.specs.GrammarExpressions.{Limits}
 use Rattle.sv_parse_machine.specs.Symbols.{punctuation, plain_name, plain_number, expression}
 use Rattle.sv_parse_machine.specs.Symbols.{lattice_lines, less_equal}
 use Rattle.sv_parse_machine.specs.StatementTable.{more_values_on}
@@ -21,10 +19,9 @@ use Rattle.sv_parse_machine.proofs.OuterForms.{more_header_parameters_form}
 use Rattle.sv_parse_machine.proofs.OuterForms.{perhaps_wire_or_reg_form, label_end_form}
 use Rattle.sv_parse_machine.proofs.OuterForms.{later_port_form, more_ports_form, ports_form}
 use Rattle.sv_parse_machine.proofs.OuterForms.{Accepts}
-use Rattle.sv_parse_machine.proofs.OuterTokens.{unrefused, skipped}
+use Rattle.sv_parse_machine.proofs.OuterTokens.{StepsBy, unrefused, skipped}
 
-pub f_more_values : (l : Limits) (t : Placed) (ts rest : List Placed) →
-    more_values_form l (t ∷ ts) rest → Accepts l t ts rest (more_values_on t.lexeme)
+pub f_more_values : StepsBy more_values_on more_values_form
 f_more_values l t ts rest (zero, (m, none, (p, e))) =
     by_token (λ x us. Accepts l t us rest (more_values_on x)) (none ∙ e)
     (none_opens l, no_arm l, refl)
@@ -32,8 +29,7 @@ f_more_values l t ts rest (suc k, (m, (m1, (m0, (p, e), a0), others), final)) =
     by_token (λ x us. Accepts l t us rest (more_values_on x)) e
     (none_opens l, no_arm l, (m1, a0, (rest, (k, (m, others, final)), refl)))
 
-pub f_lattice_lines : (l : Limits) (t : Placed) (ts rest : List Placed) →
-    lattice_lines_form l (t ∷ ts) rest → Accepts l t ts rest (lattice_lines_on t.lexeme)
+pub f_lattice_lines : StepsBy lattice_lines_on lattice_lines_form
 f_lattice_lines l t ts rest (zero, (m, none, (p, e))) =
     by_token (λ x us. Accepts l t us rest (lattice_lines_on x)) (none ∙ e)
     (none_opens l, no_arm l, refl)
@@ -46,20 +42,17 @@ f_lattice_lines l t ts rest
     (unrefused l (less_equal ∷ plain_name ∷ punctuation signs.Semicolon ∷ lattice_lines ∷ []) t
     m0 rest x free (q0, a0, (q1, a1, (m1, a2, (rest, (k, (m, others, final)), refl)))))
 
-pub f_map_name : (l : Limits) (t : Placed) (ts rest : List Placed) → map_name_form l (t ∷ ts) rest →
-    Accepts l t ts rest (map_name_on t.lexeme)
+pub f_map_name : StepsBy map_name_on map_name_form
 f_map_name l t ts rest (m, (x, (p, (free, e))), behind) =
     by_token (λ x us. Accepts l t us rest (map_name_on x)) e
     (unrefused l (punctuation signs.OpenBracket ∷ plain_number ∷ punctuation signs.Colon ∷
     plain_number ∷ punctuation signs.CloseBracket ∷ []) t m rest x free behind)
 
-pub f_end_of_map : (l : Limits) (t : Placed) (ts rest : List Placed) →
-    end_of_map_form l (t ∷ ts) rest → Accepts l t ts rest (end_of_map_on t.lexeme)
+pub f_end_of_map : StepsBy end_of_map_on end_of_map_form
 f_end_of_map l t ts rest (m, (p, e), behind) =
     by_token (λ x us. Accepts l t us rest (end_of_map_on x)) e (none_opens l, no_arm l, behind)
 
-pub f_rows : (l : Limits) (t : Placed) (ts rest : List Placed) → rows_form l (t ∷ ts) rest →
-    Accepts l t ts rest (rows_on t.lexeme)
+pub f_rows : StepsBy rows_on rows_form
 f_rows l t ts rest (zero, (m, none, inl ((m0, (p, e), (q0, a0, (q1, a1, (q2, a2, a3))))))) =
     by_token (λ x us. Accepts l t us rest (rows_on x)) (none ∙ e)
     (none_opens l, no_arm l, (q0, a0, (q1, a1, (q2, a2, (rest, a3, refl)))))
@@ -77,8 +70,7 @@ f_rows l t ts rest (
       (q0, a0, (q1, a1, (q2, a2, (m1, a3, (rest, (k, (m, others, final)), refl))))),
     )
 
-pub f_perhaps_maps : (l : Limits) (t : Placed) (ts rest : List Placed) →
-    perhaps_maps_form l (t ∷ ts) rest → Accepts l t ts rest (perhaps_maps_on t.lexeme)
+pub f_perhaps_maps : StepsBy perhaps_maps_on perhaps_maps_form
 f_perhaps_maps l t ts rest (zero, (m, none, (over, same))) =
     skipped l t ts rest (perhaps_maps_on t.lexeme)
     (subst (Next (λ x. IsOver (perhaps_maps_on x))) (sym none) over) (none ∙ same)
@@ -90,8 +82,7 @@ f_perhaps_maps l t ts rest (suc k, (m, (m1, (m0, (p, e), (q0, a0, (q1, a1, a2)))
       (q0, a0, (q1, a1, (m1, a2, (rest, (k, (m, others, final)), refl)))),
     )
 
-pub f_parameter_type : (l : Limits) (t : Placed) (ts rest : List Placed) →
-    parameter_type_form l (t ∷ ts) rest → Accepts l t ts rest (parameter_type_on t.lexeme)
+pub f_parameter_type : StepsBy parameter_type_on parameter_type_form
 f_parameter_type l t ts rest (inl (over, same)) =
     skipped l t ts rest (parameter_type_on t.lexeme) over same
 f_parameter_type l t ts rest (inr (inl (m, (p, e), behind))) =
@@ -99,15 +90,12 @@ f_parameter_type l t ts rest (inr (inl (m, (p, e), behind))) =
 f_parameter_type l t ts rest (inr (inr (m, (p, e), behind))) =
     by_token (λ x us. Accepts l t us rest (parameter_type_on x)) e (none_opens l, no_arm l, behind)
 
-pub f_header_parameter : (l : Limits) (t : Placed) (ts rest : List Placed) →
-    header_parameter_form l (t ∷ ts) rest → Accepts l t ts rest (header_parameter_on t.lexeme)
+pub f_header_parameter : StepsBy header_parameter_on header_parameter_form
 f_header_parameter l t ts rest (m, (p, e), behind) =
     by_token (λ x us. Accepts l t us rest (header_parameter_on x)) e
     (none_opens l, no_arm l, behind)
 
-pub f_later_header_parameter : (l : Limits) (t : Placed) (ts rest : List Placed) →
-    later_header_parameter_form l (t ∷ ts) rest →
-    Accepts l t ts rest (later_header_parameter_on t.lexeme)
+pub f_later_header_parameter : StepsBy later_header_parameter_on later_header_parameter_form
 f_later_header_parameter l t ts rest (inl (m, (p, e), behind)) =
     by_token (λ x us. Accepts l t us rest (later_header_parameter_on x)) e
     (none_opens l, no_arm l, behind)
@@ -115,9 +103,7 @@ f_later_header_parameter l t ts rest (inr (m, (x, (p, (free, e))), behind)) =
     by_token (λ x us. Accepts l t us rest (later_header_parameter_on x)) e
     (unrefused l (punctuation signs.Equals ∷ expression 0 ∷ []) t m rest x free behind)
 
-pub f_more_header_parameters : (l : Limits) (t : Placed) (ts rest : List Placed) →
-    more_header_parameters_form l (t ∷ ts) rest →
-    Accepts l t ts rest (more_header_parameters_on t.lexeme)
+pub f_more_header_parameters : StepsBy more_header_parameters_on more_header_parameters_form
 f_more_header_parameters l t ts rest (zero, (m, none, (p, e))) =
     by_token (λ x us. Accepts l t us rest (more_header_parameters_on x)) (none ∙ e)
     (none_opens l, no_arm l, refl)
@@ -125,8 +111,7 @@ f_more_header_parameters l t ts rest (suc k, (m, (m1, (m0, (p, e), a0), others),
     by_token (λ x us. Accepts l t us rest (more_header_parameters_on x)) e
     (none_opens l, no_arm l, (m1, a0, (rest, (k, (m, others, final)), refl)))
 
-pub f_perhaps_wire_or_reg : (l : Limits) (t : Placed) (ts rest : List Placed) →
-    perhaps_wire_or_reg_form l (t ∷ ts) rest → Accepts l t ts rest (perhaps_wire_or_reg_on t.lexeme)
+pub f_perhaps_wire_or_reg : StepsBy perhaps_wire_or_reg_on perhaps_wire_or_reg_form
 f_perhaps_wire_or_reg l t ts rest (inl (over, same)) =
     skipped l t ts rest (perhaps_wire_or_reg_on t.lexeme) over same
 f_perhaps_wire_or_reg l t ts rest (inr (inl (m, (p, e), behind))) =
@@ -136,15 +121,13 @@ f_perhaps_wire_or_reg l t ts rest (inr (inr (m, (p, e), behind))) =
     by_token (λ x us. Accepts l t us rest (perhaps_wire_or_reg_on x)) e
     (none_opens l, no_arm l, behind)
 
-pub f_label_end : (l : Limits) (t : Placed) (ts rest : List Placed) →
-    label_end_form l (t ∷ ts) rest → Accepts l t ts rest (label_end_on t.lexeme)
+pub f_label_end : StepsBy label_end_on label_end_form
 f_label_end l t ts rest (inl (m, (p, e), behind)) =
     by_token (λ x us. Accepts l t us rest (label_end_on x)) e (none_opens l, no_arm l, behind)
 f_label_end l t ts rest (inr (m, (p, e), behind)) =
     by_token (λ x us. Accepts l t us rest (label_end_on x)) e (none_opens l, no_arm l, behind)
 
-pub f_later_port : (l : Limits) (t : Placed) (ts rest : List Placed) →
-    later_port_form l (t ∷ ts) rest → Accepts l t ts rest (later_port_on t.lexeme)
+pub f_later_port : StepsBy later_port_on later_port_form
 f_later_port l t ts rest (inl (m, (p, e), behind)) =
     by_token (λ x us. Accepts l t us rest (later_port_on x)) e (none_opens l, no_arm l, behind)
 f_later_port l t ts rest (inr (inl (m, (p, e), behind))) =
@@ -153,8 +136,7 @@ f_later_port l t ts rest (inr (inr (m, (x, (p, (free, e))), behind))) =
     by_token (λ x us. Accepts l t us rest (later_port_on x)) e
     (unrefused l [] t m rest x free behind)
 
-pub f_more_ports : (l : Limits) (t : Placed) (ts rest : List Placed) →
-    more_ports_form l (t ∷ ts) rest → Accepts l t ts rest (more_ports_on t.lexeme)
+pub f_more_ports : StepsBy more_ports_on more_ports_form
 f_more_ports l t ts rest (zero, (m, none, (p, e))) =
     by_token (λ x us. Accepts l t us rest (more_ports_on x)) (none ∙ e)
     (none_opens l, no_arm l, refl)
@@ -162,8 +144,7 @@ f_more_ports l t ts rest (suc k, (m, (m1, (m0, (p, e), a0), others), final)) =
     by_token (λ x us. Accepts l t us rest (more_ports_on x)) e
     (none_opens l, no_arm l, (m1, a0, (rest, (k, (m, others, final)), refl)))
 
-pub f_ports : (l : Limits) (t : Placed) (ts rest : List Placed) → ports_form l (t ∷ ts) rest →
-    Accepts l t ts rest (ports_on t.lexeme)
+pub f_ports : StepsBy ports_on ports_form
 f_ports l t ts rest (inl (m, (p, e), behind)) =
     by_token (λ x us. Accepts l t us rest (ports_on x)) e (none_opens l, no_arm l, behind)
 f_ports l t ts rest (inr (inl (m, (p, e), behind))) =

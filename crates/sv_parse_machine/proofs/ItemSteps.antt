@@ -19,7 +19,7 @@ use Rattle.sv_parse_machine.specs.ModuleTable.{event_on, more_named_overrides_on
 use Rattle.sv_parse_machine.specs.ModuleTable.{link_on, more_named_links_on, links_on}
 use Rattle.sv_parse_machine.specs.ModuleTable.{more_instances_on, items_on, one_module_on}
 use Rattle.sv_parse_machine.specs.ModuleTable.{star_in_event}
-use Rattle.sv_parse_machine.proofs.InnerSteps.{by_token, none_opens, no_arm}
+use Rattle.sv_parse_machine.proofs.InnerSteps.{none_opens, no_arm}
 use Rattle.sv_parse_machine.proofs.OuterForms.{more_parameters_form, more_wires_form}
 use Rattle.sv_parse_machine.proofs.OuterForms.{behind_reg_name_form, memory_name_form}
 use Rattle.sv_parse_machine.proofs.OuterForms.{label_selector_form, reg_name_form}
@@ -31,15 +31,14 @@ use Rattle.sv_parse_machine.proofs.OuterForms.{more_named_overrides_form, overri
 use Rattle.sv_parse_machine.proofs.OuterForms.{more_named_links_form, links_form}
 use Rattle.sv_parse_machine.proofs.OuterForms.{more_instances_form, items_form, one_module_form}
 use Rattle.sv_parse_machine.proofs.OuterForms.{Accepts}
-use Rattle.sv_parse_machine.proofs.OuterTokens.{StepsBy, unrefused, f_begins}
+use Rattle.sv_parse_machine.proofs.OuterTokens.{by_row, StepsBy, unrefused, f_begins}
 
 pub f_more_parameters : StepsBy more_parameters_on more_parameters_form
 f_more_parameters l t ts rest (zero, (m, none, (p, e))) =
-    by_token (λ x us. Accepts l t us rest (more_parameters_on x)) (none ∙ e)
-    (none_opens l, no_arm l, refl)
+    by_row l t rest more_parameters_on (none ∙ e) (none_opens l, no_arm l, refl)
 f_more_parameters l t ts rest
     (suc k, (m, (m1, (m0, (p, e), (q0, a0, (q1, a1, a2))), others), final)) =
-    by_token (λ x us. Accepts l t us rest (more_parameters_on x)) e (
+    by_row l t rest more_parameters_on e (
       none_opens l,
       no_arm
           l,
@@ -48,66 +47,62 @@ f_more_parameters l t ts rest
 
 pub f_more_wires : StepsBy more_wires_on more_wires_form
 f_more_wires l t ts rest (zero, (m, none, (p, e))) =
-    by_token (λ x us. Accepts l t us rest (more_wires_on x)) (none ∙ e)
-    (none_opens l, no_arm l, refl)
+    by_row l t rest more_wires_on (none ∙ e) (none_opens l, no_arm l, refl)
 f_more_wires l t ts rest (suc k, (m, (m1, (m0, (p, e), (q0, a0, a1)), others), final)) =
-    by_token (λ x us. Accepts l t us rest (more_wires_on x)) e
+    by_row l t rest more_wires_on e
     (none_opens l, no_arm l, (q0, a0, (m1, a1, (rest, (k, (m, others, final)), refl))))
 
 pub f_behind_reg_name : StepsBy behind_reg_name_on behind_reg_name_form
 f_behind_reg_name l t ts rest (inl (m, (p, e), behind)) =
-    by_token (λ x us. Accepts l t us rest (behind_reg_name_on x)) e (none_opens l, no_arm l, behind)
+    by_row l t rest behind_reg_name_on e (none_opens l, no_arm l, behind)
 f_behind_reg_name l t ts rest (inr (inl (m, (p, e), behind))) =
-    by_token (λ x us. Accepts l t us rest (behind_reg_name_on x)) e (none_opens l, no_arm l, behind)
+    by_row l t rest behind_reg_name_on e (none_opens l, no_arm l, behind)
 f_behind_reg_name l t ts rest (inr (inr (m, (p, e), behind))) =
-    by_token (λ x us. Accepts l t us rest (behind_reg_name_on x)) e (none_opens l, no_arm l, behind)
+    by_row l t rest behind_reg_name_on e (none_opens l, no_arm l, behind)
 
 pub f_memory_name : StepsBy memory_name_on memory_name_form
 f_memory_name l t ts rest (m, (x, (p, (free, e))), behind) =
-    by_token (λ x us. Accepts l t us rest (memory_name_on x)) e
+    by_row l t rest memory_name_on e
     (unrefused l (punctuation signs.OpenBracket ∷ plain_number ∷ punctuation signs.Colon ∷
     plain_number ∷ punctuation signs.CloseBracket ∷ []) t m rest x free behind)
 
 pub f_label_selector : StepsBy label_selector_on label_selector_form
 f_label_selector l t ts rest (inl (m, (p, e), behind)) =
-    by_token (λ x us. Accepts l t us rest (label_selector_on x)) e (none_opens l, no_arm l, behind)
+    by_row l t rest label_selector_on e (none_opens l, no_arm l, behind)
 f_label_selector l t ts rest (inr (m, (x, (p, (free, e))), behind)) =
-    by_token (λ x us. Accepts l t us rest (label_selector_on x)) e
+    by_row l t rest label_selector_on e
     (unrefused l (perhaps_second_name ∷ punctuation signs.CloseParenthesis ∷
     punctuation signs.CloseBrace ∷ plain_name ∷ more_names signs.Semicolon ∷ []) t m rest x
     free behind)
 
 pub f_reg_name : StepsBy reg_name_on reg_name_form
 f_reg_name l t ts rest (m, (x, (p, (free, e))), behind) =
-    by_token (λ x us. Accepts l t us rest (reg_name_on x)) e
-    (unrefused l (behind_reg_name ∷ []) t m rest x free behind)
+    by_row l t rest reg_name_on e (unrefused l (behind_reg_name ∷ []) t m rest x free behind)
 
 pub f_reg_label_end : StepsBy reg_label_end_on reg_label_end_form
 f_reg_label_end l t ts rest (inl (m, (p, e), behind)) =
-    by_token (λ x us. Accepts l t us rest (reg_label_end_on x)) e (none_opens l, no_arm l, behind)
+    by_row l t rest reg_label_end_on e (none_opens l, no_arm l, behind)
 f_reg_label_end l t ts rest (inr (m, (p, e), behind)) =
-    by_token (λ x us. Accepts l t us rest (reg_label_end_on x)) e (none_opens l, no_arm l, behind)
+    by_row l t rest reg_label_end_on e (none_opens l, no_arm l, behind)
 
 pub f_reg_label : StepsBy reg_label_on reg_label_form
 f_reg_label l t ts rest (inl (m, (p, e), behind)) =
-    by_token (λ x us. Accepts l t us rest (reg_label_on x)) e (none_opens l, no_arm l, behind)
+    by_row l t rest reg_label_on e (none_opens l, no_arm l, behind)
 f_reg_label l t ts rest (inr (m, (x, (p, (free, e))), behind)) =
-    by_token (λ x us. Accepts l t us rest (reg_label_on x)) e
-    (unrefused l (behind_reg_name ∷ []) t m rest x free behind)
+    by_row l t rest reg_label_on e (unrefused l (behind_reg_name ∷ []) t m rest x free behind)
 
 pub f_later_assigned : StepsBy later_assigned_on later_assigned_form
 f_later_assigned l t ts rest (inl (m, (x, (p, (free, e))), behind)) =
-    by_token (λ x us. Accepts l t us rest (later_assigned_on x)) e
+    by_row l t rest later_assigned_on e
     (unrefused l (punctuation signs.Equals ∷ expression 0 ∷ []) t m rest x free behind)
 f_later_assigned l t ts rest (inr (m, (p, e), behind)) =
-    by_token (λ x us. Accepts l t us rest (later_assigned_on x)) e (none_opens l, no_arm l, behind)
+    by_row l t rest later_assigned_on e (none_opens l, no_arm l, behind)
 
 pub f_more_assigned : StepsBy more_assigned_on more_assigned_form
 f_more_assigned l t ts rest (zero, (m, none, (p, e))) =
-    by_token (λ x us. Accepts l t us rest (more_assigned_on x)) (none ∙ e)
-    (none_opens l, no_arm l, refl)
+    by_row l t rest more_assigned_on (none ∙ e) (none_opens l, no_arm l, refl)
 f_more_assigned l t ts rest (suc k, (m, (m1, (m0, (p, e), a0), others), final)) =
-    by_token (λ x us. Accepts l t us rest (more_assigned_on x)) e
+    by_row l t rest more_assigned_on e
     (none_opens l, no_arm l, (m1, a0, (rest, (k, (m, others, final)), refl)))
 
 value_or_release_as_expression : (l : Limits) (t : Placed) (ts rest : List Placed) (x : Lexeme) →
@@ -118,42 +113,40 @@ value_or_release_as_expression l t ts rest x is = is
 
 pub f_value_or_release : StepsBy value_or_release_on value_or_release_form
 f_value_or_release l t ts rest (inl (m, (p, e), behind)) =
-    by_token (λ x us. Accepts l t us rest (value_or_release_on x)) e
-    (none_opens l, no_arm l, behind)
+    by_row l t rest value_or_release_on e (none_opens l, no_arm l, behind)
 f_value_or_release l t ts rest (inr (m, is, behind)) =
     value_or_release_as_expression l t ts rest t.lexeme
     (f_begins l 0 0 (more_assigned ∷ []) t ts m rest is (no_arm l) behind)
 
 pub f_assigned : StepsBy assigned_on assigned_form
 f_assigned l t ts rest (inl (m, (x, (p, (free, e))), behind)) =
-    by_token (λ x us. Accepts l t us rest (assigned_on x)) e
+    by_row l t rest assigned_on e
     (unrefused l (punctuation signs.Equals ∷ value_or_release ∷ []) t m rest x free behind)
 f_assigned l t ts rest (inr (m, (p, e), behind)) =
-    by_token (λ x us. Accepts l t us rest (assigned_on x)) e (none_opens l, no_arm l, behind)
+    by_row l t rest assigned_on e (none_opens l, no_arm l, behind)
 
 pub f_event_inside : StepsBy event_inside_on event_inside_form
 f_event_inside l t ts rest (inl (m, (p, (o, op, e)), behind)) =
-    by_token (λ x us. Accepts l t us rest (event_inside_on x)) e
+    by_row l t rest event_inside_on e
     (subst (λ b. Accepts l t m rest (star_in_event (is_star b))) (sym op)
     (none_opens l, no_arm l, behind))
 f_event_inside l t ts rest (inr (m, (p, e), behind)) =
-    by_token (λ x us. Accepts l t us rest (event_inside_on x)) e (none_opens l, no_arm l, behind)
+    by_row l t rest event_inside_on e (none_opens l, no_arm l, behind)
 
 pub f_event : StepsBy event_on event_form
 f_event l t ts rest (inl (m, (p, (o, op, e)), behind)) =
-    by_token (λ x us. Accepts l t us rest (event_on x)) e
+    by_row l t rest event_on e
     (subst (λ b. Accepts l t m rest (taken_if (is_star b))) (sym op)
     (none_opens l, no_arm l, behind))
 f_event l t ts rest (inr (m, (p, e), behind)) =
-    by_token (λ x us. Accepts l t us rest (event_on x)) e (none_opens l, no_arm l, behind)
+    by_row l t rest event_on e (none_opens l, no_arm l, behind)
 
 pub f_more_named_overrides : StepsBy more_named_overrides_on more_named_overrides_form
 f_more_named_overrides l t ts rest (zero, (m, none, (p, e))) =
-    by_token (λ x us. Accepts l t us rest (more_named_overrides_on x)) (none ∙ e)
-    (none_opens l, no_arm l, refl)
+    by_row l t rest more_named_overrides_on (none ∙ e) (none_opens l, no_arm l, refl)
 f_more_named_overrides l t ts rest
     (suc k, (m, (m1, (m0, (p, e), (q0, a0, (q1, a1, (q2, a2, (q3, a3, a4))))), others), final)) =
-    by_token (λ x us. Accepts l t us rest (more_named_overrides_on x)) e (
+    by_row l t rest more_named_overrides_on e (
       none_opens l,
       no_arm
           l,
@@ -168,7 +161,7 @@ overrides_as_expression l t ts rest x is = is
 
 pub f_overrides : StepsBy overrides_on overrides_form
 f_overrides l t ts rest (inl (m, (p, e), behind)) =
-    by_token (λ x us. Accepts l t us rest (overrides_on x)) e (none_opens l, no_arm l, behind)
+    by_row l t rest overrides_on e (none_opens l, no_arm l, behind)
 f_overrides l t ts rest (inr (m, is, behind)) =
     overrides_as_expression l t ts rest t.lexeme
     (f_begins l 0 0 (more_values ∷ []) t ts m rest is (no_arm l) behind)
@@ -181,18 +174,17 @@ link_as_expression l t ts rest x is = is
 
 pub f_link : StepsBy link_on link_form
 f_link l t ts rest (inl (m, (p, e), behind)) =
-    by_token (λ x us. Accepts l t us rest (link_on x)) e (none_opens l, no_arm l, behind)
+    by_row l t rest link_on e (none_opens l, no_arm l, behind)
 f_link l t ts rest (inr (m, is, behind)) =
     link_as_expression l t ts rest t.lexeme
     (f_begins l 0 0 (punctuation signs.CloseParenthesis ∷ []) t ts m rest is (no_arm l) behind)
 
 pub f_more_named_links : StepsBy more_named_links_on more_named_links_form
 f_more_named_links l t ts rest (zero, (m, none, (p, e))) =
-    by_token (λ x us. Accepts l t us rest (more_named_links_on x)) (none ∙ e)
-    (none_opens l, no_arm l, refl)
+    by_row l t rest more_named_links_on (none ∙ e) (none_opens l, no_arm l, refl)
 f_more_named_links l t ts rest
     (suc k, (m, (m1, (m0, (p, e), (q0, a0, (q1, a1, (q2, a2, a3)))), others), final)) =
-    by_token (λ x us. Accepts l t us rest (more_named_links_on x)) e (
+    by_row l t rest more_named_links_on e (
       none_opens l,
       no_arm
           l,
@@ -207,20 +199,19 @@ links_as_expression l t ts rest x is = is
 
 pub f_links : StepsBy links_on links_form
 f_links l t ts rest (inl (m, (p, e), behind)) =
-    by_token (λ x us. Accepts l t us rest (links_on x)) e (none_opens l, no_arm l, behind)
+    by_row l t rest links_on e (none_opens l, no_arm l, behind)
 f_links l t ts rest (inr (inl (m, (p, e), behind))) =
-    by_token (λ x us. Accepts l t us rest (links_on x)) e (none_opens l, no_arm l, behind)
+    by_row l t rest links_on e (none_opens l, no_arm l, behind)
 f_links l t ts rest (inr (inr (m, is, behind))) =
     links_as_expression l t ts rest t.lexeme
     (f_begins l 0 0 (more_values ∷ []) t ts m rest is (no_arm l) behind)
 
 pub f_more_instances : StepsBy more_instances_on more_instances_form
 f_more_instances l t ts rest (zero, (m, none, (p, e))) =
-    by_token (λ x us. Accepts l t us rest (more_instances_on x)) (none ∙ e)
-    (none_opens l, no_arm l, refl)
+    by_row l t rest more_instances_on (none ∙ e) (none_opens l, no_arm l, refl)
 f_more_instances l t ts rest
     (suc k, (m, (m1, (m0, (p, e), (q0, a0, (q1, a1, a2))), others), final)) =
-    by_token (λ x us. Accepts l t us rest (more_instances_on x)) e (
+    by_row l t rest more_instances_on e (
       none_opens l,
       no_arm
           l,
@@ -229,13 +220,13 @@ f_more_instances l t ts rest
 
 pub f_items : StepsBy items_on items_form
 f_items l t ts rest (zero, (m, none, (p, e))) =
-    by_token (λ x us. Accepts l t us rest (items_on x)) (none ∙ e) (none_opens l, no_arm l, refl)
+    by_row l t rest items_on (none ∙ e) (none_opens l, no_arm l, refl)
 f_items l t ts rest (
   suc
       k,
   (m, (m1, inl ((m0, (p, e), (q0, a0, (q1, a1, (q2, a2, (q3, a3, a4)))))), others), final),
 ) =
-    by_token (λ x us. Accepts l t us rest (items_on x)) e (
+    by_row l t rest items_on e (
       none_opens l,
       no_arm
           l,
@@ -250,7 +241,7 @@ f_items l t ts rest (
     final,
   ),
 ) =
-    by_token (λ x us. Accepts l t us rest (items_on x)) e (
+    by_row l t rest items_on e (
       none_opens l,
       no_arm
           l,
@@ -269,7 +260,7 @@ f_items l t ts rest (
     final,
   ),
 ) =
-    by_token (λ x us. Accepts l t us rest (items_on x)) e (
+    by_row l t rest items_on e (
       none_opens l,
       no_arm
           l,
@@ -288,7 +279,7 @@ f_items l t ts rest (
       k,
   (m, (m1, inr (inr (inr (inl ((m0, (p, e), (q0, a0, (q1, a1, a2))))))), others), final),
 ) =
-    by_token (λ x us. Accepts l t us rest (items_on x)) e (
+    by_row l t rest items_on e (
       none_opens l,
       no_arm
           l,
@@ -299,7 +290,7 @@ f_items l t ts rest (
       k,
   (m, (m1, inr (inr (inr (inr (inl ((m0, (p, e), a0)))))), others), final),
 ) =
-    by_token (λ x us. Accepts l t us rest (items_on x)) e
+    by_row l t rest items_on e
     (none_opens l, no_arm l, (m1, a0, (rest, (k, (m, others, final)), refl)))
 f_items l t ts rest (
   suc
@@ -310,7 +301,7 @@ f_items l t ts rest (
     final,
   ),
 ) =
-    by_token (λ x us. Accepts l t us rest (items_on x)) e (
+    by_row l t rest items_on e (
       none_opens l,
       no_arm
           l,
@@ -325,7 +316,7 @@ f_items l t ts rest (
     final,
   ),
 ) =
-    by_token (λ x us. Accepts l t us rest (items_on x)) e
+    by_row l t rest items_on e
     (none_opens l, no_arm l, (q0, a0, (m1, a1, (rest, (k, (m, others, final)), refl))))
 f_items l t ts rest (
   suc
@@ -346,11 +337,11 @@ f_items l t ts rest (
     final,
   ),
 ) =
-    by_token (λ x us. Accepts l t us rest (items_on x)) e
+    by_row l t rest items_on e
     (unrefused l (perhaps_overrides ∷ plain_name ∷ punctuation signs.OpenParenthesis ∷ links ∷
     more_instances ∷ items ∷ []) t m0 rest x free
     (q0, a0, (q1, a1, (q2, a2, (q3, a3, (m1, a4, (rest, (k, (m, others, final)), refl)))))))
 
 pub f_one_module : StepsBy one_module_on one_module_form
 f_one_module l t ts rest (m, (p, e), behind) =
-    by_token (λ x us. Accepts l t us rest (one_module_on x)) e (none_opens l, no_arm l, behind)
+    by_row l t rest one_module_on e (none_opens l, no_arm l, behind)

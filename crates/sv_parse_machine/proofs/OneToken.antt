@@ -7,9 +7,9 @@ use Rattle.sv_ast.specs.GrammarForms.{Form, ◌⨾◌, ◌or◌, somewhere, lexe
 use Rattle.sv_ast.specs.GrammarExpressions.{Limits}
 use Rattle.sv_parse_machine.specs.Symbols.{Outer, takes_all}
 use Rattle.sv_parse_machine.specs.Machine.{outer_on}
-use Rattle.sv_parse_machine.proofs.InnerSteps.{placed, by_token, no_token, none_opens, no_arm}
+use Rattle.sv_parse_machine.proofs.InnerSteps.{placed, no_token, none_opens, no_arm}
 use Rattle.sv_parse_machine.proofs.OuterForms.{IsOver, skip_form, outer_forms, Accepts}
-use Rattle.sv_parse_machine.proofs.OuterTokens.{skipped}
+use Rattle.sv_parse_machine.proofs.OuterTokens.{by_row, skipped}
 use Rattle.sv_parse_machine.proofs.SkippedRows.{OneToken, first_of, others_of, row_of_first}
 use Rattle.sv_parse_machine.proofs.SkippedRows.{only_first}
 
@@ -23,7 +23,7 @@ pub f_perhaps : (y : Outer) (one : OneToken y) (l : Limits) (t : Placed) (ts res
     perhaps_form y one l (t ∷ ts) rest → Accepts l t ts rest (outer_on y t.lexeme)
 f_perhaps y one l t ts rest (inl (none, same)) = skipped l t ts rest (outer_on y t.lexeme) none same
 f_perhaps y one l t ts rest (inr (m, (p, e), behind)) =
-    by_token (λ x us. Accepts l t us rest (outer_on y x)) e
+    by_row l t rest (outer_on y) e
     (subst (Accepts l t m rest) (sym (row_of_first y one).0) (none_opens l, no_arm l, behind))
 
 pub b_perhaps : (y : Outer) (one : OneToken y) (l : Limits) (x : Lexeme) (p : Place)

@@ -43,8 +43,8 @@ use Rattle.sv_parse_machine.specs.StatementTable.{less_equal_on, punctuation_on,
 use Rattle.sv_parse_machine.specs.StatementTable.{taken_if}
 use Rattle.sv_parse_machine.specs.Machine.{outer_on, may_be_empty}
 use Rattle.sv_parse_machine.proofs.OuterForms.{punctuation_form, outer_form}
-use Rattle.sv_parse_machine.proofs.OuterTokens.{taken_less_equal, b_begins, f_begins, unrefused}
-use Rattle.sv_parse_machine.proofs.OuterTokens.{taken_as_name, no_expression, loop_ends}
+use Rattle.sv_parse_machine.proofs.OuterTokens.{by_row, taken_less_equal, b_begins, f_begins}
+use Rattle.sv_parse_machine.proofs.OuterTokens.{unrefused, taken_as_name, no_expression, loop_ends}
 use Rattle.sv_parse_machine.proofs.OuterTokens.{loop_goes_on}
 use Rattle.sv_parse_machine.specs.Symbols.{Outer, outer}
 use Rattle.sv_parse_machine.proofs.StatementSteps.{f_assigns, f_statement, f_statements, f_arms}
@@ -102,7 +102,7 @@ f_punctuation : (l : Limits) (s : SignKind) (t : Placed) (ts rest : List Placed)
     punctuation_form s (t ∷ ts) rest → Accepts l t ts rest (punctuation_on s t.lexeme)
 f_punctuation l (signs.Operator o) t ts rest is = absurd is
 f_punctuation l s t ts rest (p, e) =
-    by_token (λ x us. Accepts l t us rest (punctuation_on s x)) e (none_opens l, no_arm l, refl)
+    by_row l t rest (punctuation_on s) e (none_opens l, no_arm l, refl)
 
 taken : (l : Limits) (t : Placed) (ts rest : List Placed) (b : Bool) →
     Accepts l t ts rest (taken_if b) → IsTrue b × (ts ≡ rest)
@@ -153,7 +153,7 @@ b_number l x p ts rest is = absurd is
 f_less_equal : (l : Limits) (t : Placed) (ts rest : List Placed) → less_equal_form (t ∷ ts) rest →
     Accepts l t ts rest (less_equal_on t.lexeme)
 f_less_equal l t ts rest (p, (o, op, e)) =
-    by_token (λ x us. Accepts l t us rest (less_equal_on x)) e
+    by_row l t rest less_equal_on e
     (subst (λ b. Accepts l t rest rest (taken_if (is_less_equal b))) (sym op)
     (none_opens l, no_arm l, refl))
 

@@ -8,7 +8,7 @@ use Rattle.sv_num.specs.declared.faults.Place.{Place}
 use Rattle.sv_token.specs.declared.signs.SignKind.TheVariants as signs
 use Rattle.sv_token.specs.Lexemes.{Lexeme, Placed}
 use Rattle.sv_token.specs.Words.{is_refused_word}
-use Rattle.sv_ast.specs.GrammarForms.{Form, ◌⨾◌, nothing}
+use Rattle.sv_ast.specs.GrammarForms.{Form, ◌⨾◌, nothing, lexeme_at}
 use Rattle.sv_ast.specs.GrammarExpressions.{Limits, is_within, read_tokens}
 use Rattle.sv_parse_machine.specs.Symbols.{operand, tail, Outer, punctuation, InnerReaction}
 use Rattle.sv_parse_machine.specs.Symbols.{takes_inner, over_inner, stuck_inner, OuterReaction, over}
@@ -19,8 +19,8 @@ use Rattle.sv_parse_machine.specs.ModuleTable.{star_in_event}
 use Rattle.sv_parse_machine.proofs.ExpressionForms.{tail_form, inner_form, AcceptsInner, expression_form}
 use Rattle.sv_parse_machine.proofs.ExpressionParts.{to_parts, from_parts}
 use Rattle.sv_parse_machine.proofs.ReadSteps.{NotOver, operand_not_over}
-use Rattle.sv_parse_machine.proofs.InnerSteps.{placed, none_opens, no_arm, free_name, alone, append_forms}
-use Rattle.sv_parse_machine.proofs.InnerSteps.{split_forms, f_inner}
+use Rattle.sv_parse_machine.proofs.InnerSteps.{placed, by_token, none_opens, no_arm, free_name, alone}
+use Rattle.sv_parse_machine.proofs.InnerSteps.{append_forms, split_forms, f_inner}
 use Rattle.sv_parse_machine.proofs.InnerForms.{b_inner, no_operand}
 use Rattle.sv_parse_machine.proofs.OuterForms.{IsOver, loop_form, outer_forms, Accepts}
 
@@ -41,6 +41,12 @@ FormsBy on form =
 -- it does not stand where no token is left
 abbrev pub NeedsToken : (Limits → Form) → Type 0
 NeedsToken form = (l : Limits) (rest : List Placed) → form l [] rest → ⊥
+
+-- a row read at the token that stands there
+pub by_row : {x : Lexeme} {p : Place} {ts mid : List Placed} (l : Limits) (t : Placed)
+    (rest : List Placed) (on : Lexeme → OuterReaction)
+    → lexeme_at x p (t ∷ ts) mid → Accepts l t mid rest (on x) → Accepts l t ts rest (on t.lexeme)
+by_row l t rest on at is = by_token (λ x us. Accepts l t us rest (on x)) at is
 
 -- ---- any number of the one, and then the other
 

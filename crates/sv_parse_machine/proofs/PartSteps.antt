@@ -5,17 +5,18 @@ use Rattle.sv_token.specs.declared.signs.SignKind.TheVariants as signs
 use Rattle.sv_token.specs.Lexemes.{Lexeme, sign, Placed}
 use Rattle.sv_ast.specs.GrammarExpressions.{Limits}
 use Rattle.sv_parse_machine.specs.StatementTable.{bits_end_on, more_targets_on, more_choices_on}
-use Rattle.sv_parse_machine.proofs.InnerSteps.{placed, by_token, no_token, none_opens, no_arm}
+use Rattle.sv_parse_machine.proofs.InnerSteps.{placed, no_token, none_opens, no_arm}
 use Rattle.sv_parse_machine.proofs.InnerForms.{last_token}
 use Rattle.sv_parse_machine.proofs.OuterForms.{bits_end_form, more_targets_form, more_choices_form}
 use Rattle.sv_parse_machine.proofs.OuterForms.{Accepts}
+use Rattle.sv_parse_machine.proofs.OuterTokens.{by_row}
 
 pub f_bits_end : (l : Limits) (n : ℕ) (t : Placed) (ts rest : List Placed) →
     bits_end_form l n (t ∷ ts) rest → Accepts l t ts rest (bits_end_on n t.lexeme)
 f_bits_end l n t ts rest (inl (m, (p, e), behind)) =
-    by_token (λ x us. Accepts l t us rest (bits_end_on n x)) e (none_opens l, no_arm l, behind)
+    by_row l t rest (bits_end_on n) e (none_opens l, no_arm l, behind)
 f_bits_end l n t ts rest (inr (m, (p, e), behind)) =
-    by_token (λ x us. Accepts l t us rest (bits_end_on n x)) e (none_opens l, no_arm l, behind)
+    by_row l t rest (bits_end_on n) e (none_opens l, no_arm l, behind)
 
 pub b_bits_end : (l : Limits) (n : ℕ) (x : Lexeme) (p : Place) (ts rest : List Placed) →
     Accepts l (placed x p) ts rest (bits_end_on n x) → bits_end_form l n (placed x p ∷ ts) rest
@@ -30,10 +31,9 @@ none_bits_end l n rest (inr (m, (p, e), behind)) = no_token e
 pub f_more_targets : (l : Limits) (n : ℕ) (t : Placed) (ts rest : List Placed) →
     more_targets_form l n (t ∷ ts) rest → Accepts l t ts rest (more_targets_on n t.lexeme)
 f_more_targets l n t ts rest (zero, (m, none, (p, e))) =
-    by_token (λ x us. Accepts l t us rest (more_targets_on n x)) (none ∙ e)
-    (none_opens l, no_arm l, refl)
+    by_row l t rest (more_targets_on n) (none ∙ e) (none_opens l, no_arm l, refl)
 f_more_targets l n t ts rest (suc k, (m, (m1, (m0, (p, e), (q0, a0, a1)), others), final)) =
-    by_token (λ x us. Accepts l t us rest (more_targets_on n x)) e
+    by_row l t rest (more_targets_on n) e
     (none_opens l, no_arm l, (q0, a0, (m1, a1, (rest, (k, (m, others, final)), refl))))
 
 pub b_more_targets : (l : Limits) (n : ℕ) (x : Lexeme) (p : Place) (ts rest : List Placed) →
@@ -62,10 +62,9 @@ none_more_targets l n rest (suc k, (m, (m1, (m0, (p, e), behind), others), final
 pub f_more_choices : (l : Limits) (n : ℕ) (t : Placed) (ts rest : List Placed) →
     more_choices_form l n (t ∷ ts) rest → Accepts l t ts rest (more_choices_on n t.lexeme)
 f_more_choices l n t ts rest (zero, (m, none, (p, e))) =
-    by_token (λ x us. Accepts l t us rest (more_choices_on n x)) (none ∙ e)
-    (none_opens l, no_arm l, refl)
+    by_row l t rest (more_choices_on n) (none ∙ e) (none_opens l, no_arm l, refl)
 f_more_choices l n t ts rest (suc k, (m, (m1, (m0, (p, e), a0), others), final)) =
-    by_token (λ x us. Accepts l t us rest (more_choices_on n x)) e
+    by_row l t rest (more_choices_on n) e
     (none_opens l, no_arm l, (m1, a0, (rest, (k, (m, others, final)), refl)))
 
 pub b_more_choices : (l : Limits) (n : ℕ) (x : Lexeme) (p : Place) (ts rest : List Placed) →

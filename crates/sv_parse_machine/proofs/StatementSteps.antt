@@ -34,7 +34,7 @@ use Rattle.sv_parse_machine.proofs.OuterForms.{perhaps_bits_form}
 use Rattle.sv_parse_machine.proofs.OuterForms.{more_targets_form, more_choices_form, statement_form}
 use Rattle.sv_parse_machine.proofs.OuterForms.{statements_form, arms_form, perhaps_block_name_form}
 use Rattle.sv_parse_machine.proofs.OuterForms.{perhaps_colon_form, Accepts}
-use Rattle.sv_parse_machine.proofs.OuterTokens.{unrefused, f_begins}
+use Rattle.sv_parse_machine.proofs.OuterTokens.{by_row, unrefused, f_begins}
 
 -- ---- expressions in front of signs
 
@@ -118,10 +118,9 @@ next_assigns n false ts rest (p, (o, op, e)) =
 
 pub f_assigns : (l : Limits) (t : Placed) (ts rest : List Placed) → assigns_form l (t ∷ ts) rest →
     Accepts l t ts rest (assigns_on t.lexeme)
-f_assigns l t ts rest (inl (p, e)) =
-    by_token (λ x us. Accepts l t us rest (assigns_on x)) e (none_opens l, no_arm l, refl)
+f_assigns l t ts rest (inl (p, e)) = by_row l t rest assigns_on e (none_opens l, no_arm l, refl)
 f_assigns l t ts rest (inr (p, (o, op, e))) =
-    by_token (λ x us. Accepts l t us rest (assigns_on x)) e
+    by_row l t rest assigns_on e
     (subst (λ b. Accepts l t rest rest (taken_if (is_less_equal b))) (sym op)
     (none_opens l, no_arm l, refl))
 
@@ -182,7 +181,7 @@ assignment_behind_target l n (a ∷ []) blocking e t ts mid rest (inl (m, name, 
     (m2, assigning, (m3, is, semicolon)) =
     let bits = f_bits l n a.selection m mid bits (next_assigns n blocking mid m2 assigning) in
     let value = value_before l n e signs.Semicolon m2 m3 rest tt tt is semicolon in
-    by_token (λ x us. Accepts l t us rest (statement_on n x)) name.1
+    by_row l t rest (statement_on n) name.1
     (unrefused l (perhaps_bits n ∷ assignment_behind n) t m rest a.name name.0 (
       mid,
       bits,
@@ -198,7 +197,7 @@ assignment_behind_target l n (a ∷ bs) blocking e t ts mid rest
     (m2, assigning, (m3, is, semicolon)) =
     let targets = f_targets l n a bs m5 mid (m4, bits, (m1, others, close)) in
     let value = value_before l n e signs.Semicolon m2 m3 rest tt tt is semicolon in
-    by_token (λ x us. Accepts l t us rest (statement_on n x)) brace (
+    by_row l t rest (statement_on n) brace (
       none_opens l,
       no_arm l,
       (
@@ -302,11 +301,11 @@ f_condition l n e ys ts mid rest (m, first, (m1, is, second)) behind = (
 pub f_statement : (l : Limits) (n : ℕ) (t : Placed) (ts rest : List Placed) →
     statement_form l n (t ∷ ts) rest → Accepts l t ts rest (statement_on n t.lexeme)
 f_statement l n t ts rest (null, (p, e)) =
-    by_token (λ x us. Accepts l t us rest (statement_on n x)) e (none_opens l, no_arm l, refl)
+    by_row l t rest (statement_on n) e (none_opens l, no_arm l, refl)
 f_statement l n t ts rest (assignment targets q b v, (at, (m, are, behind))) =
     assignment_behind_target l n targets b v t ts m rest are behind
 f_statement l n t ts rest (block ss, (opens, (m, (p, e), (m1, name, are)))) =
-    by_token (λ x us. Accepts l t us rest (statement_on n x)) e (
+    by_row l t rest (statement_on n) e (
       opens,
       no_arm l,
       (
@@ -318,7 +317,7 @@ f_statement l n t ts rest (block ss, (opens, (m, (p, e), (m1, name, are)))) =
     )
 f_statement l n t ts rest
     (if_only q c s, (opens, (m, e, (m1, condition, (m2, is, (no_else, same)))))) =
-    by_token (λ x us. Accepts l t us rest (statement_on n x)) e (
+    by_row l t rest (statement_on n) e (
       opens,
       no_arm l,
       f_condition l (n + 1) c (statement (n + 1) ∷ perhaps_else (n + 1) ∷ []) m m1 rest condition
@@ -326,14 +325,14 @@ f_statement l n t ts rest
     )
 f_statement l n t ts rest
     (if_else q c s u, (opens, (m, e, (m1, condition, (m2, is, (m3, other, others)))))) =
-    by_token (λ x us. Accepts l t us rest (statement_on n x)) e (
+    by_row l t rest (statement_on n) e (
       opens,
       no_arm l,
       f_condition l (n + 1) c (statement (n + 1) ∷ perhaps_else (n + 1) ∷ []) m m1 rest condition
           (m2, (s, is), (rest, inr (m3, other, (rest, (u, others), refl)), refl)),
     )
 f_statement l n t ts rest (case_of q v cs, (opens, (m, e, (m1, condition, are)))) =
-    by_token (λ x us. Accepts l t us rest (statement_on n x)) e (
+    by_row l t rest (statement_on n) e (
       opens,
       no_arm l,
       f_condition l (n + 1) v (arms (n + 1) 0 false ∷ []) m m1 rest condition
@@ -377,8 +376,7 @@ statements_as_statement l n t ts rest x is = is
 pub f_statements : (l : Limits) (n : ℕ) (t : Placed) (ts rest : List Placed) →
     statements_form l n (t ∷ ts) rest → Accepts l t ts rest (statements_on n t.lexeme)
 f_statements l n t ts rest (zero, (m, none, (p, e))) =
-    by_token (λ x us. Accepts l t us rest (statements_on n x)) (none ∙ e)
-    (none_opens l, no_arm l, refl)
+    by_row l t rest (statements_on n) (none ∙ e) (none_opens l, no_arm l, refl)
 f_statements l n t ts rest (suc k, (m, (m1, is, others), final)) =
     statements_as_statement l n t ts rest t.lexeme
     (with_others l (statements n ∷ []) t ts m1 rest (statement_on n t.lexeme)
@@ -453,7 +451,7 @@ f_arms l n before true t ts rest (more_arms q [] s cs, (m, (few, (m1, (free, hea
     absurd (false≢true free)
 f_arms l n before false t ts rest
     (more_arms q [] s cs, (m, (few, (m1, (free, (m2, e, colon)), (m3, is, others))), final)) =
-    by_token (λ x us. Accepts l t us rest (arms_on n before false x)) e (
+    by_row l t rest (arms_on n before false) e (
       none_opens l,
       few,
       (

@@ -10,7 +10,7 @@ use Rattle.sv_parse_machine.specs.ModuleTable.{header_parameter_on, later_header
 use Rattle.sv_parse_machine.specs.ModuleTable.{more_header_parameters_on, perhaps_wire_or_reg_on}
 use Rattle.sv_parse_machine.specs.ModuleTable.{label_end_on, later_port_on, more_ports_on, ports_on}
 use Rattle.sv_parse_machine.proofs.ExpressionForms.{Next}
-use Rattle.sv_parse_machine.proofs.InnerSteps.{by_token, none_opens, no_arm}
+use Rattle.sv_parse_machine.proofs.InnerSteps.{none_opens, no_arm}
 use Rattle.sv_parse_machine.proofs.OuterForms.{IsOver, more_values_form, lattice_lines_form}
 use Rattle.sv_parse_machine.proofs.OuterForms.{map_name_form, end_of_map_form, rows_form}
 use Rattle.sv_parse_machine.proofs.OuterForms.{perhaps_maps_form, parameter_type_form}
@@ -18,52 +18,49 @@ use Rattle.sv_parse_machine.proofs.OuterForms.{header_parameter_form, later_head
 use Rattle.sv_parse_machine.proofs.OuterForms.{more_header_parameters_form}
 use Rattle.sv_parse_machine.proofs.OuterForms.{perhaps_wire_or_reg_form, label_end_form}
 use Rattle.sv_parse_machine.proofs.OuterForms.{later_port_form, more_ports_form, ports_form}
-use Rattle.sv_parse_machine.proofs.OuterForms.{Accepts}
-use Rattle.sv_parse_machine.proofs.OuterTokens.{StepsBy, unrefused, skipped}
+use Rattle.sv_parse_machine.proofs.OuterTokens.{by_row, StepsBy, unrefused, skipped}
 
 pub f_more_values : StepsBy more_values_on more_values_form
 f_more_values l t ts rest (zero, (m, none, (p, e))) =
-    by_token (λ x us. Accepts l t us rest (more_values_on x)) (none ∙ e)
-    (none_opens l, no_arm l, refl)
+    by_row l t rest more_values_on (none ∙ e) (none_opens l, no_arm l, refl)
 f_more_values l t ts rest (suc k, (m, (m1, (m0, (p, e), a0), others), final)) =
-    by_token (λ x us. Accepts l t us rest (more_values_on x)) e
+    by_row l t rest more_values_on e
     (none_opens l, no_arm l, (m1, a0, (rest, (k, (m, others, final)), refl)))
 
 pub f_lattice_lines : StepsBy lattice_lines_on lattice_lines_form
 f_lattice_lines l t ts rest (zero, (m, none, (p, e))) =
-    by_token (λ x us. Accepts l t us rest (lattice_lines_on x)) (none ∙ e)
-    (none_opens l, no_arm l, refl)
+    by_row l t rest lattice_lines_on (none ∙ e) (none_opens l, no_arm l, refl)
 f_lattice_lines l t ts rest (suc k, (m, (m1, inl ((m0, (p, e), (q0, a0, a1))), others), final)) =
-    by_token (λ x us. Accepts l t us rest (lattice_lines_on x)) e
+    by_row l t rest lattice_lines_on e
     (none_opens l, no_arm l, (q0, a0, (m1, a1, (rest, (k, (m, others, final)), refl))))
 f_lattice_lines l t ts rest
     (suc k, (m, (m1, inr ((m0, (x, (p, (free, e))), (q0, a0, (q1, a1, a2)))), others), final)) =
-    by_token (λ x us. Accepts l t us rest (lattice_lines_on x)) e
+    by_row l t rest lattice_lines_on e
     (unrefused l (less_equal ∷ plain_name ∷ punctuation signs.Semicolon ∷ lattice_lines ∷ []) t
     m0 rest x free (q0, a0, (q1, a1, (m1, a2, (rest, (k, (m, others, final)), refl)))))
 
 pub f_map_name : StepsBy map_name_on map_name_form
 f_map_name l t ts rest (m, (x, (p, (free, e))), behind) =
-    by_token (λ x us. Accepts l t us rest (map_name_on x)) e
+    by_row l t rest map_name_on e
     (unrefused l (punctuation signs.OpenBracket ∷ plain_number ∷ punctuation signs.Colon ∷
     plain_number ∷ punctuation signs.CloseBracket ∷ []) t m rest x free behind)
 
 pub f_end_of_map : StepsBy end_of_map_on end_of_map_form
 f_end_of_map l t ts rest (m, (p, e), behind) =
-    by_token (λ x us. Accepts l t us rest (end_of_map_on x)) e (none_opens l, no_arm l, behind)
+    by_row l t rest end_of_map_on e (none_opens l, no_arm l, behind)
 
 pub f_rows : StepsBy rows_on rows_form
 f_rows l t ts rest (zero, (m, none, inl ((m0, (p, e), (q0, a0, (q1, a1, (q2, a2, a3))))))) =
-    by_token (λ x us. Accepts l t us rest (rows_on x)) (none ∙ e)
+    by_row l t rest rows_on (none ∙ e)
     (none_opens l, no_arm l, (q0, a0, (q1, a1, (q2, a2, (rest, a3, refl)))))
 f_rows l t ts rest (zero, (m, none, inr (p, e))) =
-    by_token (λ x us. Accepts l t us rest (rows_on x)) (none ∙ e) (none_opens l, no_arm l, refl)
+    by_row l t rest rows_on (none ∙ e) (none_opens l, no_arm l, refl)
 f_rows l t ts rest (
   suc
       k,
   (m, (m1, (m0, (v, (p, e)), (q0, a0, (q1, a1, (q2, a2, a3)))), others), final),
 ) =
-    by_token (λ x us. Accepts l t us rest (rows_on x)) e (
+    by_row l t rest rows_on e (
       none_opens l,
       no_arm
           l,
@@ -75,7 +72,7 @@ f_perhaps_maps l t ts rest (zero, (m, none, (over, same))) =
     skipped l t ts rest (perhaps_maps_on t.lexeme)
     (subst (Next (λ x. IsOver (perhaps_maps_on x))) (sym none) over) (none ∙ same)
 f_perhaps_maps l t ts rest (suc k, (m, (m1, (m0, (p, e), (q0, a0, (q1, a1, a2))), others), final)) =
-    by_token (λ x us. Accepts l t us rest (perhaps_maps_on x)) e (
+    by_row l t rest perhaps_maps_on e (
       none_opens l,
       no_arm
           l,
@@ -86,68 +83,61 @@ pub f_parameter_type : StepsBy parameter_type_on parameter_type_form
 f_parameter_type l t ts rest (inl (over, same)) =
     skipped l t ts rest (parameter_type_on t.lexeme) over same
 f_parameter_type l t ts rest (inr (inl (m, (p, e), behind))) =
-    by_token (λ x us. Accepts l t us rest (parameter_type_on x)) e (none_opens l, no_arm l, behind)
+    by_row l t rest parameter_type_on e (none_opens l, no_arm l, behind)
 f_parameter_type l t ts rest (inr (inr (m, (p, e), behind))) =
-    by_token (λ x us. Accepts l t us rest (parameter_type_on x)) e (none_opens l, no_arm l, behind)
+    by_row l t rest parameter_type_on e (none_opens l, no_arm l, behind)
 
 pub f_header_parameter : StepsBy header_parameter_on header_parameter_form
 f_header_parameter l t ts rest (m, (p, e), behind) =
-    by_token (λ x us. Accepts l t us rest (header_parameter_on x)) e
-    (none_opens l, no_arm l, behind)
+    by_row l t rest header_parameter_on e (none_opens l, no_arm l, behind)
 
 pub f_later_header_parameter : StepsBy later_header_parameter_on later_header_parameter_form
 f_later_header_parameter l t ts rest (inl (m, (p, e), behind)) =
-    by_token (λ x us. Accepts l t us rest (later_header_parameter_on x)) e
-    (none_opens l, no_arm l, behind)
+    by_row l t rest later_header_parameter_on e (none_opens l, no_arm l, behind)
 f_later_header_parameter l t ts rest (inr (m, (x, (p, (free, e))), behind)) =
-    by_token (λ x us. Accepts l t us rest (later_header_parameter_on x)) e
+    by_row l t rest later_header_parameter_on e
     (unrefused l (punctuation signs.Equals ∷ expression 0 ∷ []) t m rest x free behind)
 
 pub f_more_header_parameters : StepsBy more_header_parameters_on more_header_parameters_form
 f_more_header_parameters l t ts rest (zero, (m, none, (p, e))) =
-    by_token (λ x us. Accepts l t us rest (more_header_parameters_on x)) (none ∙ e)
-    (none_opens l, no_arm l, refl)
+    by_row l t rest more_header_parameters_on (none ∙ e) (none_opens l, no_arm l, refl)
 f_more_header_parameters l t ts rest (suc k, (m, (m1, (m0, (p, e), a0), others), final)) =
-    by_token (λ x us. Accepts l t us rest (more_header_parameters_on x)) e
+    by_row l t rest more_header_parameters_on e
     (none_opens l, no_arm l, (m1, a0, (rest, (k, (m, others, final)), refl)))
 
 pub f_perhaps_wire_or_reg : StepsBy perhaps_wire_or_reg_on perhaps_wire_or_reg_form
 f_perhaps_wire_or_reg l t ts rest (inl (over, same)) =
     skipped l t ts rest (perhaps_wire_or_reg_on t.lexeme) over same
 f_perhaps_wire_or_reg l t ts rest (inr (inl (m, (p, e), behind))) =
-    by_token (λ x us. Accepts l t us rest (perhaps_wire_or_reg_on x)) e
-    (none_opens l, no_arm l, behind)
+    by_row l t rest perhaps_wire_or_reg_on e (none_opens l, no_arm l, behind)
 f_perhaps_wire_or_reg l t ts rest (inr (inr (m, (p, e), behind))) =
-    by_token (λ x us. Accepts l t us rest (perhaps_wire_or_reg_on x)) e
-    (none_opens l, no_arm l, behind)
+    by_row l t rest perhaps_wire_or_reg_on e (none_opens l, no_arm l, behind)
 
 pub f_label_end : StepsBy label_end_on label_end_form
 f_label_end l t ts rest (inl (m, (p, e), behind)) =
-    by_token (λ x us. Accepts l t us rest (label_end_on x)) e (none_opens l, no_arm l, behind)
+    by_row l t rest label_end_on e (none_opens l, no_arm l, behind)
 f_label_end l t ts rest (inr (m, (p, e), behind)) =
-    by_token (λ x us. Accepts l t us rest (label_end_on x)) e (none_opens l, no_arm l, behind)
+    by_row l t rest label_end_on e (none_opens l, no_arm l, behind)
 
 pub f_later_port : StepsBy later_port_on later_port_form
 f_later_port l t ts rest (inl (m, (p, e), behind)) =
-    by_token (λ x us. Accepts l t us rest (later_port_on x)) e (none_opens l, no_arm l, behind)
+    by_row l t rest later_port_on e (none_opens l, no_arm l, behind)
 f_later_port l t ts rest (inr (inl (m, (p, e), behind))) =
-    by_token (λ x us. Accepts l t us rest (later_port_on x)) e (none_opens l, no_arm l, behind)
+    by_row l t rest later_port_on e (none_opens l, no_arm l, behind)
 f_later_port l t ts rest (inr (inr (m, (x, (p, (free, e))), behind))) =
-    by_token (λ x us. Accepts l t us rest (later_port_on x)) e
-    (unrefused l [] t m rest x free behind)
+    by_row l t rest later_port_on e (unrefused l [] t m rest x free behind)
 
 pub f_more_ports : StepsBy more_ports_on more_ports_form
 f_more_ports l t ts rest (zero, (m, none, (p, e))) =
-    by_token (λ x us. Accepts l t us rest (more_ports_on x)) (none ∙ e)
-    (none_opens l, no_arm l, refl)
+    by_row l t rest more_ports_on (none ∙ e) (none_opens l, no_arm l, refl)
 f_more_ports l t ts rest (suc k, (m, (m1, (m0, (p, e), a0), others), final)) =
-    by_token (λ x us. Accepts l t us rest (more_ports_on x)) e
+    by_row l t rest more_ports_on e
     (none_opens l, no_arm l, (m1, a0, (rest, (k, (m, others, final)), refl)))
 
 pub f_ports : StepsBy ports_on ports_form
 f_ports l t ts rest (inl (m, (p, e), behind)) =
-    by_token (λ x us. Accepts l t us rest (ports_on x)) e (none_opens l, no_arm l, behind)
+    by_row l t rest ports_on e (none_opens l, no_arm l, behind)
 f_ports l t ts rest (inr (inl (m, (p, e), behind))) =
-    by_token (λ x us. Accepts l t us rest (ports_on x)) e (none_opens l, no_arm l, behind)
+    by_row l t rest ports_on e (none_opens l, no_arm l, behind)
 f_ports l t ts rest (inr (inr (m, (p, e), behind))) =
-    by_token (λ x us. Accepts l t us rest (ports_on x)) e (none_opens l, no_arm l, behind)
+    by_row l t rest ports_on e (none_opens l, no_arm l, behind)

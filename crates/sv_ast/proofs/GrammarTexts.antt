@@ -12,6 +12,7 @@ use Rattle.sv_ast.specs.Tree.{PlacedName, ItemTree, parameter_item, declared, me
 use Rattle.sv_ast.specs.Tree.{continuous, released, always_item, invariant_item, instance_item}
 use Rattle.sv_ast.specs.Tree.{KeyTree, TextTree}
 use Rattle.sv_ast.proofs.GrammarComputed.{read, text_of}
+use Rattle.sv_ast.proofs.SmallTrees.{declares}
 use Rattle.sv_ast.proofs.GrammarExamples.{at, plain, number, target, sets, a, b, c, d}
 
 -- a text of one module named m
@@ -37,16 +38,7 @@ placed x n = record { name = x; place = at n }
 
 -- a declaration without signedness, range, label and value
 abbrev plainly : DeclKind → List ℕ → ℕ → DeclarationTree
-plainly k x n =
-    record {
-      kind = k;
-      signed = false;
-      span = None;
-      label = None;
-      name = x;
-      place = at n;
-      value = None;
-    }
+plainly k x n = record (declares k None "") { name = x; place = at n }
 
 abbrev parameter_at : (local signed : Bool) → Option SpanTree → List ℕ → ℕ → ExpressionTree →
     ParameterTree

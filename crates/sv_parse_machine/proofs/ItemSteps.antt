@@ -6,8 +6,8 @@ use Rattle.sv_token.specs.Lexemes.{Lexeme, word, sign, Placed}
 use Rattle.sv_ast.specs.GrammarExpressions.{Limits}
 use Rattle.sv_parse_machine.specs.Symbols.{punctuation, plain_name, plain_number, expression}
 use Rattle.sv_parse_machine.specs.Symbols.{more_names, more_values, perhaps_second_name, items}
-use Rattle.sv_parse_machine.specs.Symbols.{behind_reg_name, value_or_release, more_assigned}
-use Rattle.sv_parse_machine.specs.Symbols.{perhaps_overrides, links, more_instances}
+use Rattle.sv_parse_machine.specs.Symbols.{behind_reg_name, value_or_release, later_assigned}
+use Rattle.sv_parse_machine.specs.Symbols.{more_assigned, perhaps_overrides, links, more_instances}
 use Rattle.sv_parse_machine.specs.ExpressionTable.{expression_on}
 use Rattle.sv_parse_machine.specs.StatementTable.{is_star, taken_if}
 use Rattle.sv_parse_machine.specs.ModuleTable.{more_parameters_on, more_wires_on}
@@ -31,7 +31,7 @@ use Rattle.sv_parse_machine.proofs.OuterForms.{more_named_overrides_form, overri
 use Rattle.sv_parse_machine.proofs.OuterForms.{more_named_links_form, links_form}
 use Rattle.sv_parse_machine.proofs.OuterForms.{more_instances_form, items_form, one_module_form}
 use Rattle.sv_parse_machine.proofs.OuterForms.{Accepts}
-use Rattle.sv_parse_machine.proofs.OuterTokens.{by_row, StepsBy, unrefused, f_begins}
+use Rattle.sv_parse_machine.proofs.OuterTokens.{by_row, f_commas, StepsBy, unrefused, f_begins}
 
 pub f_more_parameters : StepsBy more_parameters_on more_parameters_form
 f_more_parameters l t ts rest (zero, (m, none, (p, e))) =
@@ -99,11 +99,9 @@ f_later_assigned l t ts rest (inr (m, (p, e), behind)) =
     by_row l t rest later_assigned_on e (none_opens l, no_arm l, behind)
 
 pub f_more_assigned : StepsBy more_assigned_on more_assigned_form
-f_more_assigned l t ts rest (zero, (m, none, (p, e))) =
-    by_row l t rest more_assigned_on (none ∙ e) (none_opens l, no_arm l, refl)
-f_more_assigned l t ts rest (suc k, (m, (m1, (m0, (p, e), a0), others), final)) =
-    by_row l t rest more_assigned_on e
-    (none_opens l, no_arm l, (m1, a0, (rest, (k, (m, others, final)), refl)))
+f_more_assigned l t ts rest is =
+    f_commas more_assigned_on later_assigned more_assigned signs.Semicolon l t ts rest
+    refl refl (λ us is. is) is
 
 value_or_release_as_expression : (l : Limits) (t : Placed) (ts rest : List Placed) (x : Lexeme) →
     Accepts l t ts rest (expression_on 0 0 (more_assigned ∷ []) x) →

@@ -1,14 +1,15 @@
 -- Single steps outside expressions: names, operators, and the first token of an expression.
 use Rattle.std.proofs.Common.{◌≡◌, ℕ, zero, suc, Bool, true, false, not, List, [], ◌∷◌}
-use Rattle.std.proofs.Common.{Option, Some, refl, sym, subst}
+use Rattle.std.proofs.Common.{Option, Some, refl, sym, subst, ◌∙◌}
 use Rattle.std.specs.Prelude.{IsTrue}
 use Rattle.sv_num.specs.declared.operators.BinOp.{BinOp}
 use Rattle.sv_num.specs.declared.operators.BinOp.TheVariants.{Mul, Le}
 use Rattle.sv_num.specs.declared.faults.Place.{Place}
+use Rattle.sv_token.specs.declared.signs.SignKind.{SignKind}
 use Rattle.sv_token.specs.declared.signs.SignKind.TheVariants as signs
-use Rattle.sv_token.specs.Lexemes.{Lexeme, Placed}
+use Rattle.sv_token.specs.Lexemes.{Lexeme, sign, Placed}
 use Rattle.sv_token.specs.Words.{is_refused_word}
-use Rattle.sv_ast.specs.GrammarForms.{Form, ◌⨾◌, nothing, lexeme_at}
+use Rattle.sv_ast.specs.GrammarForms.{Form, ◌⨾◌, nothing, lexeme_at, a_sign}
 use Rattle.sv_ast.specs.GrammarExpressions.{Limits, is_within, read_tokens}
 use Rattle.sv_parse_machine.specs.Symbols.{operand, tail, Outer, punctuation, InnerReaction}
 use Rattle.sv_parse_machine.specs.Symbols.{takes_inner, over_inner, stuck_inner, OuterReaction, over}
@@ -22,7 +23,7 @@ use Rattle.sv_parse_machine.proofs.ReadSteps.{NotOver, operand_not_over}
 use Rattle.sv_parse_machine.proofs.InnerSteps.{placed, by_token, none_opens, no_arm, free_name, alone}
 use Rattle.sv_parse_machine.proofs.InnerSteps.{append_forms, split_forms, f_inner}
 use Rattle.sv_parse_machine.proofs.InnerForms.{b_inner, no_operand}
-use Rattle.sv_parse_machine.proofs.OuterForms.{IsOver, loop_form, outer_forms, Accepts}
+use Rattle.sv_parse_machine.proofs.OuterForms.{IsOver, loop_form, outer_form, outer_forms, Accepts}
 
 -- ---- what is shown of a symbol by its row of the table and its form
 
@@ -58,6 +59,22 @@ pub loop_goes_on : (row last : Form) (ts mid rest : List Placed) → row ts mid 
     (loop_form row last ⨾ nothing) mid rest → loop_form row last ts rest
 loop_goes_on row last ts mid rest first (ends, (k, (behind, others, final)), same) =
     subst (loop_form row last ts) same (suc k, (behind, (mid, first, others), final))
+
+-- further members of a list, each behind a comma
+pub f_commas : (on : Lexeme → OuterReaction) (z y : Outer) (s : SignKind) (l : Limits) (t : Placed)
+    (ts rest : List Placed)
+    → on (sign s) ≡ takes_all [] → on (sign signs.Comma) ≡ takes_all (z ∷ y ∷ [])
+    → ((us : List Placed) → loop_form (a_sign signs.Comma ⨾ outer_form l z) (a_sign s) us rest
+    → outer_form l y us rest)
+    → loop_form (a_sign signs.Comma ⨾ outer_form l z) (a_sign s) (t ∷ ts) rest
+    → Accepts l t ts rest (on t.lexeme)
+f_commas on z y s l t ts rest ends goes_on as_y (zero, (m, none, (p, e))) =
+    by_row l t rest on (none ∙ e)
+    (subst (Accepts l t rest rest) (sym ends) (none_opens l, no_arm l, refl))
+f_commas on z y s l t ts rest ends goes_on as_y
+    (suc k, (m, (m1, (m0, (p, e), first), others), final)) =
+    by_row l t rest on e (subst (Accepts l t m0 rest) (sym goes_on)
+    (none_opens l, no_arm l, (m1, first, (rest, as_y m1 (k, (m, others, final)), refl))))
 
 -- ---- names and operators
 

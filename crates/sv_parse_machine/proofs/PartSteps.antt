@@ -4,12 +4,13 @@ use Rattle.sv_num.specs.declared.faults.Place.{Place}
 use Rattle.sv_token.specs.declared.signs.SignKind.TheVariants as signs
 use Rattle.sv_token.specs.Lexemes.{Lexeme, sign, Placed}
 use Rattle.sv_ast.specs.GrammarExpressions.{Limits}
+use Rattle.sv_parse_machine.specs.Symbols.{expression, more_choices}
 use Rattle.sv_parse_machine.specs.StatementTable.{bits_end_on, more_targets_on, more_choices_on}
 use Rattle.sv_parse_machine.proofs.InnerSteps.{placed, no_token, none_opens, no_arm}
 use Rattle.sv_parse_machine.proofs.InnerForms.{last_token}
 use Rattle.sv_parse_machine.proofs.OuterForms.{bits_end_form, more_targets_form, more_choices_form}
 use Rattle.sv_parse_machine.proofs.OuterForms.{Accepts}
-use Rattle.sv_parse_machine.proofs.OuterTokens.{by_row}
+use Rattle.sv_parse_machine.proofs.OuterTokens.{by_row, f_commas}
 
 pub f_bits_end : (l : Limits) (n : ℕ) (t : Placed) (ts rest : List Placed) →
     bits_end_form l n (t ∷ ts) rest → Accepts l t ts rest (bits_end_on n t.lexeme)
@@ -61,11 +62,9 @@ none_more_targets l n rest (suc k, (m, (m1, (m0, (p, e), behind), others), final
 
 pub f_more_choices : (l : Limits) (n : ℕ) (t : Placed) (ts rest : List Placed) →
     more_choices_form l n (t ∷ ts) rest → Accepts l t ts rest (more_choices_on n t.lexeme)
-f_more_choices l n t ts rest (zero, (m, none, (p, e))) =
-    by_row l t rest (more_choices_on n) (none ∙ e) (none_opens l, no_arm l, refl)
-f_more_choices l n t ts rest (suc k, (m, (m1, (m0, (p, e), a0), others), final)) =
-    by_row l t rest (more_choices_on n) e
-    (none_opens l, no_arm l, (m1, a0, (rest, (k, (m, others, final)), refl)))
+f_more_choices l n t ts rest is =
+    f_commas (more_choices_on n) (expression n) (more_choices n) signs.Colon l t ts rest
+    refl refl (λ us is. is) is
 
 pub b_more_choices : (l : Limits) (n : ℕ) (x : Lexeme) (p : Place) (ts rest : List Placed) →
     Accepts l (placed x p) ts rest (more_choices_on n x) →

@@ -2,7 +2,9 @@
 use Rattle.std.proofs.Common.{zero, suc, [], ◌∷◌, inl, inr, refl, sym, subst, ◌∙◌}
 use Rattle.sv_token.specs.declared.signs.SignKind.TheVariants as signs
 use Rattle.sv_parse_machine.specs.Symbols.{punctuation, plain_name, plain_number, expression}
-use Rattle.sv_parse_machine.specs.Symbols.{lattice_lines, less_equal}
+use Rattle.sv_parse_machine.specs.Symbols.{more_values, lattice_lines, less_equal}
+use Rattle.sv_parse_machine.specs.Symbols.{later_header_parameter, more_header_parameters}
+use Rattle.sv_parse_machine.specs.Symbols.{later_port, more_ports}
 use Rattle.sv_parse_machine.specs.StatementTable.{more_values_on}
 use Rattle.sv_parse_machine.specs.ModuleTable.{lattice_lines_on, map_name_on, end_of_map_on}
 use Rattle.sv_parse_machine.specs.ModuleTable.{rows_on, perhaps_maps_on, parameter_type_on}
@@ -18,14 +20,12 @@ use Rattle.sv_parse_machine.proofs.OuterForms.{header_parameter_form, later_head
 use Rattle.sv_parse_machine.proofs.OuterForms.{more_header_parameters_form}
 use Rattle.sv_parse_machine.proofs.OuterForms.{perhaps_wire_or_reg_form, label_end_form}
 use Rattle.sv_parse_machine.proofs.OuterForms.{later_port_form, more_ports_form, ports_form}
-use Rattle.sv_parse_machine.proofs.OuterTokens.{by_row, StepsBy, unrefused, skipped}
+use Rattle.sv_parse_machine.proofs.OuterTokens.{by_row, f_commas, StepsBy, unrefused, skipped}
 
 pub f_more_values : StepsBy more_values_on more_values_form
-f_more_values l t ts rest (zero, (m, none, (p, e))) =
-    by_row l t rest more_values_on (none ∙ e) (none_opens l, no_arm l, refl)
-f_more_values l t ts rest (suc k, (m, (m1, (m0, (p, e), a0), others), final)) =
-    by_row l t rest more_values_on e
-    (none_opens l, no_arm l, (m1, a0, (rest, (k, (m, others, final)), refl)))
+f_more_values l t ts rest is =
+    f_commas more_values_on (expression 0) more_values signs.CloseParenthesis l t ts rest
+    refl refl (λ us is. is) is
 
 pub f_lattice_lines : StepsBy lattice_lines_on lattice_lines_form
 f_lattice_lines l t ts rest (zero, (m, none, (p, e))) =
@@ -99,11 +99,9 @@ f_later_header_parameter l t ts rest (inr (m, (x, (p, (free, e))), behind)) =
     (unrefused l (punctuation signs.Equals ∷ expression 0 ∷ []) t m rest x free behind)
 
 pub f_more_header_parameters : StepsBy more_header_parameters_on more_header_parameters_form
-f_more_header_parameters l t ts rest (zero, (m, none, (p, e))) =
-    by_row l t rest more_header_parameters_on (none ∙ e) (none_opens l, no_arm l, refl)
-f_more_header_parameters l t ts rest (suc k, (m, (m1, (m0, (p, e), a0), others), final)) =
-    by_row l t rest more_header_parameters_on e
-    (none_opens l, no_arm l, (m1, a0, (rest, (k, (m, others, final)), refl)))
+f_more_header_parameters l t ts rest is =
+    f_commas more_header_parameters_on later_header_parameter more_header_parameters
+    signs.CloseParenthesis l t ts rest refl refl (λ us is. is) is
 
 pub f_perhaps_wire_or_reg : StepsBy perhaps_wire_or_reg_on perhaps_wire_or_reg_form
 f_perhaps_wire_or_reg l t ts rest (inl (over, same)) =
@@ -128,11 +126,9 @@ f_later_port l t ts rest (inr (inr (m, (x, (p, (free, e))), behind))) =
     by_row l t rest later_port_on e (unrefused l [] t m rest x free behind)
 
 pub f_more_ports : StepsBy more_ports_on more_ports_form
-f_more_ports l t ts rest (zero, (m, none, (p, e))) =
-    by_row l t rest more_ports_on (none ∙ e) (none_opens l, no_arm l, refl)
-f_more_ports l t ts rest (suc k, (m, (m1, (m0, (p, e), a0), others), final)) =
-    by_row l t rest more_ports_on e
-    (none_opens l, no_arm l, (m1, a0, (rest, (k, (m, others, final)), refl)))
+f_more_ports l t ts rest is =
+    f_commas more_ports_on later_port more_ports signs.CloseParenthesis l t ts rest
+    refl refl (λ us is. is) is
 
 pub f_ports : StepsBy ports_on ports_form
 f_ports l t ts rest (inl (m, (p, e), behind)) =

@@ -31,14 +31,11 @@ flows true b = b
 abbrev pub is_input : Wire → Bool
 is_input mode = true
 is_input secret = true
-is_input copy = false
-is_input kept = false
+is_input _ = false
 
 abbrev pub is_register : Wire → Bool
-is_register mode = false
-is_register secret = false
-is_register copy = false
 is_register kept = true
+is_register _ = false
 
 abbrev pub label : Wire → (Wire → ℕ) → Bool
 label mode e = false

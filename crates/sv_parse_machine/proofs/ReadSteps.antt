@@ -1,28 +1,25 @@
 -- How reading is put together: one token, one after the other, and what is read in front of other
 -- symbols.
 use Rattle.std.proofs.Common.{◌≡◌, ℕ, ◌+◌, ◌-◌, ◌<◌, ◌≤◌, max, Bool, true, false, ◌&&◌, List, []}
-use Rattle.std.proofs.Common.{◌∷◌, ◌++◌, length, Option, Some, None, refl, sym, ap, ◌∙◌}
+use Rattle.std.proofs.Common.{◌∷◌, ◌++◌, length, Some, refl, sym, ap, ◌∙◌}
 use Rattle.std.proofs.Common.{append_assoc, arith}
 use Rattle.std.proofs.lemmas.Bool.{false≢true}
-use Rattle.sv_num.specs.declared.operators.UnOp.{UnOp}
-use Rattle.sv_token.specs.declared.signs.SignKind.TheVariants as signs
 use Rattle.std.proofs.lemmas.List.{length-map}
 use Rattle.sv_token.specs.declared.tokens.Token.{Token}
-use Rattle.sv_token.specs.Lexemes.{Lexeme, identifier, sign, Placed, placed_of, placed_tokens}
-use Rattle.sv_token.specs.Words.{is_refused_word}
-use Rattle.sv_ast.specs.GrammarForms.{unary_operator}
+use Rattle.sv_token.specs.Lexemes.{Lexeme, Placed, placed_of, placed_tokens}
 use Rattle.sv_ast.specs.GrammarExpressions.{is_within}
 use Rattle.sv_ast.specs.GrammarRules.{all_limits}
 use Rattle.sv_parse_machine.specs.Symbols.{Inner, operand, tail, Outer, expression, Symbol, inner, outer}
 use Rattle.sv_parse_machine.specs.Symbols.{State, Expected, InnerReaction, takes_inner, over_inner, stuck_inner}
 use Rattle.sv_parse_machine.specs.Symbols.{OuterReaction, takes, over, stuck}
-use Rattle.sv_parse_machine.specs.ExpressionTable.{name_operand, prefix_operand, operand_on, inner_on}
+use Rattle.sv_parse_machine.specs.ExpressionTable.{operand_on, inner_on}
 use Rattle.sv_parse_machine.specs.ExpressionTable.{as_expression, expression_on}
 use Rattle.sv_parse_machine.specs.Machine.{outer_on, Step, goes, fails_as, Failure, stuck_at, too_deep}
 use Rattle.sv_parse_machine.specs.Machine.{too_long, ends_early, within_limits, inside_on, outside_on}
 use Rattle.sv_parse_machine.specs.Machine.{tokens_of, after_inner, after_outer, step, Outcome, fails}
 use Rattle.sv_parse_machine.specs.Machine.{may_be_empty, ended, at_end, go_on, run}
 use Rattle.sv_parse_machine.specs.Reads.{Reads, Halts}
+use Rattle.sv_parse_machine.proofs.AgreedRows.{PlainlyStuck, operand_is_plain}
 use Rattle.sv_parse_machine.proofs.ExpressionForms.{Next}
 
 -- ---- one after the other
@@ -267,18 +264,13 @@ abbrev pub NotOver : InnerReaction → Type 0
 NotOver over_inner = ⊥
 NotOver r = Unit {0}
 
-name_not_over : (n : ℕ) (b : Bool) → NotOver (name_operand n b)
-name_not_over n true = tt
-name_not_over n false = tt
-
-prefix_not_over : (n : ℕ) (u : Option UnOp) → NotOver (prefix_operand n u)
-prefix_not_over n None = tt
-prefix_not_over n (Some op) = tt
+plain_is_not_over : (r : InnerReaction) → PlainlyStuck r → NotOver r
+plain_is_not_over (takes_inner level xs) plain = tt
+plain_is_not_over over_inner plain = absurd plain
+plain_is_not_over (stuck_inner e) plain = tt
 
 pub operand_not_over : (n : ℕ) (x : Lexeme) → NotOver (operand_on n x)
-operand_not_over n (identifier y) = name_not_over n (is_refused_word y)
-operand_not_over n (sign (signs.Operator o)) = prefix_not_over n (unary_operator o)
-operand_not_over n x = tt
+operand_not_over n x = plain_is_not_over (operand_on n x) (operand_is_plain n x)
 
 begun_step : (n arm : ℕ) (ys : List Outer) (a : ℕ) (below : State) (skip other : Step)
     (r : InnerReaction) → NotOver r → arm ≤ 256

@@ -92,7 +92,7 @@ takes_token y ys t ts e = record {
 within : (n most : ℕ) → n ≤ most → is_within (Some most) n ≡ true
 within n most less = grind arith
 
-beyond : (n most : ℕ) → most < n → is_within (Some most) n ≡ false
+pub beyond : (n most : ℕ) → most < n → is_within (Some most) n ≡ false
 beyond n most more = grind arith
 
 -- it opens a level

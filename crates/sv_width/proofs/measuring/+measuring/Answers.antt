@@ -29,7 +29,7 @@ use Rattle.sv_width.specs.Answers.{IsBreach}
 use Rattle.sv_width.specs.Scopes.{Known, names_of}
 use Rattle.sv_width.specs.Settings.{names_in, reach_names, is_constant}
 use Rattle.sv_width.specs.Measured as measured
-use Rattle.sv_width.specs.Measured.{MeasuredTree, MeasuredTrees, more_parts, own_form, measured_of}
+use Rattle.sv_width.specs.Measured.{MeasuredTree, more_parts, own_form, measured_of}
 use Rattle.sv_width.specs.Measured.{measured_parts}
 use Rattle.sv_width.specs.Outcomes.{binary_own, replication_steps, IsMeasure}
 use Rattle.sv_width.specs.Pushed.{divisors_of}

@@ -3,7 +3,7 @@ use Rattle.std.proofs.lemmas.List.{map_push, at_drop_all}
 use Rattle.std.proofs.lemmas.Result.{err_from_is_err_and}
 use Rattle.sv_system.proofs.Fronts.{left_more, before, before_push, before_end}
 use Rattle.sv_flat.specs.Design as flat
-use Rattle.sv_flat.specs.Design.{TypedTree, TypedTrees, typed}
+use Rattle.sv_flat.specs.Design.{TypedTree, typed}
 use Rattle.sv_flat.specs.Views.{typed_tree, typed_trees, parts_of as typed_row}
 use Rattle.sv_flat.specs.Views.{row_parts as flat_parts}
 use Rattle.sv_flat.specs.declared.expressions.FNode.TheBlock.{hidden-the_row-FExpr-0}

@@ -291,15 +291,12 @@ lanes = record {
       ∷ [];
 }
 
-pub the_selector_inside : labels (system lanes None) (paths_are (("u.turn", 1) ∷ []))
-    ≡ names "L L L H"
+pub the_selector_is_inside : map (λ (s : String).
+    labels (system lanes None) (paths_are ((s, 1) ∷ [])))
+    ("u.turn" ∷ "turn" ∷ [])
+    ≡ names "L L L H" ∷ names "L L L L" ∷ []
 unfolding system parts_from
-the_selector_inside = refl
-
-pub the_selector_outside : labels (system lanes None) (paths_are (("turn", 1) ∷ []))
-    ≡ names "L L L L"
-unfolding system parts_from
-the_selector_outside = refl
+the_selector_is_inside = refl
 
 -- the empty link is no process
 pub one_link : length (system lanes None).processes ≡ 1

@@ -1,6 +1,6 @@
 -- What the tokens of expressions and statements mean, by examples: each tree is the one that the
 -- reader finds, and its type says that the relation holds of what it finds.
-use Rattle.std.proofs.Common.{◌≡◌, ℕ, true, false, List, [], ◌∷◌, ◌++◌, Option, Some, refl}
+use Rattle.std.proofs.Common.{◌≡◌, ℕ, true, false, List, [], ◌∷◌, ◌++◌, map, Option, Some, refl}
 use Rattle.std.specs.Prelude.{codes, option_map, flat_map, replicate, is_some}
 use Rattle.sv_num.specs.declared.faults.Place.{Place}
 use Rattle.sv_num.specs.declared.operators.UnOp.TheVariants as unop
@@ -211,21 +211,15 @@ abbrev names_joined : ℕ → List ℕ
 names_joined n = codes "a" ++ flat_map (λ p. p) (replicate n (codes "|a"))
 
 -- 1,023 tokens are few enough, and 1,025 are too many
-pub tokens_up_to_1024 : is_some (expression_of (names_joined 511)) ≡ true
+pub tokens_up_to_1024 : map (λ n. is_some (expression_of (names_joined n))) (511 ∷ 512 ∷ [])
+    ≡ true ∷ false ∷ []
 unfolding read
 tokens_up_to_1024 = refl
-
-pub no_1025_tokens : is_some (expression_of (names_joined 512)) ≡ false
-unfolding read
-no_1025_tokens = refl
 
 abbrev arms_of : ℕ → List ℕ
 arms_of n = codes "case (a) " ++ flat_map (λ p. p) (replicate n (codes "b: ; ")) ++ codes "endcase"
 
-pub arms_up_to_256 : is_some (statement_of (arms_of 256)) ≡ true
+pub arms_up_to_256 : map (λ n. is_some (statement_of (arms_of n))) (256 ∷ 257 ∷ [])
+    ≡ true ∷ false ∷ []
 unfolding read
 arms_up_to_256 = refl
-
-pub no_257_arms : is_some (statement_of (arms_of 257)) ≡ false
-unfolding read
-no_257_arms = refl

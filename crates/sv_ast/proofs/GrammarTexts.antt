@@ -1,16 +1,18 @@
 -- What the tokens of whole texts mean, by examples.
-use Rattle.std.proofs.Common.{◌≡◌, ℕ, true, false, List, [], ◌∷◌, Option, Some, None, refl}
+use Rattle.std.proofs.Common.{◌≡◌, ℕ, Bool, true, false, List, [], ◌∷◌, Option, Some, None, refl}
 use Rattle.std.specs.Prelude.{codes}
 use Rattle.sv_num.specs.declared.operators.BinOp.TheVariants as binop
 use Rattle.sv_ast.specs.declared.declarations.DeclKind.{DeclKind}
 use Rattle.sv_ast.specs.declared.declarations.DeclKind.TheVariants as kinds
 use Rattle.sv_ast.specs.Tree.{ExpressionTree, binary, whole, SpanTree, point_label, table_label}
 use Rattle.sv_ast.specs.Tree.{DeclarationTree, ParameterTree, by_index, null, assignment, if_else}
-use Rattle.sv_ast.specs.Tree.{named_overrides, ordered_overrides, named_links, ordered_links}
+use Rattle.sv_ast.specs.Tree.{OverrideTrees, named_overrides, ordered_overrides, LinkTrees, named_links}
+use Rattle.sv_ast.specs.Tree.{ordered_links}
 use Rattle.sv_ast.specs.Tree.{PlacedName, ItemTree, parameter_item, declared, memory_item}
 use Rattle.sv_ast.specs.Tree.{continuous, released, always_item, invariant_item, instance_item}
 use Rattle.sv_ast.specs.Tree.{KeyTree, TextTree}
 use Rattle.sv_ast.proofs.GrammarComputed.{read, text_of}
+use Rattle.sv_ast.proofs.SmallTrees.{declares}
 use Rattle.sv_ast.proofs.GrammarExamples.{at, plain, number, target, sets, a, b, c, d}
 
 -- a text of one module named m
@@ -36,16 +38,23 @@ placed x n = record { name = x; place = at n }
 
 -- a declaration without signedness, range, label and value
 abbrev plainly : DeclKind → List ℕ → ℕ → DeclarationTree
-plainly k x n =
-    record {
-      kind = k;
-      signed = false;
-      span = None;
-      label = None;
-      name = x;
+plainly k x n = record (declares k None "") { name = x; place = at n }
+
+abbrev parameter_at : (local signed : Bool) → Option SpanTree → List ℕ → ℕ → ExpressionTree →
+    ParameterTree
+parameter_at local signed range x n e =
+    record { local = local; signed = signed; span = range; name = x; place = at n; value = e }
+
+abbrev instance_at : List ℕ → ℕ → OverrideTrees → List ℕ → ℕ → LinkTrees → ItemTree
+instance_at master n overrides x m links =
+    instance_item (record {
+      master = master;
       place = at n;
-      value = None;
-    }
+      overrides = overrides;
+      name = x;
+      name_place = at m;
+      links = links;
+    })
 
 -- ---- headers
 
@@ -57,28 +66,18 @@ pub no_ports : text_of (codes "module m(); endmodule") ≡ Some (module_m [] [] 
 unfolding read
 no_ports = refl
 
+abbrev high_output : List ℕ → ℕ → DeclarationTree
+high_output x n =
+    record (plainly kinds.OutputWire x n) {
+      signed = true;
+      span = span (number 1 25) (number 0 27);
+      label = Some (point_label (codes "H") (at 31));
+    }
+
 -- a name alone takes kind, signedness, range and label of the port before it
 pub ports : text_of (codes "module m(output signed [1:0] {H} a, b, input c); endmodule")
     ≡ Some (module_m []
-    (record {
-      kind = kinds.OutputWire;
-      signed = true;
-      span = span (number 1 25) (number 0 27);
-      label = Some (point_label (codes "H") (at 31));
-      name = codes "a";
-      place = at 34;
-      value = None;
-    }
-    ∷ record {
-      kind = kinds.OutputWire;
-      signed = true;
-      span = span (number 1 25) (number 0 27);
-      label = Some (point_label (codes "H") (at 31));
-      name = codes "b";
-      place = at 37;
-      value = None;
-    }
-    ∷ plainly kinds.Input (codes "c") 46
+    (high_output (codes "a") 34 ∷ high_output (codes "b") 37 ∷ plainly kinds.Input (codes "c") 46
     ∷ [])
     [])
 unfolding read
@@ -89,30 +88,9 @@ ports = refl
 pub header_parameters :
     text_of (codes "module m #(parameter signed [3:0] A = 1, B = 2, parameter C = 3); endmodule")
     ≡ Some (module_m
-    (record {
-      local = false;
-      signed = true;
-      span = span (number 3 30) (number 0 32);
-      name = codes "A";
-      place = at 35;
-      value = number 1 39;
-    }
-    ∷ record {
-      local = false;
-      signed = true;
-      span = span (number 3 30) (number 0 32);
-      name = codes "B";
-      place = at 42;
-      value = number 2 46;
-    }
-    ∷ record {
-      local = false;
-      signed = false;
-      span = None;
-      name = codes "C";
-      place = at 59;
-      value = number 3 63;
-    }
+    (parameter_at false true (span (number 3 30) (number 0 32)) (codes "A") 35 (number 1 39)
+    ∷ parameter_at false true (span (number 3 30) (number 0 32)) (codes "B") 42 (number 2 46)
+    ∷ parameter_at false false None (codes "C") 59 (number 3 63)
     ∷ [])
     [] [])
 unfolding read
@@ -123,40 +101,15 @@ header_parameters = refl
 pub later_names : text_of
     (codes "module m; wire [1:0] a = 1, b; localparam A = 2, B = 3; endmodule")
     ≡ Some (module_m [] []
-    (declared (record {
-      kind = kinds.Wire;
-      signed = false;
+    (declared (record (plainly kinds.Wire (codes "a") 22) {
       span = span (number 1 17) (number 0 19);
-      label = None;
-      name = codes "a";
-      place = at 22;
       value = Some (number 1 26);
     })
-    ∷ declared (record {
-      kind = kinds.Wire;
-      signed = false;
+    ∷ declared (record (plainly kinds.Wire (codes "b") 29) {
       span = span (number 1 17) (number 0 19);
-      label = None;
-      name = codes "b";
-      place = at 29;
-      value = None;
     })
-    ∷ parameter_item (record {
-      local = true;
-      signed = false;
-      span = None;
-      name = codes "A";
-      place = at 43;
-      value = number 2 47;
-    })
-    ∷ parameter_item (record {
-      local = true;
-      signed = false;
-      span = None;
-      name = codes "B";
-      place = at 50;
-      value = number 3 54;
-    })
+    ∷ parameter_item (parameter_at true false None (codes "A") 43 (number 2 47))
+    ∷ parameter_item (parameter_at true false None (codes "B") 50 (number 3 54))
     ∷ []))
 unfolding read
 later_names = refl
@@ -180,39 +133,18 @@ pub processes : text_of
 unfolding read
 processes = refl
 
+abbrev w_is_4 : OverrideTrees
+w_is_4 = named_overrides (record { name = codes "W"; place = at 16; value = number 4 18 } ∷ [])
+
 -- links by name, one of them to nothing, and by order; later instances take module and overrides of
 -- the one before
 pub instances : text_of (codes "module m; n #(.W(4)) u(.x(), .y(c)), v(c, d); n w(); endmodule")
     ≡ Some (module_m [] []
-    (instance_item (record {
-      master = codes "n";
-      place = at 11;
-      overrides =
-          named_overrides (record { name = codes "W"; place = at 16; value = number 4 18 } ∷ []);
-      name = codes "u";
-      name_place = at 22;
-      links = named_links
-          (record { name = codes "x"; place = at 25; value = None }
-          ∷ record { name = codes "y"; place = at 31; value = Some (c 33) }
-          ∷ []);
-    })
-    ∷ instance_item (record {
-      master = codes "n";
-      place = at 11;
-      overrides =
-          named_overrides (record { name = codes "W"; place = at 16; value = number 4 18 } ∷ []);
-      name = codes "v";
-      name_place = at 38;
-      links = ordered_links (c 40 ∷ d 43 ∷ []);
-    })
-    ∷ instance_item (record {
-      master = codes "n";
-      place = at 47;
-      overrides = ordered_overrides [];
-      name = codes "w";
-      name_place = at 49;
-      links = ordered_links [];
-    })
+    (instance_at (codes "n") 11 w_is_4 (codes "u") 22
+    (named_links (record { name = codes "x"; place = at 25; value = None }
+    ∷ record { name = codes "y"; place = at 31; value = Some (c 33) } ∷ []))
+    ∷ instance_at (codes "n") 11 w_is_4 (codes "v") 38 (ordered_links (c 40 ∷ d 43 ∷ []))
+    ∷ instance_at (codes "n") 47 (ordered_overrides []) (codes "w") 49 (ordered_links [])
     ∷ []))
 unfolding read
 instances = refl
@@ -304,23 +236,11 @@ maps_of_two_ranges = refl
 -- labels by two signals and by one
 pub labels_by_signals : text_of (codes "module m; wire {T(p, q)} a; wire {U(p)} b; endmodule")
     ≡ Some (module_m [] []
-    (declared (record {
-      kind = kinds.Wire;
-      signed = false;
-      span = None;
+    (declared (record (plainly kinds.Wire (codes "a") 26) {
       label = Some (table_label (codes "T") (codes "p") (Some (codes "q")) (at 17));
-      name = codes "a";
-      place = at 26;
-      value = None;
     })
-    ∷ declared (record {
-      kind = kinds.Wire;
-      signed = false;
-      span = None;
+    ∷ declared (record (plainly kinds.Wire (codes "b") 41) {
       label = Some (table_label (codes "U") (codes "p") None (at 35));
-      name = codes "b";
-      place = at 41;
-      value = None;
     })
     ∷ []))
 unfolding read

@@ -31,17 +31,15 @@ with_lattice ps qs = record { lattice = Some (lattice_with ps qs); maps = []; mo
 abbrev flow : TextTree → String → String → Bool
 flow text a b = flows text (codes a) (codes b)
 
+abbrev all_flows : TextTree → List (String × String) → List Bool
+all_flows text qs = map (λ (q : String × String). flow text q.0 q.1) qs
+
 pub points_without_a_lattice : points plain ≡ names "L H"
 points_without_a_lattice = refl
 
-pub low_flows_to_high : flow plain "L" "H" ≡ true
-low_flows_to_high = refl
-
-pub high_does_not_flow_to_low : flow plain "H" "L" ≡ false
+pub high_does_not_flow_to_low :
+    all_flows plain (("L", "H") ∷ ("H", "L") ∷ ("H", "H") ∷ []) ≡ true ∷ false ∷ true ∷ []
 high_does_not_flow_to_low = refl
-
-pub high_flows_to_itself : flow plain "H" "H" ≡ true
-high_flows_to_itself = refl
 
 pub low_is_least : least plain ≡ codes "L"
 low_is_least = refl
@@ -133,14 +131,10 @@ diamond =
     with_lattice ("P" ∷ "Q" ∷ "R" ∷ "T" ∷ [])
     (("P", "Q") ∷ ("P", "R") ∷ ("Q", "T") ∷ ("R", "T") ∷ [])
 
-pub two_pairs_lead_on : flow diamond "P" "T" ≡ true
-two_pairs_lead_on = refl
-
-pub beside_each_other : flow diamond "Q" "R" ≡ false
-beside_each_other = refl
-
-pub not_downwards : flow diamond "T" "Q" ≡ false
-not_downwards = refl
+-- two pairs lead on, and none beside or downwards
+pub flows_upwards :
+    all_flows diamond (("P", "T") ∷ ("Q", "R") ∷ ("T", "Q") ∷ []) ≡ true ∷ false ∷ false ∷ []
+flows_upwards = refl
 
 pub the_least_of_four : least diamond ≡ codes "P"
 the_least_of_four = refl

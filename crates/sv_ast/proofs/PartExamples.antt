@@ -1,5 +1,6 @@
 -- Instances, links, clocks and processes of small modules.
-use Rattle.std.proofs.Common.{◌≡◌, true, false, List, [], ◌∷◌, Some, None, map, refl}
+use Prim.Native.String.{String}
+use Rattle.std.proofs.Common.{◌≡◌, ℕ, true, false, List, [], ◌∷◌, Some, None, map, refl}
 use Rattle.std.specs.Prelude.{codes, filter, flat_map, is_some}
 use Rattle.sv_num.specs.declared.operators.UnOp.TheVariants as unop
 use Rattle.sv_num.specs.declared.operators.BinOp.TheVariants as binop
@@ -159,23 +160,13 @@ second_leaf = part_with (path "b.u") [] leaf
 abbrev copies : StatementTree
 copies = gets "q" (name "d")
 
-pub its_own_signal_changes :
-    changed_by second_leaf copies (paths_are (("b.u.d", 1) ∷ [])) (path "b.u.q")
-    ≡ 1
+-- no other instance is read, and none changes
+pub its_own_signal_changes : map (λ (p : String × String).
+    changed_by second_leaf copies (paths_are ((p.0, 1) ∷ [])) (path p.1))
+    (("b.u.d", "b.u.q") ∷ ("a.u.d", "b.u.q") ∷ ("b.u.d", "a.u.q") ∷ [])
+    ≡ 1 ∷ 0 ∷ 0 ∷ []
 unfolding run value signed_of
 its_own_signal_changes = refl
-
-pub another_instance_is_not_read :
-    changed_by second_leaf copies (paths_are (("a.u.d", 1) ∷ [])) (path "b.u.q")
-    ≡ 0
-unfolding run value signed_of
-another_instance_is_not_read = refl
-
-pub another_instance_does_not_change :
-    changed_by second_leaf copies (paths_are (("b.u.d", 1) ∷ [])) (path "a.u.q")
-    ≡ 0
-unfolding run value signed_of
-another_instance_does_not_change = refl
 
 pub an_update_of_its_own_signal :
     updates_by second_leaf (gets_later "q" (name "d")) (paths_are (("b.u.d", 1) ∷ []))
@@ -256,24 +247,21 @@ pub an_input_is_cut :
 unfolding value signed_of
 an_input_is_cut = refl
 
-pub an_output_without_a_sign :
-    link_out (port_with (output (bits 4) "o") (name "n")) (codes "n") (paths_are (("u.o", 8) ∷ []))
-    (path "n")
-    ≡ 0x08
+-- what an output `o` of the value carries to the name outside
+abbrev carried_out : DeclarationTree → String → ℕ → ℕ
+carried_out d n v =
+    link_out (port_with d (name n)) (codes n) (paths_are (("u.o", v) ∷ [])) (path n)
+
+pub an_output_without_a_sign : carried_out (output (bits 4) "o") "n" 8 ≡ 0x08
 unfolding value signed_of
 an_output_without_a_sign = refl
 
 pub an_output_with_a_sign :
-    link_out (port_with (declaration_with kind.OutputWire true (bits 4) None "o") (name "n"))
-    (codes "n") (paths_are (("u.o", 8) ∷ [])) (path "n")
-    ≡ 0xf8
+    carried_out (declaration_with kind.OutputWire true (bits 4) None "o") "n" 8 ≡ 0xf8
 unfolding value signed_of
 an_output_with_a_sign = refl
 
-pub an_output_is_cut :
-    link_out (port_with (output (bits 4) "o") (name "m")) (codes "m") (paths_are (("u.o", 14) ∷ []))
-    (path "m")
-    ≡ 2
+pub an_output_is_cut : carried_out (output (bits 4) "o") "m" 14 ≡ 2
 unfolding value signed_of
 an_output_is_cut = refl
 

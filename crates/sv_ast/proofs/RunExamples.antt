@@ -34,17 +34,11 @@ abbrev nested : StatementTree
 nested = either (name "a") (either (name "b") (gets "y" (decimal_of 1)) (gets "y" (decimal_of 2)))
     (gets "y" (decimal_of 3))
 
-pub both_hold : after bits_and_y (("a", 1) ∷ ("b", 1) ∷ []) nested "y" ≡ 1
+pub each_if_with_its_else : map (λ (v : ℕ × ℕ).
+    after bits_and_y (("a", v.0) ∷ ("b", v.1) ∷ []) nested "y") ((1, 1) ∷ (1, 0) ∷ (0, 1) ∷ [])
+    ≡ 1 ∷ 2 ∷ 3 ∷ []
 unfolding run value signed_of
-both_hold = refl
-
-pub the_nearest_else : after bits_and_y (("a", 1) ∷ ("b", 0) ∷ []) nested "y" ≡ 2
-unfolding run value signed_of
-the_nearest_else = refl
-
-pub the_outer_else : after bits_and_y (("a", 0) ∷ ("b", 1) ∷ []) nested "y" ≡ 3
-unfolding run value signed_of
-the_outer_else = refl
+each_if_with_its_else = refl
 
 -- an `if` without `else`, whose condition is 0
 pub nothing_else :
@@ -177,13 +171,10 @@ sum_scope = signals_are (("a", 4) ∷ ("b", 4) ∷ ("s", 4) ∷ ("c", 1) ∷ ("p
 abbrev carry_and_sum : StatementTree
 carry_and_sum = puts (to "c" ∷ to "s" ∷ []) (op binop.Add (name "a") (name "b"))
 
-pub the_last_target_is_lowest : after sum_scope (("a", 15) ∷ ("b", 2) ∷ []) carry_and_sum "s" ≡ 1
+pub the_last_target_is_lowest :
+    map (after sum_scope (("a", 15) ∷ ("b", 2) ∷ []) carry_and_sum) ("c" ∷ "s" ∷ []) ≡ 1 ∷ 1 ∷ []
 unfolding run value signed_of
 the_last_target_is_lowest = refl
-
-pub the_first_target_is_highest : after sum_scope (("a", 15) ∷ ("b", 2) ∷ []) carry_and_sum "c" ≡ 1
-unfolding run value signed_of
-the_first_target_is_highest = refl
 
 -- {s[3:1], c} of 'b1010: s gets 101 above its own lowest bit, and c the last bit
 pub pieces_of_four_bits : pieces sum_scope (to_part "s" 3 1 ∷ to "c" ∷ []) 10

@@ -109,18 +109,13 @@ abbrev pub is_shaped_span : SpanTree → Bool
 is_shaped_span s = is_shaped_expression s.high && is_shaped_expression s.low
 
 abbrev pub is_port_kind : DeclKind → Bool
-is_port_kind kind.Input = true
-is_port_kind kind.OutputWire = true
-is_port_kind kind.OutputReg = true
 is_port_kind kind.Wire = false
 is_port_kind kind.Reg = false
+is_port_kind _ = true
 
 abbrev pub is_wire : DeclKind → Bool
-is_wire kind.Input = false
-is_wire kind.OutputWire = false
-is_wire kind.OutputReg = false
 is_wire kind.Wire = true
-is_wire kind.Reg = false
+is_wire _ = false
 
 -- a port has no value
 abbrev pub is_port : DeclarationTree → Bool

@@ -26,15 +26,9 @@ unclocked clocks run environment x =
 -- the system, where no process sees a clock
 abbrev pub seeing_no_clock : {Point : Type 0} → (clocks : List Path) → System Path Point
     → System Path Point
-seeing_no_clock clocks s = record {
-  signals = s.signals;
-  is_input = s.is_input;
-  is_register = s.is_register;
-  width = s.width;
+seeing_no_clock clocks s = record s {
   processes = map (unclocked clocks) s.processes;
   next = λ environment. s.next (without_clocks clocks environment);
-  label = s.label;
-  flows = s.flows;
 }
 
 -- the cycle system of a text, under the module asked for or its only top

@@ -92,9 +92,9 @@ pub struct Memory {
 }
 
 impl Copied for Span {
-    ghost Form = { SpanTree };
+    ghost Plain = { SpanTree };
 
-    ghost form = { span_tree };
+    ghost plain = { span_tree };
 
     fn copy(&self, alloc: Global) -> Result<Span, AllocError> {
         Ok(Span {
@@ -105,9 +105,9 @@ impl Copied for Span {
 }
 
 impl Copied for LabelText {
-    ghost Form = { LabelTree };
+    ghost Plain = { LabelTree };
 
-    ghost form = { label_tree };
+    ghost plain = { label_tree };
 
     fn copy(&self, alloc: Global) -> Result<LabelText, AllocError> {
         match self {
@@ -123,9 +123,9 @@ impl Copied for LabelText {
 }
 
 impl Copied for Decl {
-    ghost Form = { DeclarationTree };
+    ghost Plain = { DeclarationTree };
 
-    ghost form = { declaration_tree };
+    ghost plain = { declaration_tree };
 
     fn copy(&self, alloc: Global) -> Result<Decl, AllocError> {
         Ok(Decl {
@@ -141,9 +141,9 @@ impl Copied for Decl {
 }
 
 impl Copied for Param {
-    ghost Form = { ParameterTree };
+    ghost Plain = { ParameterTree };
 
-    ghost form = { parameter_tree };
+    ghost plain = { parameter_tree };
 
     fn copy(&self, alloc: Global) -> Result<Param, AllocError> {
         Ok(Param {
@@ -158,9 +158,9 @@ impl Copied for Param {
 }
 
 impl Copied for MemLabel {
-    ghost Form = { MemoryLabelTree };
+    ghost Plain = { MemoryLabelTree };
 
-    ghost form = { memory_label_tree };
+    ghost plain = { memory_label_tree };
 
     fn copy(&self, alloc: Global) -> Result<MemLabel, AllocError> {
         match self {
@@ -171,9 +171,9 @@ impl Copied for MemLabel {
 }
 
 impl Copied for Memory {
-    ghost Form = { MemoryTree };
+    ghost Plain = { MemoryTree };
 
-    ghost form = { memory_tree };
+    ghost plain = { memory_tree };
 
     fn copy(&self, alloc: Global) -> Result<Memory, AllocError> {
         Ok(Memory {

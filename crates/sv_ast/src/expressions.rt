@@ -144,9 +144,9 @@ fn copies(exprs: &[Expr], alloc: Global) -> Result<Vec<Expr>, AllocError>
 }
 
 impl Copied for Expr {
-    ghost Form = { ExpressionTree };
+    ghost Plain = { ExpressionTree };
 
-    ghost form = { expression_tree };
+    ghost plain = { expression_tree };
 
     fn copy(&self, alloc: Global) -> Result<Expr, AllocError> {
         Expr::copy(self, alloc)

@@ -178,9 +178,9 @@ impl Text {
 }
 
 impl Copied for Overrides {
-    ghost Form = { OverrideTrees };
+    ghost Plain = { OverrideTrees };
 
-    ghost form = { override_trees };
+    ghost plain = { override_trees };
 
     fn copy(&self, alloc: Global) -> Result<Overrides, AllocError> {
         Overrides::copy(self, alloc)
@@ -188,9 +188,9 @@ impl Copied for Overrides {
 }
 
 impl Copied for Links {
-    ghost Form = { LinkTrees };
+    ghost Plain = { LinkTrees };
 
-    ghost form = { link_trees };
+    ghost plain = { link_trees };
 
     fn copy(&self, alloc: Global) -> Result<Links, AllocError> {
         match self {
@@ -201,9 +201,9 @@ impl Copied for Links {
 }
 
 impl Copied for Instance {
-    ghost Form = { InstanceTree };
+    ghost Plain = { InstanceTree };
 
-    ghost form = { instance_tree };
+    ghost plain = { instance_tree };
 
     fn copy(&self, alloc: Global) -> Result<Instance, AllocError> {
         Ok(Instance {
@@ -289,9 +289,9 @@ fn always_copy(
 }
 
 impl Copied for Item {
-    ghost Form = { ItemTree };
+    ghost Plain = { ItemTree };
 
-    ghost form = { item_tree };
+    ghost plain = { item_tree };
 
     fn copy(&self, alloc: Global) -> Result<Item, AllocError> {
         match self {
@@ -318,9 +318,9 @@ impl Copied for Item {
 }
 
 impl Copied for Module {
-    ghost Form = { ModuleTree };
+    ghost Plain = { ModuleTree };
 
-    ghost form = { module_tree };
+    ghost plain = { module_tree };
 
     fn copy(&self, alloc: Global) -> Result<Module, AllocError> {
         Module::copy(self, alloc)
@@ -328,9 +328,9 @@ impl Copied for Module {
 }
 
 impl Copied for LatticeText {
-    ghost Form = { LatticeTree };
+    ghost Plain = { LatticeTree };
 
-    ghost form = { lattice_tree };
+    ghost plain = { lattice_tree };
 
     fn copy(&self, alloc: Global) -> Result<LatticeText, AllocError> {
         Ok(LatticeText {
@@ -353,9 +353,9 @@ fn rows_copy(rows: &[MapRow], alloc: Global) -> Result<Vec<MapRow>, AllocError>
 }
 
 impl Copied for MapText {
-    ghost Form = { MapTree };
+    ghost Plain = { MapTree };
 
-    ghost form = { map_tree };
+    ghost plain = { map_tree };
 
     fn copy(&self, alloc: Global) -> Result<MapText, AllocError> {
         Ok(MapText {

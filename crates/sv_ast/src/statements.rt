@@ -77,9 +77,9 @@ pub enum Stmt {
 }
 
 impl Copied for Select {
-    ghost Form = { Selection };
+    ghost Plain = { Selection };
 
-    ghost form = { selection_of };
+    ghost plain = { selection_of };
 
     fn copy(&self, alloc: Global) -> Result<Select, AllocError> {
         match self {
@@ -91,9 +91,9 @@ impl Copied for Select {
 }
 
 impl Copied for Target {
-    ghost Form = { TargetTree };
+    ghost Plain = { TargetTree };
 
-    ghost form = { target_tree };
+    ghost plain = { target_tree };
 
     fn copy(&self, alloc: Global) -> Result<Target, AllocError> {
         Ok(Target {
@@ -263,9 +263,9 @@ impl Arm {
 }
 
 impl Copied for Stmt {
-    ghost Form = { StatementTree };
+    ghost Plain = { StatementTree };
 
-    ghost form = { statement_tree };
+    ghost plain = { statement_tree };
 
     fn copy(&self, alloc: Global) -> Result<Stmt, AllocError> {
         Stmt::copy(self, alloc)

@@ -292,28 +292,18 @@ module _ (design : FlatDesign) (reads : Reads) (are : AreReads design reads) whe
           (subst (λ z. IsTrue (is_read_for design z (get_or found (get_or led p 0) 0))) back.1
           parts.1))
 
-      way_combs : (way : List ℕ) (p : ℕ) → p < length found → IsWayBack search p way
-          → IsTrue (list_all (is_combinational design) way)
-      way_combs [] p lt back = refl
-      way_combs (s ∷ way) p lt back =
+      -- what holds of each signal that one brings holds of those of a way back
+      way_all : (test : ℕ → Bool) → ((a b : ℕ) → IsTrue (brings a b) → IsTrue (test b))
+          → (way : List ℕ) (p : ℕ) → p < length found → IsWayBack search p way
+          → IsTrue (list_all test way)
+      way_all test each [] p lt back = refl
+      way_all test each (s ∷ way) p lt back =
           let step = led_from p back.0 lt in
           let down = step.0 in
-          and_true (is_combinational design s) (list_all (is_combinational design) way)
-          (subst (λ z. IsTrue (is_combinational design z)) back.1
-          (brought_parts (get_or found (get_or led p 0) 0) (get_or found p 0) step.1).0)
-          (way_combs way (get_or led p 0) (omega arith) back.2)
-
-      way_above : (way : List ℕ) (p : ℕ) → p < length found → IsWayBack search p way
-          → IsTrue (list_all (nat_lt first) way)
-      way_above [] p lt back = refl
-      way_above (s ∷ way) p lt back =
-          let step = led_from p back.0 lt in
-          let down = step.0 in
-          and_true (nat_lt first s) (list_all (nat_lt first) way)
-          (subst (λ z. IsTrue (nat_lt first z)) back.1
-          (lt-ltb first (get_or found p 0)
-          (brought_parts (get_or found (get_or led p 0) 0) (get_or found p 0) step.1).2))
-          (way_above way (get_or led p 0) (omega arith) back.2)
+          and_true (test s) (list_all test way)
+          (subst (λ z. IsTrue (test z)) back.1
+          (each (get_or found (get_or led p 0) 0) (get_or found p 0) step.1))
+          (way_all test each way (get_or led p 0) (omega arith) back.2)
 
       way_differs : (way : List ℕ) (p : ℕ) → p < length found → IsWayBack search p way
           → IsTrue (all_differ way)
@@ -344,8 +334,8 @@ module _ (design : FlatDesign) (reads : Reads) (are : AreReads design reads) whe
           (and_true (along && all) above
           (and_true along all (way_along way p first lt back reads_it)
           (and_true (is_combinational design first) (list_all (is_combinational design) way) comb
-          (way_combs way p lt back)))
-          (way_above way p lt back))
+          (way_all (is_combinational design) (λ a b h. (brought_parts a b h).0) way p lt back)))
+          (way_all (nat_lt first) (λ a b h. lt-ltb first b (brought_parts a b h).2) way p lt back))
           (way_differs way p lt back)
 
       -- where none of its reads was found, no circle begins at the first

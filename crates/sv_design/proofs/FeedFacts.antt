@@ -22,7 +22,7 @@ use Rattle.sv_flat.specs.Drivers.{clock_faults, extra_driver, driver_fault, driv
 use Rattle.sv_flat.specs.Drivers.{undriven}
 use Rattle.sv_flat.specs.Processes.{is_block, is_register, is_top_input, signal_numbers, drivers}
 use Rattle.sv_flat.specs.Readings.{ReadForm, reads, BitSet, no_bits, either, Reading, readings}
-use Rattle.sv_flat.specs.Readings.{readings_of, is_followed}
+use Rattle.sv_flat.specs.Readings.{reading_of, readings_of, is_followed}
 use Rattle.sv_flat.specs.Reads.{process_readings, is_earlier, wants, followed, reads_settled}
 use Rattle.sv_flat.specs.Reads.{is_read_for, reads_for}
 use Rattle.sv_flat.specs.Sets.{holds, least_set}
@@ -79,8 +79,7 @@ module _ (signals : List SignalForm) (sought : Sought) (s t : ℕ) where
       → list_any serves (readings_of signals e (assigns whole) a f) ≡
       (names_sought signals sought f e s && assigns whole t)
   named e whole a f =
-      any_map serves (λ r. record { name = r; serves = assigns whole; assigned = a; follows = f })
-      (reads signals e)
+      any_map serves (reading_of (assigns whole) a f) (reads signals e)
       ∙ any_and (λ (r : ReadForm). (r.signal == s) && is_sought signals sought f r)
       (assigns whole t) (reads signals e)
 

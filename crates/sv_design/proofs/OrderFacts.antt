@@ -8,6 +8,7 @@ use Rattle.std.specs.List.{list_any, list_all}
 use Rattle.std.proofs.lemmas.Bool.{false≢true, eqb-true, eq-eqb, or_left, or_right}
 use Rattle.sv_system.proofs.Lists.{Contains-head, Contains-later, Contains-nil, Contains-cases}
 use Rattle.sv_system.proofs.Lists.{Contains-filter}
+use Rattle.sv_system.proofs.Fronts.{placed, is_placed}
 use Rattle.sv_flat.specs.Breaches.{Breach}
 use Rattle.sv_flat.specs.Design.{FlatDesign}
 use Rattle.sv_flat.specs.Loops.{reads_along, all_differ, loop_breach, IsLoop, reads_only_before}
@@ -43,28 +44,6 @@ both_more first more s keeps t at = ⊎_elim
     (λ later. Contains-later s more t (keeps t later))
     (Contains-cases s first t at)
 
--- one list after another
-placed : List ℕ → List ℕ → List ℕ
-placed first [] = first
-placed first (s ∷ signals) = placed (s ∷ first) signals
-
-in_placed_first : (first signals : List ℕ) (t : ℕ) → Contains first t →
-    Contains (placed first signals) t
-unfolding placed
-in_placed_first first [] t at = at
-in_placed_first first (s ∷ signals) t at =
-    in_placed_first (s ∷ first) signals t (Contains-later s first t at)
-
-in_placed : (first signals : List ℕ) (t : ℕ) → Contains signals t →
-    Contains (placed first signals) t
-unfolding placed
-in_placed first [] t at = absurd (Contains-nil t at)
-in_placed first (s ∷ signals) t at = ⊎_elim
-    (λ e. in_placed_first (s ∷ first) signals t
-    (subst (Contains (s ∷ first)) e (Contains-head s first)))
-    (λ later. in_placed (s ∷ first) signals t later)
-    (Contains-cases s signals t at)
-
 -- ---- lists of numbers in question, each of which reads only numbers in question before it
 
 module _ (comb : ℕ → Bool) (reads : ℕ → ℕ → Bool) where
@@ -81,7 +60,6 @@ module _ (comb : ℕ → Bool) (reads : ℕ → ℕ → Bool) where
 
   before_append : (low : ℕ) (first xs ys : List ℕ) → ReadsBefore low first xs
       → ReadsBefore low (placed first xs) ys → ReadsBefore low first (xs ++ ys)
-  unfolding placed
   before_append low first [] ys h k = k
   before_append low first (x ∷ xs) ys h k = (h.0, before_append low (x ∷ first) xs ys h.1 k)
 
@@ -197,7 +175,7 @@ module _ (comb : ℕ → Bool) (reads : ℕ → ℕ → Bool) where
         let lows = low_part signals in
         let low_in : (t : ℕ) → Contains signals t → IsFalse (above t)
         → Contains (placed [] lows) t = λ t at down.
-        in_placed [] lows t
+        is_placed [] lows t
         (Contains-filter (λ s. not (above s)) signals t at (turned (above t) down)) in
         before_append a [] lows (a ∷ high_part signals)
         (low_before [] [] signals are (λ t at down. absurd (Contains-nil t at)) h) (

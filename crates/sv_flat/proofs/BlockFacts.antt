@@ -14,8 +14,8 @@ use Rattle.sv_flat.specs.Design.{combinational, clocked, release, ProcessForm, F
 use Rattle.sv_flat.specs.Values.{signal_width}
 use Rattle.sv_flat.specs.Soundness.{sound, statement_sound, kind_sound, is_whole, is_one_assignment}
 use Rattle.sv_flat.specs.Assigned.{assigns, can_assign, always_assigns, has_bit}
-use Rattle.sv_flat.specs.Readings.{ReadForm, reads, Reading, readings, readings_of, no_bits, BitSet}
-use Rattle.sv_flat.specs.Readings.{either, is_followed}
+use Rattle.sv_flat.specs.Readings.{reads, Reading, readings, readings_of, no_bits, BitSet}
+use Rattle.sv_flat.specs.Readings.{reading_of, either, is_followed}
 use Rattle.sv_flat.specs.Processes.{is_clocked, is_block, is_register, drivers}
 use Rattle.sv_flat.specs.Clocks.{processes_of}
 use Rattle.sv_flat.specs.Reads.{is_earlier, wants, followed, reads_settled, is_read_for, depth}
@@ -29,7 +29,7 @@ use Rattle.sv_flat.proofs.Members.{Contains-left, Contains-right, Contains-eithe
 use Rattle.sv_flat.proofs.LeastSets.{either_way, or_cases, range_has, some_from, from_some}
 use Rattle.sv_flat.proofs.LeastSets.{least_set_has, least_set_closed, least_set_least}
 use Rattle.sv_flat.proofs.Depths.{first_of, second_of, from_all, reads_are_lower}
-use Rattle.sv_flat.proofs.SameRuns.{or_none_left, none_found, all_blocking}
+use Rattle.sv_flat.proofs.SameRuns.{or_none_left, none_found, all_blocking, can_is_assigned}
 use Rattle.sv_flat.proofs.ReadSignals.{readings_signals}
 use Rattle.sv_flat.proofs.AdmittedFacts.{and_true, negated_false, none_pass, empty_part, is_process}
 use Rattle.sv_flat.proofs.AdmittedFacts.{body_is_sound, process_is_sound, drives, phases}
@@ -38,37 +38,14 @@ use Rattle.sv_flat.proofs.AdmittedFacts.{targets_are_combinational}
 
 -- ---- what follows a read
 
-pub can_is_assigned : (body : FlatStatement) (s b : ℕ) → IsTrue (can_assign body s b) →
-    IsTrue (assigns body s)
-can_is_assigned nothing s b h = absurd (false≢true h)
-can_is_assigned (after first second) s b h = ⊎_elim
-    (λ l. or_left (assigns first s) (assigns second s) (can_is_assigned first s b l))
-    (λ r. or_right (assigns first s) (assigns second s) (can_is_assigned second s b r))
-    (or_cases (can_assign first s b) (can_assign second s b) h)
-can_is_assigned (assign pieces place blocking right) s b h =
-    let found = from_some (has_bit s b) pieces h in
-    let p = found.0 in
-    some_from (λ (q : PieceForm). q.signal == s) pieces p found.1
-    (first_of (p.signal == s) (nat_le p.low b)
-    (first_of ((p.signal == s) && nat_le p.low b) (nat_le b p.high) found.2))
-can_is_assigned (branch place condition first second) s b h = ⊎_elim
-    (λ l. or_left (assigns first s) (assigns second s) (can_is_assigned first s b l))
-    (λ r. or_right (assigns first s) (assigns second s) (can_is_assigned second s b r))
-    (or_cases (can_assign first s b) (can_assign second s b) h)
-
 module _ (signals : List SignalForm) where
   pub follows_here : (whole : FlatStatement) (t : TypedTree) (before later : BitSet) (r : Reading)
       → Contains (readings_of signals t (assigns whole) before (either (can_assign whole) later)) r
       → (s b : ℕ) → IsTrue (r.follows s b) → IsTrue (assigns whole s) ⊎ IsTrue (later s b)
   follows_here whole t before later r at s b h =
       let from = Contains-from_map
-      (λ (z : ReadForm). record {
-        name = z;
-        serves = assigns whole;
-        assigned = before;
-        follows = either
-            (can_assign whole) later;
-      }) (reads signals t) r at in
+      (reading_of (assigns whole) before (either (can_assign whole) later))
+      (reads signals t) r at in
       ⊎_elim
       (λ l. inl (can_is_assigned whole s b l))
       (λ m. inr m)
@@ -163,13 +140,8 @@ module _ (signals : List SignalForm) where
   one_serves (assign pieces place blocking right) h r at t assigned =
       let whole = assign pieces place blocking right in
       let from = Contains-from_map
-      (λ (z : ReadForm). record {
-        name = z;
-        serves = assigns whole;
-        assigned = no_bits;
-        follows = either
-            (can_assign whole) no_bits;
-      }) (reads signals right) r at in
+      (reading_of (assigns whole) no_bits (either (can_assign whole) no_bits))
+      (reads signals right) r at in
       subst (λ (y : Reading). IsTrue (y.serves t)) from.2 assigned
   one_serves _ h r at t assigned = absurd (false≢true h)
 

@@ -10,7 +10,8 @@ use Rattle.sv_flat.specs.Design.{SignalForm, TypedTree, typed, read, FlatStateme
 use Rattle.sv_flat.specs.Design.{ProcessForm, FlatDesign}
 use Rattle.sv_flat.specs.Soundness.{sound}
 use Rattle.sv_flat.specs.Assigned.{assigns, can_assign}
-use Rattle.sv_flat.specs.Readings.{ReadForm, whole_read, reads, Reading, readings, no_bits, either}
+use Rattle.sv_flat.specs.Readings.{ReadForm, whole_read, reads, Reading, reading_of, readings}
+use Rattle.sv_flat.specs.Readings.{no_bits, either}
 use Rattle.sv_flat.specs.Processes.{signals_that}
 use Rattle.sv_flat.specs.Clocks.{is_edge, whole_name, whole_link, is_port_in, link_in, links_in}
 use Rattle.sv_flat.specs.Clocks.{links_out, lists_pair, makes_clock, clocks, is_clock, processes_of}
@@ -60,12 +61,7 @@ module _ (signals : List SignalForm) where
       (readings signals (assign (piece ∷ []) place blocking right) no_bits no_bits) h in
       let whole = assign (piece ∷ []) place blocking right in
       let from = Contains-from_map
-      (λ (z : ReadForm). record {
-        name = z;
-        serves = assigns whole;
-        assigned = no_bits;
-        follows = either (can_assign whole) no_bits;
-      })
+      (reading_of (assigns whole) no_bits (either (can_assign whole) no_bits))
       (reads signals right) found.0 found.1 in
       name_reads right pair.1 (linked_name piece.signal (whole_name right) pair e) from.0 from.1
       ∙ ap (λ (y : Reading). y.name.signal) from.2 ∙ eqb-true (found.0).name.signal t found.2

@@ -11,6 +11,7 @@ use Rattle.std.proofs.lemmas.List.FromFn.{length-range_with_len, length-map-rang
 use Rattle.std.proofs.lemmas.List.FromFn.{get_or-map-range_with_len}
 use Rattle.sv_system.proofs.Lists.{Contains-head, Contains-later, Contains-nil, Contains-cases}
 use Rattle.sv_system.proofs.Lists.{Contains-map, Contains-from_map}
+use Rattle.sv_system.proofs.Fronts.{placed as all_placed, is_placed}
 use Rattle.sv_system.proofs.Ranks.{filter_le, filter_lt}
 use Rattle.sv_flat.specs.Design.{FlatDesign}
 use Rattle.sv_flat.specs.Sets.{holds}
@@ -174,13 +175,8 @@ module _ (design : FlatDesign) where
       (λ inside. settled z inside comb t (le_trans fewer many))
       (Contains-cases s first z at)
 
-  -- a list placed after another, one by one
-  abbrev placed : List ℕ → List ℕ → List ℕ
-  placed first [] = first
-  placed first (s ∷ signals) = placed (s ∷ first) signals
-
   all_settled : (first signals : List ℕ) → Settled first →
-      IsTrue (reads_only_before design first signals) → Settled (placed first signals)
+      IsTrue (reads_only_before design first signals) → Settled (all_placed first signals)
   all_settled first [] settled h = settled
   all_settled first (s ∷ signals) settled h =
       let here = first_of (list_all (λ r.
@@ -190,21 +186,6 @@ module _ (design : FlatDesign) where
       (list_all (λ r. not (is_combinational design r) || holds first r) (reads_for design s))
       (reads_only_before design (s ∷ first) signals) h in
       all_settled (s ∷ first) signals (one_more first s settled here) later
-
-  stays_placed : (first signals : List ℕ) (s : ℕ) → Contains first s →
-      Contains (placed first signals) s
-  stays_placed first [] s at = at
-  stays_placed first (z ∷ signals) s at =
-      stays_placed (z ∷ first) signals s (Contains-later z first s at)
-
-  is_placed : (first signals : List ℕ) (s : ℕ) → Contains signals s →
-      Contains (placed first signals) s
-  is_placed first [] s at = absurd (Contains-nil s at)
-  is_placed first (z ∷ signals) s at = ⊎_elim
-      (λ e. stays_placed (z ∷ first) signals s
-      (subst (Contains (z ∷ first)) e (Contains-head z first)))
-      (λ inside. is_placed (z ∷ first) signals s inside)
-      (Contains-cases z signals s at)
 
   few : (first : List ℕ) → count first ≤ n
   few first =
@@ -226,7 +207,7 @@ module _ (design : FlatDesign) where
     ended s comb = all_settled [] ordered.0 (λ z at. absurd (Contains-nil z at))
         (second_of (list_all (holds ordered.0) (signals_that design (is_combinational design)))
         (reads_only_before design [] ordered.0) ordered.1)
-        s (is_placed [] ordered.0 s (listed s comb)) comb n (few (placed [] ordered.0))
+        s (is_placed [] ordered.0 s (listed s comb)) comb n (few (all_placed [] ordered.0))
 
     -- a combinational signal's depth is one more than the greatest depth of what is read for it
     pub depth_above_reads : (s : ℕ) → IsTrue (is_combinational design s) →

@@ -13,6 +13,7 @@ use Rattle.std.proofs.lemmas.List.Elements.{Contains-get_or}
 use Rattle.sv_num.specs.Vectors.{is_true}
 use Rattle.sv_system.specs.System.{Environment, put, last_update}
 use Rattle.sv_system.proofs.Lists.{Contains-map}
+use Rattle.sv_system.proofs.Fronts.{left_more}
 use Rattle.sv_flat.specs.declared.signals.Signal.{Signal}
 use Rattle.std.specs.declared.alloc.Global.{Global}
 use Rattle.std.specs.declared.vec.Vec.{Vec}
@@ -136,10 +137,7 @@ chain ss = chain_of (flat_statements ss)
 
 pub chain_at : (ss : List FStmt) (i : ℕ) (s : FStmt) → i < length ss → s ≡ get_or ss i s
     → chain (drop i ss) ≡ after (flat_statement s) (chain (drop (i + 1) ss))
-chain_at ss i s inside is =
-    ap chain (drop-cons ss i s inside)
-    ∙ ap (λ (z : FStmt). after (flat_statement z) (chain (drop (suc i) ss))) (sym is)
-    ∙ ap (λ k. after (flat_statement s) (chain (drop k ss))) (sym (add-one i))
+chain_at ss i s inside is = ap chain (left_more ss i s inside is)
 
 -- what holds of both statements of each pair holds of each one of a chain
 pub holds_from : (test : FlatStatement → Bool)

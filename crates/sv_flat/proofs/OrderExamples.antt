@@ -1,29 +1,15 @@
 -- Draws, rounds and ordered runs by computation.
-use Rattle.std.proofs.Common.{◌≡◌, ℕ, true, false, List, [], ◌∷◌, refl, subst, arith}
-use Rattle.std.specs.Prelude.{◌%◌, codes, map, slice_index, IsFalse}
+use Rattle.std.proofs.Common.{◌≡◌, ℕ, true, false, List, [], ◌∷◌, refl}
+use Rattle.std.specs.Prelude.{◌%◌, codes, map, slice_index}
 use Rattle.std.specs.List.{range_with_len}
-use Rattle.sv_num.specs.declared.operators.UnOp.TheVariants as unop
 use Rattle.sv_system.specs.System.{Environment}
-use Rattle.sv_flat.specs.declared.signals.SigKind.TheVariants.{TopInput, Output, OutputReg, Net}
-use Rattle.sv_flat.specs.Design.{TypedTree, typed, unary, continuous, clocked, FlatDesign}
+use Rattle.sv_flat.specs.declared.signals.SigKind.TheVariants.{TopInput, OutputReg}
+use Rattle.sv_flat.specs.Design.{clocked, FlatDesign}
 use Rattle.sv_flat.specs.Schedules.{next_state, drawn, round, after_schedule, after_rounds}
 use Rattle.sv_flat.specs.Schedules.{is_quiet, IsRoundCount, is_order, after_tick, tick_order}
 use Rattle.sv_flat.specs.Schedules.{starting, with_inputs, OrderedRun}
-use Rattle.sv_flat.proofs.Forms.{at, declares, sets, later, named, process, over_two_points}
-
-abbrev invert : TypedTree → TypedTree
-invert e = typed 1 false (unary unop.Invert e)
-
--- module m(input a, output y); wire p, q; assign y = ~q; assign q = ~p; assign p = ~a; endmodule
-abbrev inverters : FlatDesign
-inverters = over_two_points
-    (declares (codes "a") 1 TopInput (at 1 16) ∷ declares (codes "y") 1 Output (at 1 26) ∷
-    declares (codes "p") 1 Net (at 2 8)
-    ∷ declares (codes "q") 1 Net (at 2 11) ∷ [])
-    (process continuous (at 3 10) (sets 1 (at 3 10) (invert (named 3 (at 3 15))))
-    ∷ process continuous (at 4 10) (sets 3 (at 4 10) (invert (named 2 (at 4 15))))
-    ∷ process continuous (at 5 10) (sets 2 (at 5 10) (invert (named 0 (at 5 15))))
-    ∷ [])
+use Rattle.sv_flat.proofs.Forms.{at, declares, later, named, process, over_two_points}
+use Rattle.sv_flat.proofs.Forms.{inverters, one_is_enough, two_are_enough}
 
 -- a, y, p and q
 abbrev values : Environment ℕ → List ℕ
@@ -81,16 +67,10 @@ abbrev raised : Environment ℕ
 raised = with_inputs inverters (λ s. 1) ticked
 
 one_round_in_cycle_0 : IsRoundCount inverters 10 begun 1
-one_round_in_cycle_0 =
-    record { some = omega arith; quiet = refl; before = λ k a b. absurd (omega (arith, a, b)) }
+one_round_in_cycle_0 = one_is_enough inverters 10 begun refl
 
 two_rounds_in_cycle_1 : IsRoundCount inverters 11 raised 2
-two_rounds_in_cycle_1 = record {
-  some = omega arith;
-  quiet = refl;
-  before = λ k a b. let is : 1 ≡ k = omega (arith, a, b) in
-      subst (λ k. IsFalse (is_quiet inverters (after_rounds inverters 11 k raised))) is refl;
-}
+two_rounds_in_cycle_1 = two_are_enough inverters 11 raised refl refl
 
 -- the inputs 0 and 1 under the order number 10 take 3 rounds
 pub three_rounds : OrderedRun inverters 10 (λ s. 0) ((λ s. 0) ∷ (λ s. 1) ∷ [])

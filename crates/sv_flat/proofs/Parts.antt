@@ -1,9 +1,9 @@
 -- Parts of a join or replication, one after the other.
 use Rattle.std.proofs.Common.{◌≡◌, ℕ, zero, suc, ◌+◌, ◌*◌, ◌^◌, ◌<◌, List, [], ◌∷◌, length}
-use Rattle.std.proofs.Common.{get_or, drop, sym, ap, subst, ◌∙◌, arith, add-one}
+use Rattle.std.proofs.Common.{get_or, drop, ap, subst, arith}
 use Rattle.std.specs.Prelude.{IsTrue}
-use Rattle.std.proofs.Math.Seq.{drop-cons}
 use Rattle.std.proofs.lemmas.Nat.{pow-add}
+use Rattle.sv_system.proofs.Fronts.{left_more}
 use Rattle.sv_flat.specs.declared.expressions.FExpr.{FExpr}
 use Rattle.sv_flat.specs.Design.{SignalForm, TypedTrees, more_parts}
 use Rattle.sv_flat.specs.Soundness.{well_formed, parts_well_formed}
@@ -17,10 +17,7 @@ trees es = parts_of (typed_trees es)
 -- the parts from one on are that part and those after it
 pub parts_at : (es : List FExpr) (i : ℕ) (e : FExpr) → i < length es → e ≡ get_or es i e
     → trees (drop i es) ≡ more_parts (typed_tree e) (trees (drop (i + 1) es))
-parts_at es i e inside is =
-    ap trees (drop-cons es i e inside)
-    ∙ ap (λ (z : FExpr). more_parts (typed_tree z) (trees (drop (suc i) es))) (sym is)
-    ∙ ap (λ k. more_parts (typed_tree e) (trees (drop k es))) (sym (add-one i))
+parts_at es i e inside is = ap trees (left_more es i e inside is)
 
 -- each part of well formed ones is well formed
 pub formed_from : (signals : List SignalForm) (es : List FExpr) (i : ℕ)

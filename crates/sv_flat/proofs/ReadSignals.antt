@@ -17,7 +17,7 @@ use Rattle.sv_flat.specs.Soundness.{node_well_formed, parts_well_formed, stateme
 use Rattle.sv_flat.specs.Assigned.{assigns, can_assign, always_assigns}
 use Rattle.sv_flat.specs.Readings.{ReadForm, whole_read, bit_read, indexed_read, is_constant, reads}
 use Rattle.sv_flat.specs.Readings.{node_reads, parts_reads, BitSet, either, Reading, readings_of}
-use Rattle.sv_flat.specs.Readings.{readings}
+use Rattle.sv_flat.specs.Readings.{reading_of, readings}
 use Rattle.sv_flat.proofs.Members.{Contains-either}
 use Rattle.sv_flat.proofs.Depths.{first_of, second_of}
 
@@ -40,6 +40,23 @@ module _ (signals : List SignalForm) where
       → OfSignal (cond c (bit_read s p (number_of signals (λ t. 0) index)) (whole_read signals s p))
   indexed_signal true s p index is = bit_signal s p (number_of signals (λ t. 0) index) is
   indexed_signal false s p index is = is
+
+  -- all that a well formed expression reads
+  abbrev AllOf : TypedTree → Type 0
+  AllOf t =
+      IsTrue (well_formed signals t) → (r : ReadForm) → Contains (reads signals t) r → OfSignal r
+
+  -- so of two expressions, behind what else is asked of them
+  both_read : (front : Bool) (a b : TypedTree) → AllOf a → AllOf b
+      → IsTrue (front && well_formed signals a && well_formed signals b) → (r : ReadForm)
+      → Contains (reads signals a ++ reads signals b) r
+      → OfSignal r
+  both_read front a b of_a of_b h r at = ⊎_elim
+      (λ l. of_a
+      (second_of front (well_formed signals a)
+      (first_of (front && well_formed signals a) (well_formed signals b) h)) r l)
+      (λ m. of_b (second_of (front && well_formed signals a) (well_formed signals b) h) r m)
+      (Contains-either (reads signals a) (reads signals b) r at)
 
   mutual
     pub reads_signals : (t : TypedTree) → IsTrue (well_formed signals t) → (r : ReadForm)
@@ -69,14 +86,8 @@ module _ (signals : List SignalForm) where
     node_reads_signals (unary op t) w signed h r at =
         reads_signals t (second_of (unary_typed op w signed t) (well_formed signals t) h) r at
     node_reads_signals (binary op a b) w signed h r at =
-        let kind = not (is_division op) && binary_typed (class_of op) w signed a b in
-        ⊎_elim
-        (λ l. reads_signals a
-        (second_of kind (well_formed signals a)
-        (first_of (kind && well_formed signals a) (well_formed signals b) h)) r l)
-        (λ m. reads_signals b
-        (second_of (kind && well_formed signals a) (well_formed signals b) h) r m)
-        (Contains-either (reads signals a) (reads signals b) r at)
+        both_read (not (is_division op) && binary_typed (class_of op) w signed a b) a b
+        (λ g q k. reads_signals a g q k) (λ g q k. reads_signals b g q k) h r at
     node_reads_signals (choice p c a b) w signed h r at =
         let types = has_type w signed a && has_type w signed b in
         let front = first_of (types && well_formed signals c && well_formed signals a)
@@ -102,27 +113,16 @@ module _ (signals : List SignalForm) where
     node_reads_signals (held s t) w signed h r at =
         reads_signals t (second_of (is_signal signals s && nat_le (signal_width signals s) w)
         (well_formed signals t) h) r at
-    node_reads_signals (held_bit s p t i) w signed h r at = ⊎_elim
-        (λ l. reads_signals t
-        (second_of (is_signal signals s) (well_formed signals t)
-        (first_of (is_signal signals s && well_formed signals t) (well_formed signals i) h)) r l)
-        (λ m. reads_signals i
-        (second_of (is_signal signals s && well_formed signals t)
-        (well_formed signals i) h) r m)
-        (Contains-either (reads signals t) (reads signals i) r at)
+    node_reads_signals (held_bit s p t i) w signed h r at =
+        both_read (is_signal signals s) t i
+        (λ g q k. reads_signals t g q k) (λ g q k. reads_signals i g q k) h r at
     node_reads_signals (held_part s p t high low) w signed h r at =
         reads_signals t (second_of (is_signal signals s
         && is_part_of (signal_width signals s) w high low) (well_formed signals t) h) r at
     node_reads_signals (mend s t high low piece) w signed h r at =
-        let front = is_signal signals s && nat_le (signal_width signals s) w
-        && is_part_of (signal_width signals s) (expression_width piece) high low in
-        ⊎_elim
-        (λ l. reads_signals t
-        (second_of front (well_formed signals t)
-        (first_of (front && well_formed signals t) (well_formed signals piece) h)) r l)
-        (λ m. reads_signals piece
-        (second_of (front && well_formed signals t) (well_formed signals piece) h) r m)
-        (Contains-either (reads signals t) (reads signals piece) r at)
+        both_read (is_signal signals s && nat_le (signal_width signals s) w
+        && is_part_of (signal_width signals s) (expression_width piece) high low) t piece
+        (λ g q k. reads_signals t g q k) (λ g q k. reads_signals piece g q k) h r at
     node_reads_signals (slice t high low) w signed h r at =
         reads_signals t (second_of (is_part_of (expression_width t) w high low)
         (well_formed signals t) h) r at
@@ -142,9 +142,7 @@ module _ (signals : List SignalForm) where
       → Contains (readings_of signals t serves before later) r
       → IsTrue (is_signal signals r.name.signal)
   of_signal t serves before later h r at =
-      let from = Contains-from_map (λ (z : ReadForm).
-      record { name = z; serves = serves; assigned = before; follows = later })
-      (reads signals t) r at in
+      let from = Contains-from_map (reading_of serves before later) (reads signals t) r at in
       subst (λ (y : Reading).
       IsTrue (is_signal signals y.name.signal)) from.2 (reads_signals t h from.0 from.1)
 

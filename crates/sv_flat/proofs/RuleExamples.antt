@@ -1,10 +1,9 @@
 -- The rules of flat designs by computation: of each a design that breaks it, and one that does not.
 use Rattle.std.proofs.Common.{◌≡◌, ℕ, true, false, List, [], ◌∷◌, Option, Some, None, refl}
 use Rattle.std.specs.Prelude.{codes, map, if◌then◌else◌}
-use Rattle.sv_num.specs.declared.operators.UnOp.TheVariants as unop
 use Rattle.sv_flat.specs.declared.signals.SigKind.TheVariants.{TopInput, Input, Output, Net, Reg}
 use Rattle.sv_flat.specs.declared.signals.SigKind.TheVariants.{OutputReg}
-use Rattle.sv_flat.specs.Design.{TypedTree, typed, constant, read, read_bit, unary, join, no_parts}
+use Rattle.sv_flat.specs.Design.{TypedTree, typed, constant, read, read_bit, join, no_parts}
 use Rattle.sv_flat.specs.Design.{more_parts, FlatStatement, nothing, assign, branch, continuous}
 use Rattle.sv_flat.specs.Design.{port_in, combinational, clocked, FlatDesign}
 use Rattle.sv_flat.specs.Breaches.{Breach, breach, comes_before}
@@ -13,7 +12,7 @@ use Rattle.sv_flat.specs.Loops.{is_circle, is_read_order, loop_breach}
 use Rattle.sv_flat.specs.Reads.{reads_for, depth, order}
 use Rattle.sv_flat.specs.Clocks.{clocks}
 use Rattle.sv_flat.proofs.Forms.{at, declares, part, sets, later, named, sequence, process}
-use Rattle.sv_flat.proofs.Forms.{over_two_points}
+use Rattle.sv_flat.proofs.Forms.{over_two_points, invert, inverters}
 
 -- the breach that comes first, after one in hand
 abbrev first_from : Breach → List Breach → Breach
@@ -32,9 +31,6 @@ breaks design number line column signal =
 
 abbrev keeps : FlatDesign → Type 0
 keeps design = breaches design ≡ []
-
-abbrev invert : TypedTree → TypedTree
-invert e = typed 1 false (unary unop.Invert e)
 
 -- ---- 601
 
@@ -238,17 +234,6 @@ circle_names = refl
 
 pub no_other_rule : keeps crossed
 no_other_rule = refl
-
--- module m(input a, output y); wire p, q; assign y = ~q; assign q = ~p; assign p = ~a; endmodule
-abbrev inverters : FlatDesign
-inverters = over_two_points
-    (declares (codes "a") 1 TopInput (at 1 16) ∷ declares (codes "y") 1 Output (at 1 26) ∷
-    declares (codes "p") 1 Net (at 2 8)
-    ∷ declares (codes "q") 1 Net (at 2 11) ∷ [])
-    (process continuous (at 3 10) (sets 1 (at 3 10) (invert (named 3 (at 3 15))))
-    ∷ process continuous (at 4 10) (sets 3 (at 4 10) (invert (named 2 (at 4 15))))
-    ∷ process continuous (at 5 10) (sets 2 (at 5 10) (invert (named 0 (at 5 15))))
-    ∷ [])
 
 pub depths : map (depth inverters) (0 ∷ 1 ∷ 2 ∷ 3 ∷ []) ≡ 0 ∷ 3 ∷ 1 ∷ 2 ∷ []
 depths = refl

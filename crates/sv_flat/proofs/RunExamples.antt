@@ -5,7 +5,8 @@ use Rattle.std.specs.List.{range_with_len}
 use Rattle.sv_num.specs.declared.operators.BinOp.TheVariants as binop
 use Rattle.sv_system.specs.System.{Environment}
 use Rattle.sv_flat.specs.declared.signals.SigKind.TheVariants.{TopInput, OutputReg}
-use Rattle.sv_flat.specs.Design.{SignalForm, typed, constant, read, read_part, binary}
+use Rattle.sv_num.specs.declared.faults.Place.{Place}
+use Rattle.sv_flat.specs.Design.{SignalForm, typed, constant, read, read_part, binary, PieceForm}
 use Rattle.sv_flat.specs.Design.{FlatStatement, assign, branch, combinational, FlatDesign}
 use Rattle.sv_flat.specs.Soundness.{well_formed, sound}
 use Rattle.sv_flat.specs.Runs.{run_alone, updates_of}
@@ -29,11 +30,14 @@ having a b s c p = slice_index (a ∷ b ∷ s ∷ c ∷ p ∷ [])
 abbrev leaves : FlatStatement → Environment ℕ → List ℕ → Type 0
 leaves body before values = map (run_alone signals body before) (range_with_len 0 5) ≡ values
 
--- {c, s} = a + b at 5 bits
+-- a blocking assignment of the sum of two signals at 5 bits
+abbrev adds : List PieceForm → Place → (first : ℕ) → Place → (second : ℕ) → Place → FlatStatement
+adds pieces place a p b q = assign pieces place true
+    (typed 5 false (binary binop.Add (typed 5 false (read a p)) (typed 5 false (read b q))))
+
+-- {c, s} = a + b
 abbrev sum : FlatStatement
-sum = assign (part 3 (at 2 14) 0 0 4 ∷ part 2 (at 2 17) 3 0 0 ∷ []) (at 2 14) true
-    (typed 5 false (binary binop.Add (typed 5 false (read 0 (at 2 22)))
-    (typed 5 false (read 1 (at 2 26)))))
+sum = adds (part 3 (at 2 14) 0 0 4 ∷ part 2 (at 2 17) 3 0 0 ∷ []) (at 2 14) 0 (at 2 22) 1 (at 2 26)
 
 pub sum_with_carry : leaves sum (having 15 1 7 0 0) (15 ∷ 1 ∷ 0 ∷ 1 ∷ 0 ∷ [])
 sum_with_carry = refl
@@ -90,9 +94,7 @@ nothing_yet = refl
 
 -- the value is taken once, before the first piece is put: {s, c} = s + c
 abbrev turned : FlatStatement
-turned = assign (part 2 (at 2 6) 3 0 1 ∷ part 3 (at 2 9) 0 0 0 ∷ []) (at 2 6) true
-    (typed 5 false (binary binop.Add (typed 5 false (read 2 (at 2 18)))
-    (typed 5 false (read 3 (at 2 15)))))
+turned = adds (part 2 (at 2 6) 3 0 1 ∷ part 3 (at 2 9) 0 0 0 ∷ []) (at 2 6) 2 (at 2 18) 3 (at 2 15)
 
 pub taken_once : leaves turned (having 0 0 9 1 0) (0 ∷ 0 ∷ 5 ∷ 0 ∷ 0 ∷ [])
 taken_once = refl

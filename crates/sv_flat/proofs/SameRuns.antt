@@ -18,7 +18,8 @@ use Rattle.sv_flat.specs.Values.{signal_width, expression_width, value}
 use Rattle.sv_flat.specs.Runs.{Updates, with_piece, put_piece, run}
 use Rattle.sv_flat.specs.Soundness.{is_signal, is_part_of, piece_fits, well_formed, statement_sound}
 use Rattle.sv_flat.specs.Assigned.{has_bit, assigns, always_assigns, can_assign}
-use Rattle.sv_flat.specs.Readings.{ReadForm, BitSet, either, Reading, readings_of, readings, reads}
+use Rattle.sv_flat.specs.Readings.{BitSet, either, Reading, reading_of, readings_of}
+use Rattle.sv_flat.specs.Readings.{readings, reads}
 use Rattle.sv_flat.proofs.Members.{Contains-left, Contains-right}
 use Rattle.sv_flat.proofs.LeastSets.{either_way, or_cases, some_from, from_some}
 use Rattle.sv_flat.proofs.Depths.{first_of, second_of, from_all}
@@ -88,6 +89,40 @@ all_blocking (after first second) = all_blocking first && all_blocking second
 all_blocking (assign [] place blocking right) = true
 all_blocking (assign (p ∷ pieces) place blocking right) = blocking
 all_blocking (branch place condition first second) = all_blocking first && all_blocking second
+
+-- ---- what is assigned
+
+-- an assignment of a bit is one of its signal
+pub can_is_assigned : (body : FlatStatement) (s b : ℕ) → IsTrue (can_assign body s b) →
+    IsTrue (assigns body s)
+can_is_assigned nothing s b h = absurd (false≢true h)
+can_is_assigned (after first second) s b h = ⊎_elim
+    (λ l. or_left (assigns first s) (assigns second s) (can_is_assigned first s b l))
+    (λ r. or_right (assigns first s) (assigns second s) (can_is_assigned second s b r))
+    (or_cases (can_assign first s b) (can_assign second s b) h)
+can_is_assigned (assign pieces place blocking right) s b h =
+    let found = from_some (has_bit s b) pieces h in
+    let p = found.0 in
+    some_from (λ (q : PieceForm). q.signal == s) pieces p found.1
+    (first_of (p.signal == s) (nat_le p.low b)
+    (first_of ((p.signal == s) && nat_le p.low b) (nat_le b p.high) found.2))
+can_is_assigned (branch place condition first second) s b h = ⊎_elim
+    (λ l. or_left (assigns first s) (assigns second s) (can_is_assigned first s b l))
+    (λ r. or_right (assigns first s) (assigns second s) (can_is_assigned second s b r))
+    (or_cases (can_assign first s b) (can_assign second s b) h)
+
+-- what is assigned on every path can be
+always_can : (body : FlatStatement) (t b : ℕ) → IsTrue (always_assigns body t b) →
+    IsTrue (can_assign body t b)
+always_can nothing t b h = h
+always_can (after first second) t b h = ⊎_elim
+    (λ l. or_left (can_assign first t b) (can_assign second t b) (always_can first t b l))
+    (λ r. or_right (can_assign first t b) (can_assign second t b) (always_can second t b r))
+    (or_cases (always_assigns first t b) (always_assigns second t b) h)
+always_can (assign pieces place blocking right) t b h = h
+always_can (branch place condition first second) t b h =
+    or_left (can_assign first t b) (can_assign second t b)
+    (always_can first t b (first_of (always_assigns first t b) (always_assigns second t b) h))
 
 module _ (signals : List SignalForm) where
   piece_leaves : (blocking : Bool) (v : ℕ) (now : State) (piece : PieceForm) (t : ℕ)
@@ -181,14 +216,8 @@ module _ (signals : List SignalForm) where
         (λ given. inl (agrees.0 r.signal given.0 given.1))
         (λ known. inr (λ b from to below.
         agrees.1 r.signal b known.0 below (known.1 b from to below)))
-        (ready (record { name = r; serves = serves; assigned = before; follows = follows })
-        (Contains-map (λ (z : ReadForm).
-        record {
-          name = z;
-          serves = serves;
-          assigned = before;
-          follows = follows;
-        }) (reads signals t) r at)
+        (ready (reading_of serves before follows r)
+        (Contains-map (reading_of serves before follows) (reads signals t) r at)
         target want served))
 
     -- ---- one piece
@@ -384,25 +413,6 @@ module _ (signals : List SignalForm) where
         (untouched first (or_none_left (touches first) (touches second) h) t want)
         (untouched second (or_none_right (touches first) (touches second) h) t want)
 
-    -- what is assigned on every path is assigned
-    always_is_some : (body : FlatStatement) (t b : ℕ) → IsTrue (always_assigns body t b) →
-        IsTrue (assigns body t)
-    always_is_some nothing t b h = absurd (false≢true h)
-    always_is_some (after first second) t b h = ⊎_elim
-        (λ l. or_left (assigns first t) (assigns second t) (always_is_some first t b l))
-        (λ r. or_right (assigns first t) (assigns second t) (always_is_some second t b r))
-        (or_cases (always_assigns first t b) (always_assigns second t b) h)
-    always_is_some (assign pieces place blocking right) t b h =
-        let found = from_some (has_bit t b) pieces h in
-        let p = found.0 in
-        some_from (λ (q : PieceForm). q.signal == t) pieces p found.1
-        (first_of (p.signal == t) (nat_le p.low b)
-        (first_of ((p.signal == t) && nat_le p.low b) (nat_le b p.high) found.2))
-    always_is_some (branch place condition first second) t b h =
-        or_left (assigns first t) (assigns second t)
-        (always_is_some first t b
-        (first_of (always_assigns first t b) (always_assigns second t b) h))
-
     abbrev pub Owned : FlatStatement → Type 0
     Owned body = (t : ℕ) → IsTrue (assigns body t) → IsTrue (own t)
 
@@ -419,7 +429,7 @@ module _ (signals : List SignalForm) where
       (λ t b want below h.
           let free = untouched body none t want in
           let not_here = none_found (always_assigns body t b) (λ some.
-          false≢true (sym free ∙ always_is_some body t b some)) in
+          false≢true (sym free ∙ can_is_assigned body t b (always_can body t b some))) in
           let same = agrees.1 t b want below
           (rest_of (always_assigns body t b) (before t b) not_here h) in
           let at1 = run_leaves body t free now1 in

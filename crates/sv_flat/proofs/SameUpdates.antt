@@ -12,7 +12,8 @@ use Rattle.sv_flat.specs.Design.{assign, branch}
 use Rattle.sv_flat.specs.Values.{signal_width, value}
 use Rattle.sv_flat.specs.Runs.{Updates, with_piece, put_piece, run}
 use Rattle.sv_flat.specs.Assigned.{assigns, can_assign, always_assigns}
-use Rattle.sv_flat.specs.Readings.{ReadForm, BitSet, either, Reading, readings_of, readings, reads}
+use Rattle.sv_flat.specs.Readings.{BitSet, either, Reading, reading_of, readings_of, readings}
+use Rattle.sv_flat.specs.Readings.{ReadForm, reads}
 use Rattle.sv_flat.specs.Soundness.{is_signal, well_formed, piece_fits, statement_sound}
 use Rattle.sv_flat.proofs.Members.{Contains-left, Contains-right}
 use Rattle.sv_flat.proofs.Depths.{first_of, second_of}
@@ -120,27 +121,16 @@ module _ (signals : List SignalForm) (positive : (s : ℕ) → IsTrue (is_signal
   run_alike (assign pieces place blocking right) sound before later reading assigning now
       other alike =
       let whole = assign pieces place blocking right in
+      let here = reading_of (assigns whole) before (either (can_assign whole) later) in
       pieces_alike blocking (value signals now.0 right) (value signals other.0 right)
       (value_alike right (first_of (well_formed signals right)
       (list_all (piece_fits signals right) pieces) sound)
-      (λ r at. reading (record {
-        name = r;
-        serves = assigns whole;
-        assigned = before;
-        follows = either (can_assign whole) later;
-      })
-      (Contains-map (λ (x : ReadForm).
-      record {
-        name = x;
-        serves = assigns whole;
-        assigned = before;
-        follows = either (can_assign whole) later;
-      })
-      (reads signals right) r at)) now other alike)
+      (λ r at. reading (here r) (Contains-map here (reads signals right) r at)) now other alike)
       pieces assigning now other alike
   run_alike (branch place condition first second) sound before later reading assigning now
       other alike =
       let whole = branch place condition first second in
+      let here = reading_of (assigns whole) before (either (can_assign whole) later) in
       let front = first_of (well_formed signals condition && statement_sound signals first)
       (statement_sound signals second) sound in
       let conditions = readings_of signals condition (assigns whole) before
@@ -151,21 +141,9 @@ module _ (signals : List SignalForm) (positive : (s : ℕ) → IsTrue (is_signal
       (is_true (value signals other.0 condition))
       (ap is_true (value_alike condition
       (first_of (well_formed signals condition) (statement_sound signals first) front)
-      (λ r at. reading (record {
-        name = r;
-        serves = assigns whole;
-        assigned = before;
-        follows = either (can_assign whole) later;
-      })
+      (λ r at. reading (here r)
       (Contains-left (conditions ++ left) right _ (Contains-left conditions left _
-      (Contains-map (λ (x : ReadForm).
-      record {
-        name = x;
-        serves = assigns whole;
-        assigned = before;
-        follows = either (can_assign whole) later;
-      })
-      (reads signals condition) r at)))) now other alike))
+      (Contains-map here (reads signals condition) r at)))) now other alike))
       (run signals first now) (run signals second now) (run signals first other)
       (run signals second other)
       (run_alike first (second_of (well_formed signals condition) (statement_sound signals first)

@@ -81,14 +81,25 @@ module _ (design : FlatDesign) (is_sound : IsTrue (sound design)) where
       (from_all (is_point design) (map_of design.maps k).rows row each at))
 
 module _ (design : FlatDesign) where
+  -- the parts of a sound label by a map
+  pub label_parts : (k first : ℕ) (second : Option ℕ)
+      → IsTrue (label_sound design (Table k first second))
+      → (k < length design.maps)
+      × IsTrue (selector_fits design.signals first (map_of design.maps k).first)
+      × IsTrue (second_fits design.signals second (map_of design.maps k).second)
+  label_parts k first second h =
+      let known = nat_lt k (length design.maps) in
+      let fits = selector_fits design.signals first (map_of design.maps k).first in
+      let others = second_fits design.signals second (map_of design.maps k).second in
+      let both = first_of (known && fits) others h in (
+        ltb-true k (length design.maps) (first_of known fits both),
+        second_of known fits both,
+        second_of (known && fits) others h,
+      )
+
   pub label_map : (k first : ℕ) (second : Option ℕ) →
       IsTrue (label_sound design (Table k first second)) → k < length design.maps
-  label_map k first second h = ltb-true k (length design.maps)
-      (first_of (nat_lt k (length design.maps))
-      (selector_fits design.signals first (map_of design.maps k).first)
-      (first_of (nat_lt k (length design.maps)
-      && selector_fits design.signals first (map_of design.maps k).first)
-      (second_fits design.signals second (map_of design.maps k).second) h))
+  label_map k first second h = (label_parts k first second h).0
 
   fits_known : (t width : ℕ) → IsTrue (selector_fits design.signals t width) →
       t < length design.signals
@@ -97,19 +108,13 @@ module _ (design : FlatDesign) where
 
   pub label_first : (k first : ℕ) (second : Option ℕ) →
       IsTrue (label_sound design (Table k first second)) → first < length design.signals
-  label_first k first second h = fits_known first (map_of design.maps k).first
-      (second_of (nat_lt k (length design.maps))
-      (selector_fits design.signals first (map_of design.maps k).first)
-      (first_of (nat_lt k (length design.maps)
-      && selector_fits design.signals first (map_of design.maps k).first)
-      (second_fits design.signals second (map_of design.maps k).second) h))
+  label_first k first second h =
+      fits_known first (map_of design.maps k).first (label_parts k first second h).1
 
   pub label_second : (k first t : ℕ) →
       IsTrue (label_sound design (Table k first (Some t))) → t < length design.signals
-  label_second k first t h = by_range (map_of design.maps k).second
-      (second_of (nat_lt k (length design.maps)
-      && selector_fits design.signals first (map_of design.maps k).first)
-      (second_fits design.signals (Some t) (map_of design.maps k).second) h)
+  label_second k first t h =
+      by_range (map_of design.maps k).second (label_parts k first (Some t) h).2
     where
       by_range : (range : Option ℕ) → IsTrue (second_fits design.signals (Some t) range) →
           t < length design.signals

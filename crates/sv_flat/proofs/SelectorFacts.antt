@@ -1,5 +1,5 @@
 -- Labels, the signals that select them, and the flows of a lattice.
-use Rattle.std.proofs.Common.{◌≡◌, ℕ, ◌+◌, ◌*◌, ◌<◌, ◌^◌, not, ◌&&◌, ◌==◌, nat_lt, ltb-true, List}
+use Rattle.std.proofs.Common.{◌≡◌, ℕ, ◌+◌, ◌*◌, ◌<◌, ◌^◌, not, ◌&&◌, ◌==◌, ltb-true, List}
 use Rattle.std.proofs.Common.{[], ◌∷◌, ◌++◌, length, ◌⊎◌, inl, inr, ⊎_elim, refl, sym, ap, ap₂}
 use Rattle.std.proofs.Common.{subst, ◌∙◌, arith, Option, Some, None}
 use Rattle.std.specs.Prelude.{Contains, All, IsTrue, IsFalse, unwrap_or}
@@ -37,6 +37,7 @@ use Rattle.sv_flat.proofs.AdmittedFacts.{empty_left, empty_right, none_pass, neg
 use Rattle.sv_flat.proofs.AdmittedFacts.{negated_true, signal_is_sound}
 use Rattle.sv_flat.specs.Selectors.{selectors_of, flows_to_rows, rows_of, always_flows}
 use Rattle.sv_flat.proofs.Members.{only}
+use Rattle.sv_flat.proofs.SelectorBounds.{label_parts}
 
 -- the label is made from its selectors
 pub label_selected : (maps : List MapRows) (label : Label) (e f : Environment ℕ)
@@ -94,33 +95,17 @@ module _ (design : FlatDesign) (is_sound : IsTrue (sound design))
   no_second (Some width) h = absurd (false≢true h)
 
   -- the parts of a sound label
-  known_map : (map first : ℕ) (second : Option ℕ) →
-      IsTrue (label_sound design (Table map first second)) → map < length design.maps
-  known_map map first second h = ltb-true map (length design.maps)
-      (first_of (nat_lt map (length design.maps))
-      (selector_fits design.signals first (map_of design.maps map).first)
-      (first_of (nat_lt map (length design.maps)
-      && selector_fits design.signals first (map_of design.maps map).first)
-      (second_fits design.signals second (map_of design.maps map).second) h))
-
   first_fits : (map first : ℕ) (second : Option ℕ)
       → IsTrue (label_sound design (Table map first second))
       → IsTrue (is_signal design.signals first)
       × (signal_width design.signals first ≡ (map_of design.maps map).first)
-  first_fits map first second h = fitting first (map_of design.maps map).first
-      (second_of (nat_lt map (length design.maps))
-      (selector_fits design.signals first (map_of design.maps map).first)
-      (first_of (nat_lt map (length design.maps)
-      && selector_fits design.signals first (map_of design.maps map).first)
-      (second_fits design.signals second (map_of design.maps map).second) h))
+  first_fits map first second h =
+      fitting first (map_of design.maps map).first (label_parts design map first second h).1
 
   seconds : (map first : ℕ) (second : Option ℕ)
       → IsTrue (label_sound design (Table map first second))
       → IsTrue (second_fits design.signals second (map_of design.maps map).second)
-  seconds map first second h =
-      second_of (nat_lt map (length design.maps)
-      && selector_fits design.signals first (map_of design.maps map).first)
-      (second_fits design.signals second (map_of design.maps map).second) h
+  seconds map first second h = (label_parts design map first second h).2
 
   selector_is_signal : (label : Label) → IsTrue (label_sound design label) → (t : ℕ)
       → Contains (selectors_of label) t
@@ -236,7 +221,7 @@ module _ (design : FlatDesign) (is_sound : IsTrue (sound design)) (admitted : Is
       let m = map_of design.maps map in
       let none = no_second design is_sound admitted m.second
       (seconds design is_sound admitted map first None sound) in
-      in_rows map (known_map design is_sound admitted map first None sound) (e first)
+      in_rows map (label_parts design map first None sound).0 (e first)
       (subst (λ (o : Option ℕ). e first < 2 ^ (m.first + unwrap_or o 0)) (sym none)
       (subst (λ n. e first < 2 ^ n)
       ((first_fits design is_sound admitted map first None sound).1 ∙ omega arith)
@@ -248,7 +233,7 @@ module _ (design : FlatDesign) (is_sound : IsTrue (sound design)) (admitted : Is
       let width = found.0 in
       let low = fits second (Contains-later first (second ∷ []) second (Contains-head second [])) in
       let high = fits first (Contains-head first (second ∷ [])) in
-      in_rows map (known_map design is_sound admitted map first (Some second) sound)
+      in_rows map (label_parts design map first (Some second) sound).0
       (pair_value m (e first) (e second))
       (subst (λ (o : Option ℕ).
       e first * 2 ^ unwrap_or o 0 + e second < 2 ^ (m.first + unwrap_or o 0)) (sym found.1)

@@ -115,11 +115,15 @@ pub record Reading : Type 0 where
   pub assigned : BitSet
   pub follows : BitSet
 
+-- a name that is read there
+abbrev pub reading_of : (serves : ℕ → Bool) → (assigned follows : BitSet) → ReadForm → Reading
+reading_of serves assigned follows r =
+    record { name = r; serves = serves; assigned = assigned; follows = follows }
+
 abbrev pub readings_of : List SignalForm → TypedTree → (serves : ℕ → Bool) →
     (assigned follows : BitSet) → List Reading
 readings_of signals e serves assigned follows =
-    map (λ r. record { name = r; serves = serves; assigned = assigned; follows = follows })
-    (reads signals e)
+    map (reading_of serves assigned follows) (reads signals e)
 
 -- The names in a statement, where some bits are assigned before it, and some can be assigned after
 -- it. A right side serves the targets of its assignment, and a condition those that one of its arms

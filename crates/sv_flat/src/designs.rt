@@ -62,9 +62,9 @@ impl Process {
 }
 
 impl Copied for Process {
-    ghost Form = { ProcessForm };
+    ghost Plain = { ProcessForm };
 
-    ghost form = { process_form };
+    ghost plain = { process_form };
 
     fn copy(&self, alloc: Global) -> Result<Process, AllocError> {
         Process::copy(self, alloc)

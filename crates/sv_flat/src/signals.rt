@@ -57,9 +57,9 @@ impl Signal {
 }
 
 impl Copied for Signal {
-    ghost Form = { SignalForm };
+    ghost Plain = { SignalForm };
 
-    ghost form = { signal_form };
+    ghost plain = { signal_form };
 
     fn copy(&self, alloc: Global) -> Result<Signal, AllocError> {
         Signal::copy(self, alloc)

@@ -207,6 +207,16 @@ row_is graph s v inside is =
     ∙ sym (get_or-map (λ (r : Vec SigId Global).
     numbers r.items) graph.rows.items s v [] inside)
 
+-- the row that a loop over the rows comes to
+pub row_reached : (graph : Graph) (rows : List (Vec SigId Global)) (s : ℕ) (v : Vec SigId Global)
+    (items : List SigId)
+    → rows ≡ graph.rows.items → s < length rows → v ≡ get_or rows s v → items ≡ v.items
+    → numbers items ≡ row graph s
+row_reached graph rows s v items same inside is listed =
+    ap numbers listed
+    ∙ row_is graph s v (subst (λ (rs : List (Vec SigId Global)). s < length rs) same inside)
+    (subst (λ (rs : List (Vec SigId Global)). v ≡ get_or rs s v) same is)
+
 pub last_is : (signals : List SigId) (last : SigId) (k : ℕ)
     → slice_get signals (length signals - 1) ≡ Some last
     → (last.0 == k) ≡ ends_in (numbers signals) k

@@ -1,4 +1,5 @@
 pub mod ListFacts
+pub mod SignalLists
 pub mod BitFacts
 pub mod MarkFacts
 pub mod GraphFacts

@@ -1,6 +1,5 @@
 pub mod Given
 pub mod Histories
-pub mod Known
 pub mod Repeating
 pub mod Rising
 pub mod Walks

@@ -74,9 +74,7 @@ at_place (Some y) x P e all =
 at_end : (o : Option ℕ) (x : ℕ) (P : ℕ → Type 0) → option_map (λ y. y) o ≡ Some (0 + x) →
     IsSomeAnd o P → P x
 at_end None x P e all = cc
-at_end (Some y) x P e all =
-    let is : y ≡ 0 + x = cc in
-    subst P {x = y} {y = x} (omega (arith, is)) all
+at_end (Some y) x P e all = at_place (Some y) x P e all
 
 module _ (n : ℕ) (Q : ℕ → ℕ → Type 0) {F : Type 0}
     {g : Mut F (ℕ × Unit {0}) (Option (ℕ × ℕ))} (f : F) (keeps : CallKeepsClosure g f)

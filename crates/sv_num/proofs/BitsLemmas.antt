@@ -20,8 +20,14 @@ module _ (a b : Bits) (widths : width_of a ≡ width_of b) where
   pub second_at : number_of b ≡ number_at (width_of a) (negative b) (value_of b)
   second_at = ap (λ n. number_at n (negative b) (value_of b)) (sym widths)
 
-  pub second_low : value_of b < 2 ^ width_of a
+  second_low : value_of b < 2 ^ width_of a
   second_low = rw widths b.in_range.2
+
+  -- what is below a power of two where both numbers are
+  pub both_low : (op : ℕ → ℕ → ℕ)
+      → ((n x y : ℕ) → x < 2 ^ n → y < 2 ^ n → op x y < 2 ^ n)
+      → op (value_of a) (value_of b) < 2 ^ width_of a
+  both_low op low = low (width_of a) (value_of a) (value_of b) a.in_range.2 second_low
 
   pub sum_of : reduced (width_of a) (number_of a +ℤ number_of b) ≡
       (value_of a + value_of b) % 2 ^ width_of a

@@ -6,21 +6,22 @@ use crate::faults::Place;
 use crate::names::Name;
 use std::alloc::{AllocError, Global};
 
-/// What takes memory to copy. Two values with one plain form are equal.
+/// What is copied part by part, into new memory where a part owns some. `plain` is what a contract
+/// compares of two values: it leaves out no field.
 pub trait Copied: Sized + Drop {
-    ghost Form: { Type 0 };
+    ghost Plain: { Type 0 };
 
-    ghost form: { Self → Form };
+    ghost plain: { Self → Plain };
 
-    /// A second value that is equal. It fails where memory runs out.
+    /// A second value with the same plain form. It fails where memory runs out.
     fn copy(&self, alloc: Global) -> Result<Self, AllocError>
-        ensures { IfOk result (λ copy. form copy ≡ form self.now) };
+        ensures { IfOk result (λ copy. plain copy ≡ plain self.now) };
 }
 
 impl Copied for Name {
-    ghost Form = { List ℕ };
+    ghost Plain = { List ℕ };
 
-    ghost form = { λ name. name };
+    ghost plain = { λ name. name };
 
     fn copy(&self, alloc: Global) -> Result<Name, AllocError> {
         Name::copy(self, alloc)
@@ -30,9 +31,9 @@ impl Copied for Name {
 impl Copied for Place {
     ghost use Rattle.sv_num.specs.declared.faults.Place.{Place};
 
-    ghost Form = { Place };
+    ghost Plain = { Place };
 
-    ghost form = { λ place. place };
+    ghost plain = { λ place. place };
 
     fn copy(&self, _alloc: Global) -> Result<Place, AllocError> {
         Ok(*self)
@@ -40,9 +41,9 @@ impl Copied for Place {
 }
 
 impl<A: Copied, B: Copied> Copied for (A, B) {
-    ghost Form = { A.Form × B.Form };
+    ghost Plain = { A.Plain × B.Plain };
 
-    ghost form = { λ pair. (A.form pair.0, B.form pair.1) };
+    ghost plain = { λ pair. (A.plain pair.0, B.plain pair.1) };
 
     fn copy(&self, alloc: Global) -> Result<(A, B), AllocError> {
         Ok((self.0.copy(alloc)?, self.1.copy(alloc)?))
@@ -50,9 +51,9 @@ impl<A: Copied, B: Copied> Copied for (A, B) {
 }
 
 impl<A: Copied, B: Copied, C: Copied> Copied for (A, B, C) {
-    ghost Form = { A.Form × B.Form × C.Form };
+    ghost Plain = { A.Plain × B.Plain × C.Plain };
 
-    ghost form = { λ parts. (A.form parts.0, B.form parts.1, C.form parts.2) };
+    ghost plain = { λ parts. (A.plain parts.0, B.plain parts.1, C.plain parts.2) };
 
     fn copy(&self, alloc: Global) -> Result<(A, B, C), AllocError> {
         Ok((
@@ -64,10 +65,10 @@ impl<A: Copied, B: Copied, C: Copied> Copied for (A, B, C) {
 }
 
 impl<A: Copied, B: Copied, C: Copied, D: Copied> Copied for (A, B, C, D) {
-    ghost Form = { A.Form × B.Form × C.Form × D.Form };
+    ghost Plain = { A.Plain × B.Plain × C.Plain × D.Plain };
 
-    ghost form = { λ parts.
-        (A.form parts.0, B.form parts.1, C.form parts.2, D.form parts.3) };
+    ghost plain = { λ parts.
+        (A.plain parts.0, B.plain parts.1, C.plain parts.2, D.plain parts.3) };
 
     fn copy(&self, alloc: Global) -> Result<(A, B, C, D), AllocError> {
         let first = self.0.copy(alloc)?;
@@ -77,9 +78,9 @@ impl<A: Copied, B: Copied, C: Copied, D: Copied> Copied for (A, B, C, D) {
 }
 
 impl<T: Copied> Copied for Option<T> {
-    ghost Form = { Option T.Form };
+    ghost Plain = { Option T.Plain };
 
-    ghost form = { option_map T.form };
+    ghost plain = { option_map T.plain };
 
     fn copy(&self, alloc: Global) -> Result<Option<T>, AllocError> {
         match self {
@@ -90,9 +91,9 @@ impl<T: Copied> Copied for Option<T> {
 }
 
 impl<T: Copied> Copied for Vec<T> {
-    ghost Form = { List T.Form };
+    ghost Plain = { List T.Plain };
 
-    ghost form = { λ items. map T.form items.items };
+    ghost plain = { λ items. map T.plain items.items };
 
     fn copy(&self, alloc: Global) -> Result<Vec<T>, AllocError> {
         let mut copies = Vec::with_capacity(alloc, self.len())?;

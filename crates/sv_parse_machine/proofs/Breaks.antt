@@ -209,65 +209,61 @@ same_before : (ts before : List Placed) (t : Placed) (after : List Placed) (f : 
 same_before ts before t after f s parts =
     append_cancel_right s.before before (t ∷ after) (sym s.parts ∙ parts)
 
--- 201 or 202, with what may begin there
+-- with what may begin there
+breaks_at : (number : ℕ) (names : List (List ℕ)) (ts : List Placed) (t : Placed)
+    (after : List Placed) (f : Failure) (stop : Place)
+    (s : Stopped form_of_text text_of_form ts t after f) → TokenBreaks number names s.before t after
+    → BreaksGrammar number names t.place stop ts
+unfolding BreaksGrammar
+breaks_at number names ts t after f stop s rule = inl (
+  s.before,
+  t,
+  after,
+  s.parts,
+  refl,
+  begins_within_all form_of_text text_of_form ts t after s,
+  rule,
+)
+
+-- 201 or 202
 pub stuck_breaks : (ts before : List Placed) (t : Placed) (after : List Placed) (e : Expected)
     (stop : Place) → ts ≡ before ++ t ∷ after
     → run all_limits text_state ts ≡ fails (stuck_at e) (t ∷ after)
     → BreaksGrammar (stuck_number (refused_word e before t.lexeme after))
     (stuck_names (refused_word e before t.lexeme after)) t.place stop ts
-unfolding BreaksGrammar
 stuck_breaks ts before t after e stop parts failed =
     let s = stopped form_of_text text_of_form ts t after (stuck_at e) failed in
     let same = same_before ts before t after (stuck_at e) s parts in
-    let rule : TokenBreaks (stuck_number (refused_word e before t.lexeme after))
-    (stuck_names (refused_word e before t.lexeme after)) s.before t after =
-    subst (λ us. TokenBreaks (stuck_number (refused_word e us t.lexeme after))
+    breaks_at (stuck_number (refused_word e before t.lexeme after))
+    (stuck_names (refused_word e before t.lexeme after)) ts t after (stuck_at e) stop s
+    (subst (λ us. TokenBreaks (stuck_number (refused_word e us t.lexeme after))
     (stuck_names (refused_word e us t.lexeme after)) s.before t after) same
-    (token_breaks ts t after e s (refused_word e s.before t.lexeme after) refl) in
-    inl (
-      s.before,
-      t,
-      after,
-      s.parts,
-      refl,
-      begins_within_all form_of_text text_of_form ts t after
-          s,
-      rule,
-    )
+    (token_breaks ts t after e s (refused_word e s.before t.lexeme after) refl))
 
--- 203
-pub deep_breaks : (ts : List Placed) (t : Placed) (after : List Placed) (stop : Place)
-    → run all_limits text_state ts ≡ fails too_deep (t ∷ after)
-    → BreaksGrammar 203 [] t.place stop ts
-unfolding BreaksGrammar
-deep_breaks ts t after stop failed =
-    let s = stopped form_of_text text_of_form ts t after too_deep failed in
-    inl (
-      s.before,
-      t,
-      after,
-      s.parts,
-      refl,
-      begins_within_all form_of_text text_of_form ts t after s,
-      inr (inr (inl (refl, refl, deep_is_deep form_of_text text_of_form ts t after s))),
-    )
+-- a failure at a limit breaks the rule of that number
+abbrev pub BreaksLimit : ℕ → Failure → Type 0
+BreaksLimit number f =
+    (ts : List Placed) (t : Placed) (after : List Placed) (stop : Place)
+    → run all_limits text_state ts ≡ fails f (t ∷ after)
+    → BreaksGrammar number [] t.place stop ts
 
--- 204
-pub long_breaks : (ts : List Placed) (t : Placed) (after : List Placed) (stop : Place)
-    → run all_limits text_state ts ≡ fails too_long (t ∷ after)
-    → BreaksGrammar 204 [] t.place stop ts
-unfolding BreaksGrammar
-long_breaks ts t after stop failed =
-    let s = stopped form_of_text text_of_form ts t after too_long failed in
-    inl (
-      s.before,
-      t,
-      after,
-      s.parts,
-      refl,
-      begins_within_all form_of_text text_of_form ts t after s,
-      inr (inr (inr (refl, refl, long_is_long form_of_text text_of_form ts t after s))),
-    )
+limit_breaks : (number : ℕ) (f : Failure)
+    → ((ts : List Placed) (t : Placed) (after : List Placed)
+    (s : Stopped form_of_text text_of_form ts t after f) → TokenBreaks number [] s.before t after)
+    → BreaksLimit number f
+limit_breaks number f rule ts t after stop failed =
+    let s = stopped form_of_text text_of_form ts t after f failed in
+    breaks_at number [] ts t after f stop s (rule ts t after s)
+
+pub deep_breaks : BreaksLimit 203 too_deep
+deep_breaks ts t after stop failed = limit_breaks 203 too_deep (λ us u rest s.
+    inr (inr (inl (refl, refl, deep_is_deep form_of_text text_of_form us u rest s))))
+    ts t after stop failed
+
+pub long_breaks : BreaksLimit 204 too_long
+long_breaks ts t after stop failed = limit_breaks 204 too_long (λ us u rest s.
+    inr (inr (inr (refl, refl, long_is_long form_of_text text_of_form us u rest s))))
+    ts t after stop failed
 
 -- 201 at the end
 pub end_breaks : (ts : List Placed) (f : Failure) (stop : Place) →

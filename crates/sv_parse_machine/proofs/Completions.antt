@@ -30,6 +30,7 @@ use Rattle.std.specs.Prelude.{IsTrue, nat_lt, codes}
 use Rattle.std.proofs.lemmas.Bool.{false≢true}
 use Rattle.sv_token.specs.declared.signs.Operator.{Operator}
 use Rattle.sv_token.specs.Tokens.{first_place}
+use Rattle.sv_ast.specs.GrammarForms.{◌⨾◌, nothing, a_sign}
 use Rattle.sv_ast.specs.GrammarGroups.{literal}
 use Rattle.sv_ast.specs.GrammarExpressions.{Limits, is_within}
 use Rattle.sv_ast.specs.Tree.{null, no_arms, more_arms}
@@ -239,6 +240,31 @@ closed_arms l n zero default us few less =
       ),
     )
 
+-- a name with its value
+closed_setting : (l : Limits) (us : List Placed) → Quiet us → length (a_number ∷ us) ≤ l.unread
+    → (some_name ⨾ a_sign signs.Equals ⨾ expression_form l 0 ⨾ nothing)
+    (a_name ∷ a_token (sign signs.Equals) ∷ a_number ∷ us) us
+closed_setting l us quiet less = (
+  a_token (sign signs.Equals) ∷ a_number ∷ us,
+  no_words l (a_token (sign signs.Equals) ∷ a_number ∷ us),
+  (a_number ∷ us, (first_place, refl), (us, a_value l 0 us quiet less, refl)),
+)
+
+-- an edge of a clock
+closed_edge : (l : Limits) (us : List Placed) →
+    outer_form l event_inside (closing event_inside ++ us) us
+closed_edge l us =
+    inr (
+      a_name ∷ a_token (sign signs.CloseParenthesis) ∷
+          us,
+      (first_place, refl),
+      (
+        a_token (sign signs.CloseParenthesis) ∷ us,
+        no_words l (a_token (sign signs.CloseParenthesis) ∷ us),
+        (us, (first_place, refl), refl),
+      ),
+    )
+
 -- a name with a range behind it
 closed_range : (l : Limits) (us : List Placed) → outer_form l map_name (closing map_name ++ us) us
 closed_range l us = (
@@ -331,21 +357,11 @@ closed l header_parameter us few sane quiet less = (
         us,
     skip_parameter_type l (a_name ∷ a_token (sign signs.Equals) ∷ a_number ∷ us)
         refl,
-    (
-      a_token (sign signs.Equals) ∷ a_number ∷
-          us,
-      (short_name, (first_place, (short_name_is_free, refl))),
-      (a_number ∷ us, (first_place, refl), (us, a_value l 0 us quiet (omega arith), refl)),
-    ),
+    closed_setting l us quiet (omega arith),
   ),
 )
 closed l later_header_parameter us few sane quiet less =
-    inr (
-      a_token (sign signs.Equals) ∷ a_number ∷
-          us,
-      (short_name, (first_place, (short_name_is_free, refl))),
-      (a_number ∷ us, (first_place, refl), (us, a_value l 0 us quiet (omega arith), refl)),
-    )
+    inr (closed_setting l us quiet (omega arith))
 closed l more_header_parameters us few sane quiet less =
     (zero, (a_token (sign signs.CloseParenthesis) ∷ us, refl, (first_place, refl)))
 closed l parameter_type us few sane quiet less = skip_parameter_type l us quiet
@@ -476,12 +492,7 @@ closed l value_or_release us few sane quiet less =
       ),
     )
 closed l later_assigned us few sane quiet less =
-    inl (
-      a_token (sign signs.Equals) ∷ a_number ∷
-          us,
-      (short_name, (first_place, (short_name_is_free, refl))),
-      (a_number ∷ us, (first_place, refl), (us, a_value l 0 us quiet (omega arith), refl)),
-    )
+    inl (closed_setting l us quiet (omega arith))
 closed l more_assigned us few sane quiet less =
     (zero, (a_token (sign signs.Semicolon) ∷ us, refl, (first_place, refl)))
 closed l event us few sane quiet less =
@@ -489,34 +500,9 @@ closed l event us few sane quiet less =
       a_token (word words.Posedge) ∷ a_name ∷ a_token (sign signs.CloseParenthesis) ∷
           us,
       (first_place, refl),
-      (
-        us,
-        inr (
-          a_name ∷ a_token (sign signs.CloseParenthesis) ∷
-              us,
-          (first_place, refl),
-          (
-            a_token (sign signs.CloseParenthesis) ∷
-                us,
-            (short_name, (first_place, (short_name_is_free, refl))),
-            (us, (first_place, refl), refl),
-          ),
-        ),
-        refl,
-      ),
+      (us, closed_edge l us, refl),
     )
-closed l event_inside us few sane quiet less =
-    inr (
-      a_name ∷ a_token (sign signs.CloseParenthesis) ∷
-          us,
-      (first_place, refl),
-      (
-        a_token (sign signs.CloseParenthesis) ∷
-            us,
-        (short_name, (first_place, (short_name_is_free, refl))),
-        (us, (first_place, refl), refl),
-      ),
-    )
+closed l event_inside us few sane quiet less = closed_edge l us
 closed l perhaps_overrides us few sane quiet less = skip_perhaps_overrides l us quiet
 closed l overrides us few sane quiet less =
     inr (

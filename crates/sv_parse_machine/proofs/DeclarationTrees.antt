@@ -18,7 +18,7 @@ use Rattle.sv_ast.specs.GrammarDeclarations.{IsLaterParameter, AreParameters, Ar
 use Rattle.sv_ast.specs.GrammarDeclarations.{IsSignalKind, IsSignalValue, IsNamedSignal, AreSignals}
 use Rattle.sv_ast.specs.GrammarDeclarations.{IsMemoryLabel, IsMemory}
 use Rattle.sv_ast.specs.GrammarStatements.{only}
-use Rattle.sv_parse_machine.specs.ModuleTable.{perhaps_value_on, perhaps_signed_on, perhaps_range_on}
+use Rattle.sv_parse_machine.specs.ModuleTable.{perhaps_value_on}
 use Rattle.sv_parse_machine.specs.ModuleTable.{perhaps_second_name_on}
 use Rattle.sv_parse_machine.proofs.ExpressionForms.{Next, ends_name, ends_tail, expression_form}
 use Rattle.sv_parse_machine.proofs.OuterForms.{IsOver, some_name, some_number, more_names_form}
@@ -29,8 +29,9 @@ use Rattle.sv_parse_machine.proofs.OuterForms.{behind_reg_name_form, label_selec
 use Rattle.sv_parse_machine.proofs.OuterForms.{reg_label_end_form, reg_label_form}
 use Rattle.sv_parse_machine.proofs.StatementSteps.{value_up_to, next_later}
 use Rattle.sv_parse_machine.proofs.StatementForms.{expression_tree}
+use Rattle.sv_parse_machine.proofs.TreeParts.{typed_parameter, declared_tree}
 use Rattle.sv_parse_machine.proofs.ListTrees.{next_sign, next_name, Any, Follows, f_later, b_later}
-use Rattle.sv_parse_machine.proofs.TypeTrees.{f_signed, b_signed, next_range, f_range, b_range}
+use Rattle.sv_parse_machine.proofs.TypeTrees.{b_signed, f_signed_range, b_range}
 use Rattle.sv_parse_machine.proofs.TypeTrees.{f_second_name, b_second_name, next_label, f_typed, b_label}
 use Rattle.sv_parse_machine.proofs.TypeTrees.{f_parameter_type, b_parameter_type, named_parameter_form}
 use Rattle.sv_parse_machine.proofs.TypeTrees.{f_named_parameter, b_named_parameter}
@@ -94,10 +95,7 @@ b_later_parameter : (l : Limits) (a : ParameterTree) (ts rest : List Placed) →
     named_parameter_form l ts rest → NextParameter l a ts rest
 b_later_parameter l a ts rest known is =
     let named = b_named_parameter l ts rest is in (
-      record {
-        local = a.local;
-        signed = a.signed;
-        span = a.span;
+      record a {
         name = named.0;
         place = named.1;
         value = named.2;
@@ -117,14 +115,7 @@ b_parameters_of l local ts m rest is
     let types = b_parameter_type l m m1 type in
     let named = b_named_parameter l m1 m4 (m2, name, (m3, sets, value)) in
     let q : ParameterTree =
-    record {
-      local = local;
-      signed = types.0;
-      span = types.1;
-      name = named.0;
-      place = named.1;
-      value = named.2;
-    } in
+    typed_parameter local types.0 types.1 named.0 named.1 named.2 in
     let further = b_later (IsLaterParameter l) (named_parameter_form l) Any signs.Semicolon
     (b_later_parameter l) q k m4 m5 rest tt others final in
     (q ∷ further.0, (further.1.0, (m4, (m, is, (m1, types.2, named.3)), further.1.1), further.1.2))
@@ -224,11 +215,8 @@ b_later_wire : (l : Limits) (a : DeclarationTree) (ts rest : List Placed) → Is
     named_wire_form l ts rest → NextSignal l kinds.Wire a ts rest
 b_later_wire l a ts rest known (m, (x, (p, name)), value) =
     let value = b_value l m rest value in (
-      record {
+      record a {
         kind = kinds.Wire;
-        signed = a.signed;
-        span = a.span;
-        label = a.label;
         name = x;
         place = p;
         value = value.0;
@@ -259,15 +247,7 @@ b_wires l ts rest (
     let label = b_label l m2 m3 label in
     let value = b_value l m4 m5 value in
     let d : DeclarationTree =
-    record {
-      kind = kinds.Wire;
-      signed = signed.0;
-      span = range.0;
-      label = label.0;
-      name = x;
-      place = p;
-      value = value.0;
-    } in
+    declared_tree kinds.Wire signed.0 range.0 label.0 x p value.0 in
     let further = b_later (LaterSignal l) (named_wire_form l) (IsOfKind kinds.Wire) signs.Semicolon
     (b_later_wire l) d k m5 m6 rest refl others final in (
       d ∷ further.0,
@@ -567,22 +547,11 @@ f_registers l d ds ts m m1 m2 rest kind is (m3, signed, (m4, range, label)) name
     let name = f_named_register l d m1 m2 kind named in (
       m,
       is,
-      (
-        m3,
-        f_signed l d.signed m m3 signed
-            (next_range (λ x. IsOver (perhaps_signed_on x)) l d.span m3 m4 tt
-            (next_label (λ x. IsOver (perhaps_signed_on x)) d.label m4 m1 tt
-            (next_name (λ x. IsOver (perhaps_signed_on x)) m1 m2 (λ x. tt) name) label) range),
-        (
-          m4,
-          f_range l d.span m3 m4 range
-              (next_label (λ x. IsOver (perhaps_range_on x)) d.label m4 m1 tt
-              (next_name (λ x. IsOver (perhaps_range_on x)) m1 m2 (λ x. tt) name) label),
-          f_registers_behind l d.label m4 m1 m2 rest label name
-              (f_later (LaterSignal l) some_name (IsOfKind kinds.Reg) signs.Semicolon
-              (f_later_register l) d ds m2 rest kind others),
-        ),
-      ),
+      f_signed_range l d.signed d.span (reg_label_form l) m m3 m4 rest signed range
+          (λ P opens names. next_label P d.label m4 m1 opens (next_name P m1 m2 names name) label)
+          (f_registers_behind l d.label m4 m1 m2 rest label name
+          (f_later (LaterSignal l) some_name (IsOfKind kinds.Reg) signs.Semicolon
+          (f_later_register l) d ds m2 rest kind others)),
     )
 
 f_signals_of : (l : Limits) (k : DeclKind) (d : DeclarationTree) (ds : List DeclarationTree)
@@ -634,23 +603,11 @@ f_memory l d ts mid rest (
     let name : some_name m3 m4 = (d.name, (d.place, named)) in (
       m,
       is,
-      (
-        m1,
-        f_signed l d.signed m m1 signed
-            (next_range (λ x. IsOver (perhaps_signed_on x)) l d.span m1 m2 tt
-            (next_memory_label (λ x.
-            IsOver (perhaps_signed_on x)) d.label m2 m3 tt
-            (next_name (λ x. IsOver (perhaps_signed_on x)) m3 m4 (λ x. tt) name) label) range),
-        (
-          m2,
-          f_range l d.span m1 m2 range
-              (next_memory_label (λ x.
-              IsOver (perhaps_range_on x)) d.label m2 m3 tt
-              (next_name (λ x. IsOver (perhaps_range_on x)) m3 m4 (λ x. tt) name) label),
-          f_memory_behind l d.label m2 m3 m4 mid rest label name
-              (m5, opens, (m7, (d.first, first), (m8, colon, (m6, (d.last, last), close)))) final,
-        ),
-      ),
+      f_signed_range l d.signed d.span (reg_label_form l) m m1 m2 rest signed range
+          (λ P opens names.
+          next_memory_label P d.label m2 m3 opens (next_name P m3 m4 names name) label)
+          (f_memory_behind l d.label m2 m3 m4 mid rest label name
+          (m5, opens, (m7, (d.first, first), (m8, colon, (m6, (d.last, last), close)))) final),
     )
 
 pub f_memories : (l : Limits) (ms : List MemoryTree) (ts rest : List Placed) →
@@ -662,11 +619,8 @@ f_memories l (d ∷ e ∷ ds) ts rest (m, never, final) = absurd never
 b_later_register : (l : Limits) (a : DeclarationTree) (ts rest : List Placed) →
     IsOfKind kinds.Reg a → some_name ts rest → NextSignal l kinds.Reg a ts rest
 b_later_register l a ts rest known (x, (p, name)) = (
-  record {
+  record a {
     kind = kinds.Reg;
-    signed = a.signed;
-    span = a.span;
-    label = a.label;
     name = x;
     place = p;
     value = None;
@@ -687,15 +641,7 @@ b_regs_behind l ts m m1 m2 rest is signed range
     let signed = b_signed l m m1 signed in
     let range = b_range l m1 m2 range in
     let d : DeclarationTree =
-    record {
-      kind = kinds.Reg;
-      signed = signed.0;
-      span = range.0;
-      label = b;
-      name = x;
-      place = p;
-      value = None;
-    } in
+    declared_tree kinds.Reg signed.0 range.0 b x p None in
     let further = b_later (LaterSignal l) some_name (IsOfKind kinds.Reg) signs.Semicolon
     (b_later_register l) d k m4 m5 rest refl others final in
     inl (

@@ -4,7 +4,7 @@ use Rattle.sv_num.specs.declared.operators.BinOp.{BinOp}
 use Rattle.sv_num.specs.declared.faults.Place.{Place}
 use Rattle.sv_token.specs.declared.signs.SignKind.TheVariants as signs
 use Rattle.sv_token.specs.Lexemes.{Lexeme, Placed}
-use Rattle.sv_ast.specs.GrammarForms.{Form, ◌⨾◌, ◌or◌, nothing, sign_at, a_sign, binary_at}
+use Rattle.sv_ast.specs.GrammarForms.{Form, ◌⨾◌, ◌or◌, nothing, each, sign_at, a_sign, binary_at}
 use Rattle.sv_ast.specs.GrammarForms.{in_brackets, in_braces}
 use Rattle.sv_ast.specs.GrammarGroups.{Written, named, unary, binary, choice, WrittenList}
 use Rattle.sv_ast.specs.GrammarExpressions.{Limits, is_within, deeper, IsWritten, AreWritten}
@@ -112,8 +112,7 @@ inner_form l inner_bracket = a_sign signs.CloseBracket
 inner_form l inner_brace = a_sign signs.CloseBrace
 
 abbrev pub inner_forms : Limits → List Inner → Form
-inner_forms l [] = nothing
-inner_forms l (x ∷ xs) = inner_form l x ⨾ inner_forms l xs
+inner_forms l xs = each (inner_form l) xs
 
 -- what a token and the tokens behind it are to a symbol
 abbrev pub AcceptsInner : Limits → Placed → (ts rest : List Placed) → InnerReaction → Type 0

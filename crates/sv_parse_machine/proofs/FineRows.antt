@@ -1,6 +1,7 @@
 -- What follows a token in the table can be completed: what stands below other symbols is completed
 -- quietly.
 use Rattle.std.proofs.Common.{ℕ, zero, suc, ◌+◌, Bool, true, false, ◌&&◌, List, [], ◌∷◌, refl}
+use Rattle.std.specs.List.{list_all}
 use Rattle.std.specs.Prelude.{IsTrue}
 use Rattle.sv_token.specs.declared.keywords.WordKind.TheVariants as words
 use Rattle.sv_token.specs.declared.signs.SignKind.TheVariants as signs
@@ -36,12 +37,10 @@ use Rattle.sv_parse_machine.proofs.Completions.{is_sane, is_plain}
 
 -- those that follow are sane, and all but the first plain
 abbrev pub are_sane : List Outer → Bool
-are_sane [] = true
-are_sane (y ∷ ys) = is_sane y && are_sane ys
+are_sane ys = list_all is_sane ys
 
 abbrev pub are_plain : List Outer → Bool
-are_plain [] = true
-are_plain (y ∷ ys) = is_plain y && are_plain ys
+are_plain ys = list_all is_plain ys
 
 abbrev pub plain_behind : List Outer → Bool
 plain_behind [] = true

@@ -23,6 +23,7 @@ use Rattle.sv_parse_machine.proofs.OuterForms.{perhaps_wire_or_reg_form, perhaps
 use Rattle.sv_parse_machine.proofs.OuterForms.{perhaps_range_form, perhaps_label_form, later_port_form}
 use Rattle.sv_parse_machine.proofs.OuterForms.{more_ports_form, ports_form, perhaps_ports_form}
 use Rattle.sv_parse_machine.proofs.StatementSteps.{next_later}
+use Rattle.sv_parse_machine.proofs.TreeParts.{typed_parameter, declared_tree}
 use Rattle.sv_parse_machine.proofs.ListTrees.{next_name, Any, Follows, f_later, b_later}
 use Rattle.sv_parse_machine.proofs.TypeTrees.{f_typed, next_typed, b_signed, b_range, b_label}
 use Rattle.sv_parse_machine.proofs.TypeTrees.{f_parameter_type, b_parameter_type, f_named_parameter}
@@ -98,14 +99,7 @@ b_header_parameter l ts rest (m, is, (m1, type, (m2, name, (m3, sets, (m4, value
     let types = b_parameter_type l m m1 type in
     let named = b_named_parameter l m1 m4 (m2, name, (m3, sets, value)) in
     let q : ParameterTree =
-    record {
-      local = false;
-      signed = types.0;
-      span = types.1;
-      name = named.0;
-      place = named.1;
-      value = named.2;
-    } in
+    typed_parameter false types.0 types.1 named.0 named.1 named.2 in
     subst (HeaderParameter l ts) same (q, (refl, (m, is, (m1, types.2, named.3))))
 
 abbrev LaterHeader : Limits → ParameterTree → List Placed → List Placed → Type 0
@@ -118,10 +112,7 @@ b_later_header_parameter l a ts rest known (inl is) =
 b_later_header_parameter l a ts rest known (inr (m2, name, (m3, sets, (m4, value, same)))) =
     let named = b_named_parameter l ts m4 (m2, name, (m3, sets, value)) in
     let q : ParameterTree =
-    record {
-      local = a.local;
-      signed = a.signed;
-      span = a.span;
+    record a {
       name = named.0;
       place = named.1;
       value = named.2;
@@ -284,15 +275,7 @@ b_port l Q ts m rest kind (m1, signed, (m2, range, (m3, label, (m4, (x, (p, name
     let range = b_range l m1 m2 range in
     let label = b_label l m2 m3 label in
     let d : DeclarationTree =
-    record {
-      kind = kind.0;
-      signed = signed.0;
-      span = range.0;
-      label = label.0;
-      name = x;
-      place = p;
-      value = None;
-    } in
+    declared_tree kind.0 signed.0 range.0 label.0 x p None in
     (d, (m4, (m, kind.1, (m3, (m1, signed.1, (m2, range.1, label.1)), (refl, name))), behind))
 
 abbrev LaterDeclaration : Limits → DeclarationTree → List Placed → List Placed → Type 0
@@ -310,11 +293,7 @@ b_later_port l a ts rest known (inr (inl (m, is, (m1, wire, behind)))) =
     b_whole_port l a ts rest (b_port l nothing ts m1 rest (b_output l ts m m1 is wire) behind)
 b_later_port l a ts rest known (inr (inr (m, (x, (p, name)), same))) =
     let d : DeclarationTree =
-    record {
-      kind = a.kind;
-      signed = a.signed;
-      span = a.span;
-      label = a.label;
+    record a {
       name = x;
       place = p;
       value = None;

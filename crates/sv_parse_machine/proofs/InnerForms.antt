@@ -6,6 +6,7 @@ use Rattle.std.specs.Prelude.{IsTrue, nat_eq}
 use Rattle.sv_num.specs.declared.operators.UnOp.{UnOp}
 use Rattle.sv_num.specs.declared.operators.BinOp.{BinOp}
 use Rattle.sv_num.specs.declared.faults.Place.{Place}
+use Rattle.sv_token.specs.declared.signs.SignKind.{SignKind}
 use Rattle.sv_token.specs.declared.signs.SignKind.TheVariants as signs
 use Rattle.sv_token.specs.declared.signs.Operator.{Operator}
 use Rattle.sv_token.specs.Lexemes.{Lexeme, identifier, numeral, sign, Placed}
@@ -17,7 +18,7 @@ use Rattle.sv_ast.specs.GrammarExpressions.{Limits, is_within, IsWritten, AreWri
 use Rattle.sv_ast.proofs.GrammarOneOperand.{IsOperand}
 use Rattle.sv_parse_machine.specs.Symbols.{Inner, operand, tail, selection, selection_end}
 use Rattle.sv_parse_machine.specs.Symbols.{members_or_count, members, inner_colon, inner_parenthesis}
-use Rattle.sv_parse_machine.specs.Symbols.{inner_bracket, inner_brace, inner}
+use Rattle.sv_parse_machine.specs.Symbols.{inner_bracket, inner_brace, inner, InnerReaction}
 use Rattle.sv_parse_machine.specs.ExpressionTable.{name_operand, prefix_operand, operand_on, infix_tail}
 use Rattle.sv_parse_machine.specs.ExpressionTable.{tail_on, selection_on, selection_end_on}
 use Rattle.sv_parse_machine.specs.ExpressionTable.{members_or_count_on, members_on, inner_colon_on}
@@ -233,29 +234,27 @@ b_members_or_count l n (sign signs.OpenBrace) p ts rest
     ))
 b_members_or_count l n x p ts rest is = absurd is
 
-b_colon : (l : Limits) (x : Lexeme) (p : Place) (ts rest : List Placed) →
-    AcceptsInner l (placed x p) ts rest (inner_colon_on x) →
-    a_sign signs.Colon (placed x p ∷ ts) rest
+-- a symbol that takes its sign alone
+abbrev TakesSign : (Lexeme → InnerReaction) → SignKind → Type 0
+TakesSign on s =
+    (l : Limits) (x : Lexeme) (p : Place) (ts rest : List Placed)
+    → AcceptsInner l (placed x p) ts rest (on x) → a_sign s (placed x p ∷ ts) rest
+
+b_colon : TakesSign inner_colon_on signs.Colon
 b_colon l (sign signs.Colon) p ts rest is = (p, last_token (sign signs.Colon) p ts rest is.1)
 b_colon l x p ts rest is = absurd is
 
-b_parenthesis : (l : Limits) (x : Lexeme) (p : Place) (ts rest : List Placed) →
-    AcceptsInner l (placed x p) ts rest (inner_parenthesis_on x) →
-    a_sign signs.CloseParenthesis (placed x p ∷ ts) rest
+b_parenthesis : TakesSign inner_parenthesis_on signs.CloseParenthesis
 b_parenthesis l (sign signs.CloseParenthesis) p ts rest is =
     (p, last_token (sign signs.CloseParenthesis) p ts rest is.1)
 b_parenthesis l x p ts rest is = absurd is
 
-b_close_bracket : (l : Limits) (x : Lexeme) (p : Place) (ts rest : List Placed) →
-    AcceptsInner l (placed x p) ts rest (inner_bracket_on x) →
-    a_sign signs.CloseBracket (placed x p ∷ ts) rest
+b_close_bracket : TakesSign inner_bracket_on signs.CloseBracket
 b_close_bracket l (sign signs.CloseBracket) p ts rest is =
     (p, last_token (sign signs.CloseBracket) p ts rest is.1)
 b_close_bracket l x p ts rest is = absurd is
 
-b_brace : (l : Limits) (x : Lexeme) (p : Place) (ts rest : List Placed) →
-    AcceptsInner l (placed x p) ts rest (inner_brace_on x) →
-    a_sign signs.CloseBrace (placed x p ∷ ts) rest
+b_brace : TakesSign inner_brace_on signs.CloseBrace
 b_brace l (sign signs.CloseBrace) p ts rest is =
     (p, last_token (sign signs.CloseBrace) p ts rest is.1)
 b_brace l x p ts rest is = absurd is

@@ -1,5 +1,5 @@
 -- What a token does to a symbol of an expression is what the symbol's form says of it.
-use Rattle.std.proofs.Common.{◌≡◌, ℕ, ◌+◌, Bool, true, false, not, List, [], ◌∷◌, Option, Some}
+use Rattle.std.proofs.Common.{◌≡◌, ℕ, ◌+◌, Bool, true, false, not, List, [], ◌∷◌, ◌++◌, Option, Some}
 use Rattle.std.proofs.Common.{None, inl, inr, refl, sym, subst, ◌∙◌, arith}
 use Rattle.std.specs.Prelude.{IsTrue}
 use Rattle.std.proofs.lemmas.Bool.{false≢true}
@@ -9,7 +9,7 @@ use Rattle.sv_token.specs.declared.signs.SignKind.{SignKind}
 use Rattle.sv_token.specs.declared.signs.SignKind.TheVariants as signs
 use Rattle.sv_token.specs.Lexemes.{Lexeme, sign, Placed}
 use Rattle.sv_token.specs.Words.{is_refused_word}
-use Rattle.sv_ast.specs.GrammarForms.{Form, ◌⨾◌, nothing, lexeme_at, sign_at, a_sign}
+use Rattle.sv_ast.specs.GrammarForms.{Form, ◌⨾◌, nothing, each, lexeme_at, sign_at, a_sign}
 use Rattle.sv_ast.specs.GrammarForms.{binary_operator}
 use Rattle.sv_ast.specs.GrammarGroups.{Written, literal, named, bit_of, part_of, group, unary}
 use Rattle.sv_ast.specs.GrammarGroups.{binary, choice, join, replication, WrittenList, no_more}
@@ -64,6 +64,21 @@ no_arm l = within_zero l.arms
 -- a form with nothing behind it
 pub alone : (P : Form) (ts rest : List Placed) → (P ⨾ nothing) ts rest → P ts rest
 alone P ts rest is = subst (λ us. P ts us) is.2 is.1
+
+module _ {X : Type 0} (form : X → Form) where
+  pub append_forms : (xs zs : List X) (ts mid rest : List Placed) → each form xs ts mid →
+      each form zs mid rest → each form (xs ++ zs) ts rest
+  append_forms [] zs ts mid rest first second =
+      subst (λ us. each form zs us rest) (sym first) second
+  append_forms (x ∷ xs) zs ts mid rest first second =
+      (first.0, first.1, append_forms xs zs first.0 mid rest first.2 second)
+
+  pub split_forms : (xs zs : List X) (ts rest : List Placed) → each form (xs ++ zs) ts rest →
+      (each form xs ⨾ each form zs) ts rest
+  split_forms [] zs ts rest is = (ts, refl, is)
+  split_forms (x ∷ xs) zs ts rest is =
+      let others = split_forms xs zs is.0 rest is.2 in
+      (others.0, (is.0, is.1, others.1), others.2)
 
 -- ---- from forms to steps
 

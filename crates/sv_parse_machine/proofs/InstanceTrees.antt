@@ -18,6 +18,7 @@ use Rattle.sv_parse_machine.proofs.OuterForms.{perhaps_overrides_form, link_form
 use Rattle.sv_parse_machine.proofs.OuterForms.{more_instances_form}
 use Rattle.sv_parse_machine.proofs.StatementSteps.{value_up_to, value_before, next_later}
 use Rattle.sv_parse_machine.proofs.StatementForms.{expression_tree}
+use Rattle.sv_parse_machine.proofs.TreeParts.{instance_tree}
 use Rattle.sv_parse_machine.proofs.ListTrees.{next_name, Any, Follows, f_later, b_later}
 
 -- ---- values with commas between them
@@ -401,14 +402,7 @@ f_instances l (i ∷ is) ts rest (m, (m1, (m2, master, (m3, overrides, named)), 
 -- a named instance of the module and with the overrides
 abbrev InstanceOf : Limits → List ℕ → Place → OverrideTrees → List Placed → List Placed → Type 0
 InstanceOf l master q overrides ts rest = (x : List ℕ) × (p : Place) × (k : LinkTrees)
-    × IsNamedInstance l (record {
-      master = master;
-      place = q;
-      overrides = overrides;
-      name = x;
-      name_place = p;
-      links = k;
-    }) ts rest
+    × IsNamedInstance l (instance_tree master q overrides x p k) ts rest
 
 b_named_instance : (l : Limits) (master : List ℕ) (q : Place) (overrides : OverrideTrees)
     (ts rest : List Placed) → named_instance_form l ts rest
@@ -424,10 +418,7 @@ b_later_instance : (l : Limits) (a : InstanceTree) (ts rest : List Placed) → A
     named_instance_form l ts rest → NextInstance l a ts rest
 b_later_instance l a ts rest known is =
     let this = b_named_instance l a.master a.place a.overrides ts rest is in (
-      record {
-        master = a.master;
-        place = a.place;
-        overrides = a.overrides;
+      record a {
         name = this.0;
         name_place = this.1;
         links = this.2;
@@ -449,15 +440,7 @@ b_instances l ts rest (
 ) =
     let overrides = b_overrides l m m1 overrides in
     let this = b_named_instance l x p overrides.0 m1 m4 (m2, name, (m3, opens, links)) in
-    let first : InstanceTree =
-    record {
-      master = x;
-      place = p;
-      overrides = overrides.0;
-      name = this.0;
-      name_place = this.1;
-      links = this.2;
-    } in
+    let first : InstanceTree = instance_tree x p overrides.0 this.0 this.1 this.2 in
     let further = b_later (LaterInstance l) (named_instance_form l) Any signs.Semicolon
     (b_later_instance l) first k m4 m5 rest tt others final in (
       first ∷ further.0,

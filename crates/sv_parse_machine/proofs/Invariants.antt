@@ -2,6 +2,7 @@
 -- the tokens of the open expression are not too many.
 use Rattle.std.proofs.Common.{◌≡◌, ℕ, zero, ◌+◌, ◌-◌, ◌≤◌, max, Bool, true, false, ◌&&◌, List, []}
 use Rattle.std.proofs.Common.{◌∷◌, ◌++◌, length, Option, Some, None, inl, refl, sym, subst, arith}
+use Rattle.std.specs.List.{list_all}
 use Rattle.std.specs.Prelude.{IsTrue}
 use Rattle.std.proofs.lemmas.Bool.{and_parts, and_from}
 use Rattle.std.proofs.lemmas.List.{length-append}
@@ -44,15 +45,17 @@ AllInner start [] = Unit {0}
 AllInner start (inner begun s ∷ below) = (begun ≡ start) × AllInner start below
 AllInner start (outer y ∷ below) = AllOuter below
 
+-- what is of no expression passes a test
+abbrev pub state_passes : (Outer → Bool) → State → Bool
+state_passes test [] = true
+state_passes test (inner start s ∷ below) = state_passes test below
+state_passes test (outer y ∷ below) = test y && state_passes test below
+
 abbrev pub state_is_sane : State → Bool
-state_is_sane [] = true
-state_is_sane (inner start s ∷ below) = state_is_sane below
-state_is_sane (outer y ∷ below) = is_sane y && state_is_sane below
+state_is_sane s = state_passes is_sane s
 
 abbrev pub state_is_plain : State → Bool
-state_is_plain [] = true
-state_is_plain (inner start s ∷ below) = state_is_plain below
-state_is_plain (outer y ∷ below) = is_plain y && state_is_plain below
+state_is_plain s = state_passes is_plain s
 
 abbrev pub below_is_plain : State → Bool
 below_is_plain [] = true
@@ -86,31 +89,19 @@ inside_is_inner : (start : ℕ) (xs : List Inner) (below : State) → AllInner s
 inside_is_inner start [] below is = is
 inside_is_inner start (x ∷ xs) below is = (refl, inside_is_inner start xs below is)
 
-inside_is_sane : (start : ℕ) (xs : List Inner) (below : State) → IsTrue (state_is_sane below) →
-    IsTrue (state_is_sane (inside_on start xs ++ below))
-inside_is_sane start [] below is = is
-inside_is_sane start (x ∷ xs) below is = inside_is_sane start xs below is
+inside_passes : (test : Outer → Bool) (start : ℕ) (xs : List Inner) (below : State)
+    → IsTrue (state_passes test below) → IsTrue (state_passes test (inside_on start xs ++ below))
+inside_passes test start [] below is = is
+inside_passes test start (x ∷ xs) below is = inside_passes test start xs below is
 
-inside_is_plain : (start : ℕ) (xs : List Inner) (below : State) → IsTrue (state_is_plain below) →
-    IsTrue (state_is_plain (inside_on start xs ++ below))
-inside_is_plain start [] below is = is
-inside_is_plain start (x ∷ xs) below is = inside_is_plain start xs below is
-
-outside_is_sane : (ys : List Outer) (below : State) → IsTrue (are_sane ys) →
-    IsTrue (state_is_sane below) → IsTrue (state_is_sane (outside_on ys ++ below))
-outside_is_sane [] below fine is = is
-outside_is_sane (y ∷ ys) below fine is =
-    let parts = and_parts (is_sane y) (are_sane ys) fine in
-    and_from (is_sane y) (state_is_sane (outside_on ys ++ below)) parts.0
-    (outside_is_sane ys below parts.1 is)
-
-outside_is_plain : (ys : List Outer) (below : State) → IsTrue (are_plain ys) →
-    IsTrue (state_is_plain below) → IsTrue (state_is_plain (outside_on ys ++ below))
-outside_is_plain [] below fine is = is
-outside_is_plain (y ∷ ys) below fine is =
-    let parts = and_parts (is_plain y) (are_plain ys) fine in
-    and_from (is_plain y) (state_is_plain (outside_on ys ++ below)) parts.0
-    (outside_is_plain ys below parts.1 is)
+outside_passes : (test : Outer → Bool) (ys : List Outer) (below : State)
+    → IsTrue (list_all test ys)
+    → IsTrue (state_passes test below) → IsTrue (state_passes test (outside_on ys ++ below))
+outside_passes test [] below fine is = is
+outside_passes test (y ∷ ys) below fine is =
+    let parts = and_parts (test y) (list_all test ys) fine in
+    and_from (test y) (state_passes test (outside_on ys ++ below)) parts.0
+    (outside_passes test ys below parts.1 is)
 
 plain_below : (s : State) → IsTrue (state_is_plain s) → IsTrue (below_is_plain s)
 plain_below [] is = refl
@@ -120,12 +111,12 @@ plain_below (outer y ∷ below) is = (and_parts (is_plain y) (state_is_plain bel
 below_inside : (start : ℕ) (xs : List Inner) (below : State) → IsTrue (state_is_plain below) →
     IsTrue (below_is_plain (inside_on start xs ++ below))
 below_inside start [] below is = plain_below below is
-below_inside start (x ∷ xs) below is = inside_is_plain start xs below is
+below_inside start (x ∷ xs) below is = inside_passes is_plain start xs below is
 
 below_outside : (ys : List Outer) (below : State) → IsTrue (plain_behind ys) →
     IsTrue (state_is_plain below) → IsTrue (below_is_plain (outside_on ys ++ below))
 below_outside [] below fine is = plain_below below is
-below_outside (y ∷ ys) below fine is = outside_is_plain ys below fine is
+below_outside (y ∷ ys) below fine is = outside_passes is_plain ys below fine is
 
 -- behind a symbol
 below_inner : (start begun : ℕ) (x : Inner) (below : State) → Shape start (inner begun x ∷ below) →
@@ -165,7 +156,7 @@ sound_inner l a start begun x below next skip (takes_inner level xs) shape e ski
       start = begun;
       shape = record {
         layers = inside_is_inner begun xs below layers;
-        sane = inside_is_sane begun xs below shape.sane;
+        sane = inside_passes is_sane begun xs below shape.sane;
         plain = below_inside begun xs below shape.plain;
       };
       counted = count;
@@ -186,7 +177,7 @@ sound_reaction l a below next skip (takes level arm ys) fine layers sane plain e
       start = 0;
       shape = record {
         layers = outer_is_inner 0 (outside_on ys ++ below) (outside_is_outer ys below layers);
-        sane = outside_is_sane ys below parts.0 sane;
+        sane = outside_passes is_sane ys below parts.0 sane;
         plain = below_outside ys below parts.1 plain;
       };
       counted = no_tokens l.tokens (max a l.unread);
@@ -204,11 +195,11 @@ sound_reaction l a below next skip (begins level arm xs ys) fine layers sane pla
             inside_is_inner (a + 1) xs (outside_on ys ++ below)
             (outer_is_inner (a + 1) (outside_on ys ++ below) (outside_is_outer ys below layers));
         sane =
-            inside_is_sane (a + 1) xs (outside_on ys ++ below)
-            (outside_is_sane ys below parts.0 sane);
+            inside_passes is_sane (a + 1) xs (outside_on ys ++ below)
+            (outside_passes is_sane ys below parts.0 sane);
         plain =
             below_inside (a + 1) xs (outside_on ys ++ below)
-            (outside_is_plain ys below parts.1 plain);
+            (outside_passes is_plain ys below parts.1 plain);
       };
       counted =
           (and_parts (is_within l.arms arm) (is_within l.tokens (tokens_of l (a + 1) a)) both).1;

@@ -4,126 +4,104 @@ use Rattle.sv_token.specs.declared.keywords.WordKind.TheVariants as words
 use Rattle.sv_token.specs.declared.signs.SignKind.TheVariants as signs
 use Rattle.sv_token.specs.Lexemes.{Lexeme, word, sign, Placed}
 use Rattle.sv_ast.specs.GrammarExpressions.{Limits}
-use Rattle.sv_parse_machine.specs.Symbols.{punctuation, plain_name, plain_number, expression, more_names}
-use Rattle.sv_parse_machine.specs.Symbols.{more_values, perhaps_second_name, items, behind_reg_name}
-use Rattle.sv_parse_machine.specs.Symbols.{value_or_release, more_assigned, perhaps_overrides, links}
-use Rattle.sv_parse_machine.specs.Symbols.{more_instances}
+use Rattle.sv_parse_machine.specs.Symbols.{punctuation, plain_name, plain_number, expression}
+use Rattle.sv_parse_machine.specs.Symbols.{more_names, more_values, perhaps_second_name, items}
+use Rattle.sv_parse_machine.specs.Symbols.{behind_reg_name, value_or_release, later_assigned}
+use Rattle.sv_parse_machine.specs.Symbols.{more_assigned, perhaps_overrides, links, more_instances}
 use Rattle.sv_parse_machine.specs.ExpressionTable.{expression_on}
 use Rattle.sv_parse_machine.specs.StatementTable.{is_star, taken_if}
-use Rattle.sv_parse_machine.specs.ModuleTable.{more_parameters_on, perhaps_value_on, more_wires_on}
-use Rattle.sv_parse_machine.specs.ModuleTable.{behind_reg_name_on, memory_name_on, label_selector_on}
-use Rattle.sv_parse_machine.specs.ModuleTable.{reg_name_on, reg_label_end_on, reg_label_on}
-use Rattle.sv_parse_machine.specs.ModuleTable.{later_assigned_on, more_assigned_on, value_or_release_on}
-use Rattle.sv_parse_machine.specs.ModuleTable.{assigned_on, event_inside_on, event_on}
-use Rattle.sv_parse_machine.specs.ModuleTable.{more_named_overrides_on, overrides_on}
-use Rattle.sv_parse_machine.specs.ModuleTable.{perhaps_overrides_on, link_on, more_named_links_on}
-use Rattle.sv_parse_machine.specs.ModuleTable.{links_on, more_instances_on, items_on, one_module_on}
+use Rattle.sv_parse_machine.specs.ModuleTable.{more_parameters_on, more_wires_on}
+use Rattle.sv_parse_machine.specs.ModuleTable.{behind_reg_name_on, memory_name_on}
+use Rattle.sv_parse_machine.specs.ModuleTable.{label_selector_on, reg_name_on, reg_label_end_on}
+use Rattle.sv_parse_machine.specs.ModuleTable.{reg_label_on, later_assigned_on, more_assigned_on}
+use Rattle.sv_parse_machine.specs.ModuleTable.{value_or_release_on, assigned_on, event_inside_on}
+use Rattle.sv_parse_machine.specs.ModuleTable.{event_on, more_named_overrides_on, overrides_on}
+use Rattle.sv_parse_machine.specs.ModuleTable.{link_on, more_named_links_on, links_on}
+use Rattle.sv_parse_machine.specs.ModuleTable.{more_instances_on, items_on, one_module_on}
 use Rattle.sv_parse_machine.specs.ModuleTable.{star_in_event}
-use Rattle.sv_parse_machine.proofs.InnerSteps.{by_token, none_opens, no_arm}
-use Rattle.sv_parse_machine.proofs.OuterForms.{more_parameters_form, perhaps_value_form, more_wires_form}
+use Rattle.sv_parse_machine.proofs.InnerSteps.{none_opens, no_arm}
+use Rattle.sv_parse_machine.proofs.OuterForms.{more_parameters_form, more_wires_form}
 use Rattle.sv_parse_machine.proofs.OuterForms.{behind_reg_name_form, memory_name_form}
-use Rattle.sv_parse_machine.proofs.OuterForms.{label_selector_form, reg_name_form, reg_label_end_form}
-use Rattle.sv_parse_machine.proofs.OuterForms.{reg_label_form, later_assigned_form, more_assigned_form}
-use Rattle.sv_parse_machine.proofs.OuterForms.{value_or_release_form, assigned_form, event_inside_form}
-use Rattle.sv_parse_machine.proofs.OuterForms.{event_form, more_named_overrides_form, overrides_form}
-use Rattle.sv_parse_machine.proofs.OuterForms.{perhaps_overrides_form, link_form, more_named_links_form}
-use Rattle.sv_parse_machine.proofs.OuterForms.{links_form, more_instances_form, items_form}
-use Rattle.sv_parse_machine.proofs.OuterForms.{one_module_form, Accepts}
-use Rattle.sv_parse_machine.proofs.OuterTokens.{unrefused, skipped, f_begins}
+use Rattle.sv_parse_machine.proofs.OuterForms.{label_selector_form, reg_name_form}
+use Rattle.sv_parse_machine.proofs.OuterForms.{reg_label_end_form, reg_label_form}
+use Rattle.sv_parse_machine.proofs.OuterForms.{later_assigned_form, more_assigned_form}
+use Rattle.sv_parse_machine.proofs.OuterForms.{value_or_release_form, assigned_form}
+use Rattle.sv_parse_machine.proofs.OuterForms.{event_inside_form, event_form}
+use Rattle.sv_parse_machine.proofs.OuterForms.{more_named_overrides_form, overrides_form, link_form}
+use Rattle.sv_parse_machine.proofs.OuterForms.{more_named_links_form, links_form}
+use Rattle.sv_parse_machine.proofs.OuterForms.{more_instances_form, items_form, one_module_form}
+use Rattle.sv_parse_machine.proofs.OuterForms.{Accepts}
+use Rattle.sv_parse_machine.proofs.OuterTokens.{by_row, f_commas, StepsBy, unrefused, f_begins}
 
-pub f_more_parameters : (l : Limits) (t : Placed) (ts rest : List Placed) →
-    more_parameters_form l (t ∷ ts) rest → Accepts l t ts rest (more_parameters_on t.lexeme)
+pub f_more_parameters : StepsBy more_parameters_on more_parameters_form
 f_more_parameters l t ts rest (zero, (m, none, (p, e))) =
-    by_token (λ x us. Accepts l t us rest (more_parameters_on x)) (none ∙ e)
-    (none_opens l, no_arm l, refl)
+    by_row l t rest more_parameters_on (none ∙ e) (none_opens l, no_arm l, refl)
 f_more_parameters l t ts rest
     (suc k, (m, (m1, (m0, (p, e), (q0, a0, (q1, a1, a2))), others), final)) =
-    by_token (λ x us. Accepts l t us rest (more_parameters_on x)) e (
+    by_row l t rest more_parameters_on e (
       none_opens l,
       no_arm
           l,
       (q0, a0, (q1, a1, (m1, a2, (rest, (k, (m, others, final)), refl)))),
     )
 
-pub f_perhaps_value : (l : Limits) (t : Placed) (ts rest : List Placed) →
-    perhaps_value_form l (t ∷ ts) rest → Accepts l t ts rest (perhaps_value_on t.lexeme)
-f_perhaps_value l t ts rest (inl (over, same)) =
-    skipped l t ts rest (perhaps_value_on t.lexeme) over same
-f_perhaps_value l t ts rest (inr (m, (p, e), behind)) =
-    by_token (λ x us. Accepts l t us rest (perhaps_value_on x)) e (none_opens l, no_arm l, behind)
-
-pub f_more_wires : (l : Limits) (t : Placed) (ts rest : List Placed) →
-    more_wires_form l (t ∷ ts) rest → Accepts l t ts rest (more_wires_on t.lexeme)
+pub f_more_wires : StepsBy more_wires_on more_wires_form
 f_more_wires l t ts rest (zero, (m, none, (p, e))) =
-    by_token (λ x us. Accepts l t us rest (more_wires_on x)) (none ∙ e)
-    (none_opens l, no_arm l, refl)
+    by_row l t rest more_wires_on (none ∙ e) (none_opens l, no_arm l, refl)
 f_more_wires l t ts rest (suc k, (m, (m1, (m0, (p, e), (q0, a0, a1)), others), final)) =
-    by_token (λ x us. Accepts l t us rest (more_wires_on x)) e
+    by_row l t rest more_wires_on e
     (none_opens l, no_arm l, (q0, a0, (m1, a1, (rest, (k, (m, others, final)), refl))))
 
-pub f_behind_reg_name : (l : Limits) (t : Placed) (ts rest : List Placed) →
-    behind_reg_name_form l (t ∷ ts) rest → Accepts l t ts rest (behind_reg_name_on t.lexeme)
+pub f_behind_reg_name : StepsBy behind_reg_name_on behind_reg_name_form
 f_behind_reg_name l t ts rest (inl (m, (p, e), behind)) =
-    by_token (λ x us. Accepts l t us rest (behind_reg_name_on x)) e (none_opens l, no_arm l, behind)
+    by_row l t rest behind_reg_name_on e (none_opens l, no_arm l, behind)
 f_behind_reg_name l t ts rest (inr (inl (m, (p, e), behind))) =
-    by_token (λ x us. Accepts l t us rest (behind_reg_name_on x)) e (none_opens l, no_arm l, behind)
+    by_row l t rest behind_reg_name_on e (none_opens l, no_arm l, behind)
 f_behind_reg_name l t ts rest (inr (inr (m, (p, e), behind))) =
-    by_token (λ x us. Accepts l t us rest (behind_reg_name_on x)) e (none_opens l, no_arm l, behind)
+    by_row l t rest behind_reg_name_on e (none_opens l, no_arm l, behind)
 
-pub f_memory_name : (l : Limits) (t : Placed) (ts rest : List Placed) →
-    memory_name_form l (t ∷ ts) rest → Accepts l t ts rest (memory_name_on t.lexeme)
+pub f_memory_name : StepsBy memory_name_on memory_name_form
 f_memory_name l t ts rest (m, (x, (p, (free, e))), behind) =
-    by_token (λ x us. Accepts l t us rest (memory_name_on x)) e
+    by_row l t rest memory_name_on e
     (unrefused l (punctuation signs.OpenBracket ∷ plain_number ∷ punctuation signs.Colon ∷
     plain_number ∷ punctuation signs.CloseBracket ∷ []) t m rest x free behind)
 
-pub f_label_selector : (l : Limits) (t : Placed) (ts rest : List Placed) →
-    label_selector_form l (t ∷ ts) rest → Accepts l t ts rest (label_selector_on t.lexeme)
+pub f_label_selector : StepsBy label_selector_on label_selector_form
 f_label_selector l t ts rest (inl (m, (p, e), behind)) =
-    by_token (λ x us. Accepts l t us rest (label_selector_on x)) e (none_opens l, no_arm l, behind)
+    by_row l t rest label_selector_on e (none_opens l, no_arm l, behind)
 f_label_selector l t ts rest (inr (m, (x, (p, (free, e))), behind)) =
-    by_token (λ x us. Accepts l t us rest (label_selector_on x)) e
+    by_row l t rest label_selector_on e
     (unrefused l (perhaps_second_name ∷ punctuation signs.CloseParenthesis ∷
     punctuation signs.CloseBrace ∷ plain_name ∷ more_names signs.Semicolon ∷ []) t m rest x
     free behind)
 
-pub f_reg_name : (l : Limits) (t : Placed) (ts rest : List Placed) → reg_name_form l (t ∷ ts) rest →
-    Accepts l t ts rest (reg_name_on t.lexeme)
+pub f_reg_name : StepsBy reg_name_on reg_name_form
 f_reg_name l t ts rest (m, (x, (p, (free, e))), behind) =
-    by_token (λ x us. Accepts l t us rest (reg_name_on x)) e
-    (unrefused l (behind_reg_name ∷ []) t m rest x free behind)
+    by_row l t rest reg_name_on e (unrefused l (behind_reg_name ∷ []) t m rest x free behind)
 
-pub f_reg_label_end : (l : Limits) (t : Placed) (ts rest : List Placed) →
-    reg_label_end_form l (t ∷ ts) rest → Accepts l t ts rest (reg_label_end_on t.lexeme)
+pub f_reg_label_end : StepsBy reg_label_end_on reg_label_end_form
 f_reg_label_end l t ts rest (inl (m, (p, e), behind)) =
-    by_token (λ x us. Accepts l t us rest (reg_label_end_on x)) e (none_opens l, no_arm l, behind)
+    by_row l t rest reg_label_end_on e (none_opens l, no_arm l, behind)
 f_reg_label_end l t ts rest (inr (m, (p, e), behind)) =
-    by_token (λ x us. Accepts l t us rest (reg_label_end_on x)) e (none_opens l, no_arm l, behind)
+    by_row l t rest reg_label_end_on e (none_opens l, no_arm l, behind)
 
-pub f_reg_label : (l : Limits) (t : Placed) (ts rest : List Placed) →
-    reg_label_form l (t ∷ ts) rest → Accepts l t ts rest (reg_label_on t.lexeme)
+pub f_reg_label : StepsBy reg_label_on reg_label_form
 f_reg_label l t ts rest (inl (m, (p, e), behind)) =
-    by_token (λ x us. Accepts l t us rest (reg_label_on x)) e (none_opens l, no_arm l, behind)
+    by_row l t rest reg_label_on e (none_opens l, no_arm l, behind)
 f_reg_label l t ts rest (inr (m, (x, (p, (free, e))), behind)) =
-    by_token (λ x us. Accepts l t us rest (reg_label_on x)) e
-    (unrefused l (behind_reg_name ∷ []) t m rest x free behind)
+    by_row l t rest reg_label_on e (unrefused l (behind_reg_name ∷ []) t m rest x free behind)
 
-pub f_later_assigned : (l : Limits) (t : Placed) (ts rest : List Placed) →
-    later_assigned_form l (t ∷ ts) rest → Accepts l t ts rest (later_assigned_on t.lexeme)
+pub f_later_assigned : StepsBy later_assigned_on later_assigned_form
 f_later_assigned l t ts rest (inl (m, (x, (p, (free, e))), behind)) =
-    by_token (λ x us. Accepts l t us rest (later_assigned_on x)) e
+    by_row l t rest later_assigned_on e
     (unrefused l (punctuation signs.Equals ∷ expression 0 ∷ []) t m rest x free behind)
 f_later_assigned l t ts rest (inr (m, (p, e), behind)) =
-    by_token (λ x us. Accepts l t us rest (later_assigned_on x)) e (none_opens l, no_arm l, behind)
+    by_row l t rest later_assigned_on e (none_opens l, no_arm l, behind)
 
-pub f_more_assigned : (l : Limits) (t : Placed) (ts rest : List Placed) →
-    more_assigned_form l (t ∷ ts) rest → Accepts l t ts rest (more_assigned_on t.lexeme)
-f_more_assigned l t ts rest (zero, (m, none, (p, e))) =
-    by_token (λ x us. Accepts l t us rest (more_assigned_on x)) (none ∙ e)
-    (none_opens l, no_arm l, refl)
-f_more_assigned l t ts rest (suc k, (m, (m1, (m0, (p, e), a0), others), final)) =
-    by_token (λ x us. Accepts l t us rest (more_assigned_on x)) e
-    (none_opens l, no_arm l, (m1, a0, (rest, (k, (m, others, final)), refl)))
+pub f_more_assigned : StepsBy more_assigned_on more_assigned_form
+f_more_assigned l t ts rest is =
+    f_commas more_assigned_on later_assigned more_assigned signs.Semicolon l t ts rest
+    refl refl (λ us is. is) is
 
 value_or_release_as_expression : (l : Limits) (t : Placed) (ts rest : List Placed) (x : Lexeme) →
     Accepts l t ts rest (expression_on 0 0 (more_assigned ∷ []) x) →
@@ -131,50 +109,42 @@ value_or_release_as_expression : (l : Limits) (t : Placed) (ts rest : List Place
 value_or_release_as_expression l t ts rest (word words.Release) is = absurd is
 value_or_release_as_expression l t ts rest x is = is
 
-pub f_value_or_release : (l : Limits) (t : Placed) (ts rest : List Placed) →
-    value_or_release_form l (t ∷ ts) rest → Accepts l t ts rest (value_or_release_on t.lexeme)
+pub f_value_or_release : StepsBy value_or_release_on value_or_release_form
 f_value_or_release l t ts rest (inl (m, (p, e), behind)) =
-    by_token (λ x us. Accepts l t us rest (value_or_release_on x)) e
-    (none_opens l, no_arm l, behind)
+    by_row l t rest value_or_release_on e (none_opens l, no_arm l, behind)
 f_value_or_release l t ts rest (inr (m, is, behind)) =
     value_or_release_as_expression l t ts rest t.lexeme
     (f_begins l 0 0 (more_assigned ∷ []) t ts m rest is (no_arm l) behind)
 
-pub f_assigned : (l : Limits) (t : Placed) (ts rest : List Placed) → assigned_form l (t ∷ ts) rest →
-    Accepts l t ts rest (assigned_on t.lexeme)
+pub f_assigned : StepsBy assigned_on assigned_form
 f_assigned l t ts rest (inl (m, (x, (p, (free, e))), behind)) =
-    by_token (λ x us. Accepts l t us rest (assigned_on x)) e
+    by_row l t rest assigned_on e
     (unrefused l (punctuation signs.Equals ∷ value_or_release ∷ []) t m rest x free behind)
 f_assigned l t ts rest (inr (m, (p, e), behind)) =
-    by_token (λ x us. Accepts l t us rest (assigned_on x)) e (none_opens l, no_arm l, behind)
+    by_row l t rest assigned_on e (none_opens l, no_arm l, behind)
 
-pub f_event_inside : (l : Limits) (t : Placed) (ts rest : List Placed) →
-    event_inside_form l (t ∷ ts) rest → Accepts l t ts rest (event_inside_on t.lexeme)
+pub f_event_inside : StepsBy event_inside_on event_inside_form
 f_event_inside l t ts rest (inl (m, (p, (o, op, e)), behind)) =
-    by_token (λ x us. Accepts l t us rest (event_inside_on x)) e
+    by_row l t rest event_inside_on e
     (subst (λ b. Accepts l t m rest (star_in_event (is_star b))) (sym op)
     (none_opens l, no_arm l, behind))
 f_event_inside l t ts rest (inr (m, (p, e), behind)) =
-    by_token (λ x us. Accepts l t us rest (event_inside_on x)) e (none_opens l, no_arm l, behind)
+    by_row l t rest event_inside_on e (none_opens l, no_arm l, behind)
 
-pub f_event : (l : Limits) (t : Placed) (ts rest : List Placed) → event_form l (t ∷ ts) rest →
-    Accepts l t ts rest (event_on t.lexeme)
+pub f_event : StepsBy event_on event_form
 f_event l t ts rest (inl (m, (p, (o, op, e)), behind)) =
-    by_token (λ x us. Accepts l t us rest (event_on x)) e
+    by_row l t rest event_on e
     (subst (λ b. Accepts l t m rest (taken_if (is_star b))) (sym op)
     (none_opens l, no_arm l, behind))
 f_event l t ts rest (inr (m, (p, e), behind)) =
-    by_token (λ x us. Accepts l t us rest (event_on x)) e (none_opens l, no_arm l, behind)
+    by_row l t rest event_on e (none_opens l, no_arm l, behind)
 
-pub f_more_named_overrides : (l : Limits) (t : Placed) (ts rest : List Placed) →
-    more_named_overrides_form l (t ∷ ts) rest →
-    Accepts l t ts rest (more_named_overrides_on t.lexeme)
+pub f_more_named_overrides : StepsBy more_named_overrides_on more_named_overrides_form
 f_more_named_overrides l t ts rest (zero, (m, none, (p, e))) =
-    by_token (λ x us. Accepts l t us rest (more_named_overrides_on x)) (none ∙ e)
-    (none_opens l, no_arm l, refl)
+    by_row l t rest more_named_overrides_on (none ∙ e) (none_opens l, no_arm l, refl)
 f_more_named_overrides l t ts rest
     (suc k, (m, (m1, (m0, (p, e), (q0, a0, (q1, a1, (q2, a2, (q3, a3, a4))))), others), final)) =
-    by_token (λ x us. Accepts l t us rest (more_named_overrides_on x)) e (
+    by_row l t rest more_named_overrides_on e (
       none_opens l,
       no_arm
           l,
@@ -187,21 +157,12 @@ overrides_as_expression : (l : Limits) (t : Placed) (ts rest : List Placed) (x :
 overrides_as_expression l t ts rest (sign signs.Dot) is = absurd is
 overrides_as_expression l t ts rest x is = is
 
-pub f_overrides : (l : Limits) (t : Placed) (ts rest : List Placed) →
-    overrides_form l (t ∷ ts) rest → Accepts l t ts rest (overrides_on t.lexeme)
+pub f_overrides : StepsBy overrides_on overrides_form
 f_overrides l t ts rest (inl (m, (p, e), behind)) =
-    by_token (λ x us. Accepts l t us rest (overrides_on x)) e (none_opens l, no_arm l, behind)
+    by_row l t rest overrides_on e (none_opens l, no_arm l, behind)
 f_overrides l t ts rest (inr (m, is, behind)) =
     overrides_as_expression l t ts rest t.lexeme
     (f_begins l 0 0 (more_values ∷ []) t ts m rest is (no_arm l) behind)
-
-pub f_perhaps_overrides : (l : Limits) (t : Placed) (ts rest : List Placed) →
-    perhaps_overrides_form l (t ∷ ts) rest → Accepts l t ts rest (perhaps_overrides_on t.lexeme)
-f_perhaps_overrides l t ts rest (inl (over, same)) =
-    skipped l t ts rest (perhaps_overrides_on t.lexeme) over same
-f_perhaps_overrides l t ts rest (inr (m, (p, e), behind)) =
-    by_token (λ x us. Accepts l t us rest (perhaps_overrides_on x)) e
-    (none_opens l, no_arm l, behind)
 
 link_as_expression : (l : Limits) (t : Placed) (ts rest : List Placed) (x : Lexeme) →
     Accepts l t ts rest (expression_on 0 0 (punctuation signs.CloseParenthesis ∷ []) x) →
@@ -209,22 +170,19 @@ link_as_expression : (l : Limits) (t : Placed) (ts rest : List Placed) (x : Lexe
 link_as_expression l t ts rest (sign signs.CloseParenthesis) is = absurd is
 link_as_expression l t ts rest x is = is
 
-pub f_link : (l : Limits) (t : Placed) (ts rest : List Placed) → link_form l (t ∷ ts) rest →
-    Accepts l t ts rest (link_on t.lexeme)
+pub f_link : StepsBy link_on link_form
 f_link l t ts rest (inl (m, (p, e), behind)) =
-    by_token (λ x us. Accepts l t us rest (link_on x)) e (none_opens l, no_arm l, behind)
+    by_row l t rest link_on e (none_opens l, no_arm l, behind)
 f_link l t ts rest (inr (m, is, behind)) =
     link_as_expression l t ts rest t.lexeme
     (f_begins l 0 0 (punctuation signs.CloseParenthesis ∷ []) t ts m rest is (no_arm l) behind)
 
-pub f_more_named_links : (l : Limits) (t : Placed) (ts rest : List Placed) →
-    more_named_links_form l (t ∷ ts) rest → Accepts l t ts rest (more_named_links_on t.lexeme)
+pub f_more_named_links : StepsBy more_named_links_on more_named_links_form
 f_more_named_links l t ts rest (zero, (m, none, (p, e))) =
-    by_token (λ x us. Accepts l t us rest (more_named_links_on x)) (none ∙ e)
-    (none_opens l, no_arm l, refl)
+    by_row l t rest more_named_links_on (none ∙ e) (none_opens l, no_arm l, refl)
 f_more_named_links l t ts rest
     (suc k, (m, (m1, (m0, (p, e), (q0, a0, (q1, a1, (q2, a2, a3)))), others), final)) =
-    by_token (λ x us. Accepts l t us rest (more_named_links_on x)) e (
+    by_row l t rest more_named_links_on e (
       none_opens l,
       no_arm
           l,
@@ -237,40 +195,36 @@ links_as_expression l t ts rest (sign signs.CloseParenthesis) is = absurd is
 links_as_expression l t ts rest (sign signs.Dot) is = absurd is
 links_as_expression l t ts rest x is = is
 
-pub f_links : (l : Limits) (t : Placed) (ts rest : List Placed) → links_form l (t ∷ ts) rest →
-    Accepts l t ts rest (links_on t.lexeme)
+pub f_links : StepsBy links_on links_form
 f_links l t ts rest (inl (m, (p, e), behind)) =
-    by_token (λ x us. Accepts l t us rest (links_on x)) e (none_opens l, no_arm l, behind)
+    by_row l t rest links_on e (none_opens l, no_arm l, behind)
 f_links l t ts rest (inr (inl (m, (p, e), behind))) =
-    by_token (λ x us. Accepts l t us rest (links_on x)) e (none_opens l, no_arm l, behind)
+    by_row l t rest links_on e (none_opens l, no_arm l, behind)
 f_links l t ts rest (inr (inr (m, is, behind))) =
     links_as_expression l t ts rest t.lexeme
     (f_begins l 0 0 (more_values ∷ []) t ts m rest is (no_arm l) behind)
 
-pub f_more_instances : (l : Limits) (t : Placed) (ts rest : List Placed) →
-    more_instances_form l (t ∷ ts) rest → Accepts l t ts rest (more_instances_on t.lexeme)
+pub f_more_instances : StepsBy more_instances_on more_instances_form
 f_more_instances l t ts rest (zero, (m, none, (p, e))) =
-    by_token (λ x us. Accepts l t us rest (more_instances_on x)) (none ∙ e)
-    (none_opens l, no_arm l, refl)
+    by_row l t rest more_instances_on (none ∙ e) (none_opens l, no_arm l, refl)
 f_more_instances l t ts rest
     (suc k, (m, (m1, (m0, (p, e), (q0, a0, (q1, a1, a2))), others), final)) =
-    by_token (λ x us. Accepts l t us rest (more_instances_on x)) e (
+    by_row l t rest more_instances_on e (
       none_opens l,
       no_arm
           l,
       (q0, a0, (q1, a1, (m1, a2, (rest, (k, (m, others, final)), refl)))),
     )
 
-pub f_items : (l : Limits) (t : Placed) (ts rest : List Placed) → items_form l (t ∷ ts) rest →
-    Accepts l t ts rest (items_on t.lexeme)
+pub f_items : StepsBy items_on items_form
 f_items l t ts rest (zero, (m, none, (p, e))) =
-    by_token (λ x us. Accepts l t us rest (items_on x)) (none ∙ e) (none_opens l, no_arm l, refl)
+    by_row l t rest items_on (none ∙ e) (none_opens l, no_arm l, refl)
 f_items l t ts rest (
   suc
       k,
   (m, (m1, inl ((m0, (p, e), (q0, a0, (q1, a1, (q2, a2, (q3, a3, a4)))))), others), final),
 ) =
-    by_token (λ x us. Accepts l t us rest (items_on x)) e (
+    by_row l t rest items_on e (
       none_opens l,
       no_arm
           l,
@@ -285,7 +239,7 @@ f_items l t ts rest (
     final,
   ),
 ) =
-    by_token (λ x us. Accepts l t us rest (items_on x)) e (
+    by_row l t rest items_on e (
       none_opens l,
       no_arm
           l,
@@ -304,7 +258,7 @@ f_items l t ts rest (
     final,
   ),
 ) =
-    by_token (λ x us. Accepts l t us rest (items_on x)) e (
+    by_row l t rest items_on e (
       none_opens l,
       no_arm
           l,
@@ -323,7 +277,7 @@ f_items l t ts rest (
       k,
   (m, (m1, inr (inr (inr (inl ((m0, (p, e), (q0, a0, (q1, a1, a2))))))), others), final),
 ) =
-    by_token (λ x us. Accepts l t us rest (items_on x)) e (
+    by_row l t rest items_on e (
       none_opens l,
       no_arm
           l,
@@ -334,7 +288,7 @@ f_items l t ts rest (
       k,
   (m, (m1, inr (inr (inr (inr (inl ((m0, (p, e), a0)))))), others), final),
 ) =
-    by_token (λ x us. Accepts l t us rest (items_on x)) e
+    by_row l t rest items_on e
     (none_opens l, no_arm l, (m1, a0, (rest, (k, (m, others, final)), refl)))
 f_items l t ts rest (
   suc
@@ -345,7 +299,7 @@ f_items l t ts rest (
     final,
   ),
 ) =
-    by_token (λ x us. Accepts l t us rest (items_on x)) e (
+    by_row l t rest items_on e (
       none_opens l,
       no_arm
           l,
@@ -360,7 +314,7 @@ f_items l t ts rest (
     final,
   ),
 ) =
-    by_token (λ x us. Accepts l t us rest (items_on x)) e
+    by_row l t rest items_on e
     (none_opens l, no_arm l, (q0, a0, (m1, a1, (rest, (k, (m, others, final)), refl))))
 f_items l t ts rest (
   suc
@@ -381,12 +335,11 @@ f_items l t ts rest (
     final,
   ),
 ) =
-    by_token (λ x us. Accepts l t us rest (items_on x)) e
+    by_row l t rest items_on e
     (unrefused l (perhaps_overrides ∷ plain_name ∷ punctuation signs.OpenParenthesis ∷ links ∷
     more_instances ∷ items ∷ []) t m0 rest x free
     (q0, a0, (q1, a1, (q2, a2, (q3, a3, (m1, a4, (rest, (k, (m, others, final)), refl)))))))
 
-pub f_one_module : (l : Limits) (t : Placed) (ts rest : List Placed) →
-    one_module_form l (t ∷ ts) rest → Accepts l t ts rest (one_module_on t.lexeme)
+pub f_one_module : StepsBy one_module_on one_module_form
 f_one_module l t ts rest (m, (p, e), behind) =
-    by_token (λ x us. Accepts l t us rest (one_module_on x)) e (none_opens l, no_arm l, behind)
+    by_row l t rest one_module_on e (none_opens l, no_arm l, behind)

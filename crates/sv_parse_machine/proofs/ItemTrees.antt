@@ -1,14 +1,15 @@
 -- The items of a module are what their symbols stand for.
-use Rattle.std.proofs.Common.{ℕ, zero, suc, List, [], ◌∷◌, ◌⊎◌, inl, inr, refl}
+use Rattle.std.proofs.Common.{List, ◌⊎◌, inl, inr, refl}
 use Rattle.std.specs.Prelude.{map, flat_map}
 use Rattle.sv_token.specs.declared.keywords.WordKind.TheVariants as words
 use Rattle.sv_token.specs.declared.signs.SignKind.TheVariants as signs
 use Rattle.sv_token.specs.Lexemes.{Placed}
 use Rattle.sv_ast.specs.Tree.{ItemTree, parameter_item, declared, memory_item, instance_item}
-use Rattle.sv_ast.specs.GrammarForms.{◌⨾◌, ◌or◌, a_word, a_sign, each}
+use Rattle.sv_ast.specs.GrammarForms.{◌⨾◌, ◌or◌, a_word, a_sign}
 use Rattle.sv_ast.specs.GrammarExpressions.{Limits}
 use Rattle.sv_ast.specs.GrammarModules.{IsListedItem, IsItem, AreItems}
-use Rattle.sv_parse_machine.proofs.OuterForms.{times, items_row, items_form}
+use Rattle.sv_parse_machine.proofs.OuterForms.{items_row, items_form}
+use Rattle.sv_parse_machine.proofs.ListTrees.{f_each, b_each}
 use Rattle.sv_parse_machine.proofs.DeclarationTrees.{parameters_form, f_parameters, Parameters}
 use Rattle.sv_parse_machine.proofs.DeclarationTrees.{b_parameters, wires_form, regs_form, f_signals}
 use Rattle.sv_parse_machine.proofs.DeclarationTrees.{f_memories, Signals, Memories, b_wires, b_regs}
@@ -51,20 +52,10 @@ unfolding IsItem
 f_item l items ts rest (inl is) = inr (inr (inr (inr (inr (inl (f_always l items ts rest is))))))
 f_item l items ts rest (inr (m, is, final)) = f_listed l items ts m rest is final
 
-abbrev Rows : Limits → List Placed → List Placed → Type 0
-Rows l ts rest = (k : ℕ) × times (items_row l) k ts rest
-
-f_groups : (l : Limits) (groups : List (List ItemTree)) (ts rest : List Placed) →
-    each (IsItem l) groups ts rest → Rows l ts rest
-f_groups l [] ts rest same = (zero, same)
-f_groups l (group ∷ groups) ts rest (m, is, others) =
-    let further = f_groups l groups m rest others in
-    (suc further.0, (m, f_item l group ts m is, further.1))
-
 pub form_of_items : (l : Limits) (items : List ItemTree) (ts rest : List Placed) →
     (AreItems l items ⨾ a_word words.Endmodule) ts rest → items_form l ts rest
 form_of_items l items ts rest (m, (groups, same, are), final) =
-    let rows = f_groups l groups ts m are in
+    let rows = f_each (IsItem l) (items_row l) (f_item l) groups ts m are in
     (rows.0, (m, rows.1, final))
 
 -- ---- from rows to items
@@ -109,19 +100,8 @@ b_item l ts rest (inr (inr (inr (inr (inr (inr (inr is))))))) =
       (m, inr (inr (inr (inr (inr (inr (instances, refl, are)))))), final),
     )
 
-abbrev Groups : Limits → List Placed → List Placed → Type 0
-Groups l ts rest = (groups : List (List ItemTree)) × each (IsItem l) groups ts rest
-
-b_groups : (l : Limits) (k : ℕ) (ts rest : List Placed) → times (items_row l) k ts rest →
-    Groups l ts rest
-b_groups l zero ts rest same = ([], same)
-b_groups l (suc k) ts rest (m, is, others) =
-    let this = b_item l ts m is in
-    let further = b_groups l k m rest others in
-    (this.0 ∷ further.0, (m, this.1, further.1))
-
 pub items_of_form : (l : Limits) (ts rest : List Placed) → items_form l ts rest
     → (items : List ItemTree) × (AreItems l items ⨾ a_word words.Endmodule) ts rest
 items_of_form l ts rest (k, (m, are, final)) =
-    let groups = b_groups l k ts m are in
+    let groups = b_each (IsItem l) (items_row l) (b_item l) k ts m are in
     (flat_map (λ group. group) groups.0, (m, (groups.0, refl, groups.1), final))

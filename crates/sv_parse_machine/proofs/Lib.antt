@@ -47,6 +47,7 @@ pub mod Runs
 pub mod ShapedForms
 pub mod ShapedTexts
 pub mod SkippedRows
+pub mod OneToken
 pub mod StatementForms
 pub mod StatementSteps
 pub mod Syntax
@@ -55,6 +56,7 @@ pub mod TextForms
 pub mod TextSteps
 pub mod TextTrees
 pub mod TokenFolds
+pub mod TreeParts
 pub mod TypeTrees
 pub mod Verdicts
 pub mod Walks

@@ -4,7 +4,7 @@ use Rattle.sv_token.specs.declared.keywords.WordKind.{WordKind}
 use Rattle.sv_token.specs.declared.signs.SignKind.{SignKind}
 use Rattle.sv_token.specs.declared.signs.SignKind.TheVariants as signs
 use Rattle.sv_token.specs.Lexemes.{Lexeme, word, identifier, sign, Placed}
-use Rattle.sv_ast.specs.GrammarForms.{Form, ◌⨾◌, a_word, a_sign, flag, later}
+use Rattle.sv_ast.specs.GrammarForms.{Form, ◌⨾◌, each, a_word, a_sign, flag, later}
 use Rattle.sv_parse_machine.proofs.ExpressionForms.{Next}
 use Rattle.sv_parse_machine.proofs.ExpressionParts.{next_at}
 use Rattle.sv_parse_machine.proofs.OuterForms.{times, loop_form, some_name}
@@ -64,3 +64,25 @@ b_later L P I s member a (suc k) ts m rest known (m1, (c, comma, is), further) f
     let this = member a c m1 known is in
     let others = b_later L P I s member this.0 k m1 m rest this.1 further final in
     (this.0 ∷ others.0, (others.1.0, (c, comma, (m1, this.2, others.1.1)), others.1.2))
+
+-- ---- members in a row
+
+pub f_each : {A : Type 0} (L : A → Form) (P : Form)
+    → ((a : A) (ts rest : List Placed) → L a ts rest → P ts rest)
+    → (bs : List A) (ts rest : List Placed) → each L bs ts rest
+    → (k : ℕ) × times P k ts rest
+f_each L P member [] ts rest same = (zero, same)
+f_each L P member (b ∷ bs) ts rest (m, is, others) =
+    let further = f_each L P member bs m rest others in
+    (suc further.0, (m, member b ts m is, further.1))
+
+-- and back
+pub b_each : {A : Type 0} (L : A → Form) (P : Form)
+    → ((ts rest : List Placed) → P ts rest → (a : A) × L a ts rest)
+    → (k : ℕ) (ts rest : List Placed) → times P k ts rest
+    → (bs : List A) × each L bs ts rest
+b_each L P member zero ts rest same = ([], same)
+b_each L P member (suc k) ts rest (m, is, others) =
+    let this = member ts m is in
+    let further = b_each L P member k m rest others in
+    (this.0 ∷ further.0, (m, this.1, further.1))

@@ -15,7 +15,7 @@ use Rattle.sv_parse_machine.proofs.ExpressionParts.{next_at}
 use Rattle.sv_parse_machine.proofs.OuterForms.{IsOver, times, some_number, perhaps_key_range_form}
 use Rattle.sv_parse_machine.proofs.OuterForms.{perhaps_second_key_form, rows_row, rows_end, rows_form}
 use Rattle.sv_parse_machine.proofs.OuterForms.{perhaps_maps_row, perhaps_maps_form}
-use Rattle.sv_parse_machine.proofs.ListTrees.{next_sign, next_word}
+use Rattle.sv_parse_machine.proofs.ListTrees.{next_sign, next_word, b_each}
 
 -- ---- ranges of numbers
 
@@ -241,14 +241,7 @@ next_maps P (t ∷ maps) ts rest passes behind (m1, (m, is, inside), others) =
 abbrev pub Maps : List Placed → List Placed → Type 0
 Maps ts rest = (maps : List MapTree) × each IsMap maps ts rest
 
-b_times : (l : Limits) (k : ℕ) (ts rest : List Placed) → times (perhaps_maps_row l) k ts rest →
-    Maps ts rest
-b_times l zero ts rest none = ([], none)
-b_times l (suc k) ts rest (m1, is, further) =
-    let this = b_map l ts m1 is in
-    let others = b_times l k m1 rest further in
-    (this.0 ∷ others.0, (m1, this.1, others.1))
-
 pub b_perhaps_maps : (l : Limits) (ts rest : List Placed) → perhaps_maps_form l ts rest →
     Maps ts rest
-b_perhaps_maps l ts rest (k, (m, are, (next, same))) = subst (Maps ts) same (b_times l k ts m are)
+b_perhaps_maps l ts rest (k, (m, are, (next, same))) = subst (Maps ts) same
+    (b_each IsMap (perhaps_maps_row l) (b_map l) k ts m are)

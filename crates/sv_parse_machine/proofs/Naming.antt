@@ -92,12 +92,15 @@ tidy_inside start (inner_parenthesis ∷ xs) below fine tidy = tidy_inside start
 tidy_inside start (inner_bracket ∷ xs) below fine tidy = tidy_inside start xs below fine tidy
 tidy_inside start (inner_brace ∷ xs) below fine tidy = tidy_inside start xs below fine tidy
 
+not_named : {P : Type 0} → false ≡ true → P
+not_named named = absurd (false≢true named)
+
 -- what an expression begins with
 named_begun : (named : Bool) (level arm start : ℕ) (xs : List Inner) (ys : List Outer)
     (below : State) → IsTrue (begins_well named (begins level arm xs ys)) → Tidy below
     → Named named (inside_on start xs ++ below)
 named_begun false level arm start xs ys below well tidy =
-    inr ((tidy_inside start xs below well tidy), λ named. absurd (false≢true named))
+    inr ((tidy_inside start xs below well tidy), not_named)
 named_begun true level arm start (selection n ∷ tail m ∷ []) ys below well tidy =
     inl ((tt, tidy), refl)
 named_begun true level arm start xs ys below well tidy = absurd (false≢true well)
@@ -135,60 +138,45 @@ followed_prefix : (start n : ℕ) (below : State) (o : Operator) (u : Option UnO
     → Tidy below
     → Followed start below (sign (signs.Operator o)) (prefix_operand n u)
 followed_prefix start n below o None comes tidy = tt
-followed_prefix start n below o (Some op) comes tidy =
-    inr ((comes, tidy), λ named. absurd (false≢true named))
+followed_prefix start n below o (Some op) comes tidy = inr ((comes, tidy), not_named)
 
 followed_infix : (start n : ℕ) (below : State) (o : Operator) (b : Option BinOp) → Tidy below
     → Followed start below (sign (signs.Operator o)) (infix_tail n b)
 followed_infix start n below o None tidy = tt
-followed_infix start n below o (Some op) tidy = inr ((tt, tidy), λ named. absurd (false≢true named))
+followed_infix start n below o (Some op) tidy = inr ((tt, tidy), not_named)
 
 followed : (start : ℕ) (s : Inner) (below : State) (x : Lexeme) → Tidy (inner start s ∷ below) →
     Followed start below x (inner_on s x)
-followed start (operand n) below (numeral v) tidy = inr (tidy.1, λ named. absurd (false≢true named))
+followed start (operand n) below (numeral v) tidy = inr (tidy.1, not_named)
 followed start (operand n) below (identifier y) tidy =
     followed_name start n below y (is_refused_word y) tidy.0 tidy.1
-followed start (operand n) below (sign signs.OpenParenthesis) tidy =
-    inr ((tt, tidy.1), λ named. absurd (false≢true named))
-followed start (operand n) below (sign signs.OpenBrace) tidy =
-    inr ((tt, tidy.1), λ named. absurd (false≢true named))
+followed start (operand n) below (sign signs.OpenParenthesis) tidy = inr ((tt, tidy.1), not_named)
+followed start (operand n) below (sign signs.OpenBrace) tidy = inr ((tt, tidy.1), not_named)
 followed start (operand n) below (sign (signs.Operator o)) tidy =
     followed_prefix start n below o (unary_operator o) tidy.0 tidy.1
 followed start (operand n) below x tidy = tt
-followed start (tail n) below (sign signs.Question) tidy =
-    inr ((tt, (tt, tidy)), λ named. absurd (false≢true named))
+followed start (tail n) below (sign signs.Question) tidy = inr ((tt, (tt, tidy)), not_named)
 followed start (tail n) below (sign (signs.Operator o)) tidy =
     followed_infix start n below o (binary_operator o) tidy
 followed start (tail n) below x tidy = tt
 followed start (selection n) below x tidy = absurd tidy
-followed start (selection_end n) below (sign signs.CloseBracket) tidy =
-    inr (tidy, λ named. absurd (false≢true named))
-followed start (selection_end n) below (sign signs.Colon) tidy =
-    inr ((tt, tidy), λ named. absurd (false≢true named))
+followed start (selection_end n) below (sign signs.CloseBracket) tidy = inr (tidy, not_named)
+followed start (selection_end n) below (sign signs.Colon) tidy = inr ((tt, tidy), not_named)
 followed start (selection_end n) below x tidy = tt
-followed start (members_or_count n) below (sign signs.CloseBrace) tidy =
-    inr (tidy, λ named. absurd (false≢true named))
-followed start (members_or_count n) below (sign signs.Comma) tidy =
-    inr ((tt, tidy), λ named. absurd (false≢true named))
-followed start (members_or_count n) below (sign signs.OpenBrace) tidy =
-    inr ((tt, tidy), λ named. absurd (false≢true named))
+followed start (members_or_count n) below (sign signs.CloseBrace) tidy = inr (tidy, not_named)
+followed start (members_or_count n) below (sign signs.Comma) tidy = inr ((tt, tidy), not_named)
+followed start (members_or_count n) below (sign signs.OpenBrace) tidy = inr ((tt, tidy), not_named)
 followed start (members_or_count n) below x tidy = tt
-followed start (members n) below (sign signs.CloseBrace) tidy =
-    inr (tidy, λ named. absurd (false≢true named))
-followed start (members n) below (sign signs.Comma) tidy =
-    inr ((tt, tidy), λ named. absurd (false≢true named))
+followed start (members n) below (sign signs.CloseBrace) tidy = inr (tidy, not_named)
+followed start (members n) below (sign signs.Comma) tidy = inr ((tt, tidy), not_named)
 followed start (members n) below x tidy = tt
-followed start inner_colon below (sign signs.Colon) tidy =
-    inr (tidy, λ named. absurd (false≢true named))
+followed start inner_colon below (sign signs.Colon) tidy = inr (tidy, not_named)
 followed start inner_colon below x tidy = tt
-followed start inner_parenthesis below (sign signs.CloseParenthesis) tidy =
-    inr (tidy, λ named. absurd (false≢true named))
+followed start inner_parenthesis below (sign signs.CloseParenthesis) tidy = inr (tidy, not_named)
 followed start inner_parenthesis below x tidy = tt
-followed start inner_bracket below (sign signs.CloseBracket) tidy =
-    inr (tidy, λ named. absurd (false≢true named))
+followed start inner_bracket below (sign signs.CloseBracket) tidy = inr (tidy, not_named)
 followed start inner_bracket below x tidy = tt
-followed start inner_brace below (sign signs.CloseBrace) tidy =
-    inr (tidy, λ named. absurd (false≢true named))
+followed start inner_brace below (sign signs.CloseBrace) tidy = inr (tidy, not_named)
 followed start inner_brace below x tidy = tt
 
 tidy_below : (start : ℕ) (s : Inner) (below : State) → Tidy (inner start s ∷ below) → Tidy below
@@ -242,7 +230,7 @@ waiting_step l a start (inner begun (selection n) ∷ below) next x layers waits
     (λ same. tidy_step l a start below next x layers.1 waits.1 same)
   where
     bits : (x : Lexeme) → Followed begun below x (inner_on (selection n) x)
-    bits (sign signs.OpenBracket) = inr ((tt, waits.1), λ named. absurd (false≢true named))
+    bits (sign signs.OpenBracket) = inr ((tt, waits.1), not_named)
     bits x = tt
 waiting_step l a start (inner begun y ∷ below) next x layers waits e = absurd waits
 
@@ -283,28 +271,21 @@ true_first : (x y : Bool) → IsTrue (x && y) → IsTrue x
 true_first true y all = refl
 true_first false y all = absurd (false≢true all)
 
+never_stuck : (d c : Bool) (s : State) → within_limits d c s ≡ fails_as (stuck_at behind_name) → ⊥
+never_stuck true true s same = cc
+never_stuck true false s same = cc
+never_stuck false c s same = cc
+
 dot_is_outside : (l : Limits) (a : ℕ) (below : State) (skip : Step) (r : OuterReaction)
     → IsTrue (is_not_behind_name r)
     → after_outer l a below skip r ≡ fails_as (stuck_at behind_name)
     → (skip ≡ fails_as (stuck_at behind_name) → ⊥) → ⊥
 dot_is_outside l a below skip (takes level arm ys) kind e further =
     never_stuck (is_within l.levels level) (is_within l.arms arm) (outside_on ys ++ below) e
-  where
-    never_stuck : (d c : Bool) (s : State) →
-        within_limits d c s ≡ fails_as (stuck_at behind_name) → ⊥
-    never_stuck true true s same = cc
-    never_stuck true false s same = cc
-    never_stuck false c s same = cc
 dot_is_outside l a below skip (begins level arm xs ys) kind e further =
     never_stuck (is_within l.levels level) (is_within l.arms arm
     && is_within l.tokens (tokens_of l (a + 1) a))
     (inside_on (a + 1) xs ++ (outside_on ys ++ below)) e
-  where
-    never_stuck : (d c : Bool) (s : State) →
-        within_limits d c s ≡ fails_as (stuck_at behind_name) → ⊥
-    never_stuck true true s same = cc
-    never_stuck true false s same = cc
-    never_stuck false c s same = cc
 dot_is_outside l a below skip over kind e further = further e
 dot_is_outside l a below skip (stuck behind_name) kind e further = absurd (false≢true kind)
 dot_is_outside l a below skip (stuck f) kind e further = cc

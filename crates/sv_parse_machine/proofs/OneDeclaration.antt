@@ -15,6 +15,7 @@ use Rattle.sv_ast.specs.GrammarDeclarations.{IsTyped, AreAlike, IsPortKind, IsNa
 use Rattle.sv_ast.specs.GrammarDeclarations.{ArePorts, IsSignalKind, IsSignalValue, IsNamedSignal}
 use Rattle.sv_ast.specs.GrammarDeclarations.{IsSignal, AreSignals, IsMemory}
 use Rattle.sv_ast.proofs.GrammarOneToken.{NextIs, ends_expression}
+use Rattle.sv_parse_machine.proofs.TreeParts.{same_declaration, same_memory}
 use Rattle.sv_parse_machine.proofs.OneForm.{Behind, Anything, AreOne, AreApart, Leads, one_as}
 use Rattle.sv_parse_machine.proofs.OneForm.{one_anywhere, one_where, one_apart, one_turned, apart_turned}
 use Rattle.sv_parse_machine.proofs.OneForm.{one_nothing, leads_nothing, one_then, one_before, one_grouped}
@@ -97,15 +98,8 @@ leads_port_name d = leads_given (leads_named d.name d.place)
 
 one_port : (l : Limits) (d e : DeclarationTree) → AreOne Anything (d ≡ e) (IsPort l d) (IsPort l e)
 one_port l d e =
-    one_as (λ both i. record {
-      kind = both.0 i;
-      signed = both.1.0.0 i;
-      span = both.1.0.1.0 i;
-      label = both.1.0.1.1 i;
-      name = both.1.1.1.0 i;
-      place = both.1.1.1.1 i;
-      value = both.1.1.0 i;
-    })
+    one_as (λ both. same_declaration d e both.0 both.1.0.0 both.1.0.1.0 both.1.0.1.1 both.1.1.1.0
+    both.1.1.1.1 both.1.1.0)
     (one_before (one_port_kind d.kind e.kind)
     (leads_through (leads_port_type l d) (leads_port_name d))
     (leads_through (leads_port_type l e) (leads_port_name e))
@@ -124,15 +118,9 @@ port_is_no_name l d = leads_first (kind_is_no_name d.kind)
 
 one_alike : (before d e : DeclarationTree) → AreAlike before d → AreAlike before e
     → (d.value ≡ e.value) → (d.name ≡ e.name) → (d.place ≡ e.place) → d ≡ e
-one_alike before d e known known_too value name place i = record {
-  kind = (known.0 ∙ sym known_too.0) i;
-  signed = (known.1 ∙ sym known_too.1) i;
-  span = (known.2 ∙ sym known_too.2) i;
-  label = (known.3 ∙ sym known_too.3) i;
-  name = name i;
-  place = place i;
-  value = value i;
-}
+one_alike before d e known known_too value name place =
+    same_declaration d e (known.0 ∙ sym known_too.0) (known.1 ∙ sym known_too.1)
+    (known.2 ∙ sym known_too.2) (known.3 ∙ sym known_too.3) name place value
 
 port_or_name : (l : Limits) (before d e : DeclarationTree) →
     AreApart (IsPort l d) (given (AreAlike before e) (IsNamedPort e))
@@ -213,15 +201,8 @@ one_signal_kind kinds.Reg _ = one_turned one_never
 one_signal : (l : Limits) (d e : DeclarationTree) →
     AreOne SignalEnds (d ≡ e) (IsSignal l d) (IsSignal l e)
 one_signal l d e =
-    one_as (λ both i. record {
-      kind = both.0 i;
-      signed = both.1.0.0 i;
-      span = both.1.0.1.0 i;
-      label = both.1.0.1.1 i;
-      name = both.1.1.0.0 i;
-      place = both.1.1.0.1 i;
-      value = both.1.1.1 i;
-    })
+    one_as (λ both. same_declaration d e both.0 both.1.0.0 both.1.0.1.0 both.1.0.1.1 both.1.1.0.0
+    both.1.1.0.1 both.1.1.1)
     (one_then (one_signal_kind d.kind e.kind)
     (λ kind. one_before (one_typed l d e) (leads_signal_name l d) (leads_signal_name l e) (λ type.
     one_signal_name l d e kind)))
@@ -274,15 +255,8 @@ leads_memory_name m = leads_first (leads_named m.name m.place)
 pub one_memory : (l : Limits) (m n : MemoryTree) →
     AreOne Anything (m ≡ n) (IsMemory l m) (IsMemory l n)
 one_memory l m n =
-    one_as (λ both i. record {
-      signed = both.0.0 i;
-      span = both.0.1.0 i;
-      label = both.0.1.1 i;
-      name = both.1.0.0 i;
-      place = both.1.0.1 i;
-      first = both.1.1.0 i;
-      last = both.1.1.1 i;
-    })
+    one_as (λ both. same_memory m n both.0.0 both.0.1.0 both.0.1.1 both.1.0.0 both.1.0.1 both.1.1.0
+    both.1.1.1)
     (word_behind words.Reg (one_regrouped (one_turned (one_regrouped (one_turned
     (one_before (one_memory_typed l m n) (leads_memory_name m) (leads_memory_name n) (λ type.
     one_memory_name m n)))))))

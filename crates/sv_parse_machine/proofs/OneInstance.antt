@@ -3,7 +3,7 @@ use Rattle.std.proofs.Common.{◌≡◌, ℕ, Bool, true, false, List, [], ◌�
 use Rattle.std.proofs.lemmas.Bool.{false≢true}
 use Rattle.sv_num.specs.declared.faults.Place.{Place}
 use Rattle.sv_token.specs.declared.signs.SignKind.TheVariants as signs
-use Rattle.sv_token.specs.Lexemes.{Lexeme, word, identifier, numeral, sign, Placed}
+use Rattle.sv_token.specs.Lexemes.{Lexeme, identifier, sign, Placed}
 use Rattle.sv_ast.specs.Tree.{ExpressionTree, NamedOverride, OverrideTrees, named_overrides}
 use Rattle.sv_ast.specs.Tree.{ordered_overrides, NamedLink, LinkTrees, named_links, ordered_links}
 use Rattle.sv_ast.specs.Tree.{InstanceTree}
@@ -13,6 +13,7 @@ use Rattle.sv_ast.specs.GrammarDeclarations.{IsValue}
 use Rattle.sv_ast.specs.GrammarModules.{by_name, IsNamedOverride, hash_parentheses, AreOverrides}
 use Rattle.sv_ast.specs.GrammarModules.{IsNamedLink, AreLinks, IsNamedInstance, IsInstance}
 use Rattle.sv_ast.specs.GrammarModules.{AreOfOneModule, AreInstances}
+use Rattle.sv_parse_machine.proofs.TreeParts.{same_instance}
 use Rattle.sv_parse_machine.proofs.OneForm.{Behind, Anything, AreOne, AreApart, Leads, At, one_as}
 use Rattle.sv_parse_machine.proofs.OneForm.{one_where, one_apart, one_turned, apart_turned, one_nothing}
 use Rattle.sv_parse_machine.proofs.OneForm.{one_then, one_before, apart_then, apart_first, leads_first}
@@ -34,17 +35,11 @@ CloseIs = FirstIs is_close
 
 close_ends_list : (x : Lexeme) → is_close x ≡ true → ends_list x ≡ true
 close_ends_list (sign signs.CloseParenthesis) close = refl
-close_ends_list (sign _) close = absurd (false≢true close)
-close_ends_list (word w) close = absurd (false≢true close)
-close_ends_list (identifier x) close = absurd (false≢true close)
-close_ends_list (numeral v) close = absurd (false≢true close)
+close_ends_list x close = absurd (false≢true close)
 
 close_is_no_value : (x : Lexeme) → begins_expression x ≡ true → is_close x ≡ true → ⊥
 close_is_no_value (sign signs.CloseParenthesis) begins close = false≢true begins
-close_is_no_value (sign _) begins close = false≢true close
-close_is_no_value (word w) begins close = false≢true close
-close_is_no_value (identifier x) begins close = false≢true close
-close_is_no_value (numeral v) begins close = false≢true close
+close_is_no_value x begins close = false≢true close
 
 close_list : (ts : List Placed) → CloseIs ts → ListEnds ts
 close_list [] close = absurd close
@@ -64,10 +59,7 @@ DotIs = FirstIs is_dot
 
 dot_is_no_value : (x : Lexeme) → begins_expression x ≡ true → is_dot x ≡ true → ⊥
 dot_is_no_value (sign signs.Dot) begins dot = false≢true begins
-dot_is_no_value (sign _) begins dot = false≢true dot
-dot_is_no_value (word w) begins dot = false≢true dot
-dot_is_no_value (identifier x) begins dot = false≢true dot
-dot_is_no_value (numeral v) begins dot = false≢true dot
+dot_is_no_value x begins dot = false≢true dot
 
 value_is_no_dot : (l : Limits) (e : ExpressionTree) → Refuses DotIs (IsValue l e)
 value_is_no_dot l e = value_refused dot_is_no_value l 0 e
@@ -196,14 +188,8 @@ leads_named_instance l a = leads_first (leads_name a.name a.name_place (λ p res
 one_instance : (l : Limits) (a b : InstanceTree) →
     AreOne Anything (a ≡ b) (IsInstance l a) (IsInstance l b)
 one_instance l a b =
-    one_as (λ both i. record {
-      master = both.0.0 i;
-      place = both.0.1 i;
-      overrides = both.1.0 i;
-      name = both.1.1.0.0 i;
-      name_place = both.1.1.0.1 i;
-      links = both.1.1.1 i;
-    })
+    one_as (λ both. same_instance a b both.0.0 both.0.1 both.1.0 both.1.1.0.0 both.1.1.0.1
+    both.1.1.1)
     (one_then (one_placed a.master b.master a.place b.place)
     (λ master. one_before (one_overrides l a.overrides b.overrides) (leads_named_instance l a)
     (leads_named_instance l b)
@@ -213,14 +199,8 @@ one_later_instance : (l : Limits) (before a b : InstanceTree)
     → AreOne Anything (a ≡ b) (given (AreOfOneModule before a) (IsNamedInstance l a))
     (given (AreOfOneModule before b) (IsNamedInstance l b))
 one_later_instance l before a b = one_given (λ known known_too.
-    one_as (λ both i. record {
-      master = (known.0 ∙ sym known_too.0) i;
-      place = (known.1 ∙ sym known_too.1) i;
-      overrides = (known.2 ∙ sym known_too.2) i;
-      name = both.0.0 i;
-      name_place = both.0.1 i;
-      links = both.1 i;
-    })
+    one_as (λ both. same_instance a b (known.0 ∙ sym known_too.0) (known.1 ∙ sym known_too.1)
+    (known.2 ∙ sym known_too.2) both.0.0 both.0.1 both.1)
     (one_named_instance l a b))
 
 pub one_instances : (l : Limits) (xs ys : List InstanceTree) →

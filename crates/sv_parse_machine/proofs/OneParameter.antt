@@ -11,6 +11,7 @@ use Rattle.sv_ast.specs.GrammarDeclarations.{IsRange, equals, IsParameterType, I
 use Rattle.sv_ast.specs.GrammarDeclarations.{parameter_word, IsParameter, IsLaterParameter}
 use Rattle.sv_ast.specs.GrammarDeclarations.{AreParameters, IsHeaderParameter, AreHeaderParameters}
 use Rattle.sv_ast.proofs.GrammarOneToken.{NextIs}
+use Rattle.sv_parse_machine.proofs.TreeParts.{same_parameter}
 use Rattle.sv_parse_machine.proofs.OneForm.{Behind, Anything, AreOne, AreApart, Leads, one_as}
 use Rattle.sv_parse_machine.proofs.OneForm.{one_anywhere, one_apart, one_turned, apart_turned}
 use Rattle.sv_parse_machine.proofs.OneForm.{one_nothing, one_then, one_before, leads_first, leads_through}
@@ -74,14 +75,8 @@ one_parameter_word false true =
 one_parameter : (l : Limits) (q r : ParameterTree) →
     AreOne ExpressionEnds (q ≡ r) (IsParameter l q) (IsParameter l r)
 one_parameter l q r =
-    one_as (λ both i. record {
-      local = both.0 i;
-      signed = both.1.0.0 i;
-      span = both.1.0.1 i;
-      name = both.1.1.0.0 i;
-      place = both.1.1.0.1 i;
-      value = both.1.1.1 i;
-    })
+    one_as (λ both. same_parameter q r both.0 both.1.0.0 both.1.0.1 both.1.1.0.0 both.1.1.0.1
+    both.1.1.1)
     (one_then (one_parameter_word q.local r.local)
     (λ first. one_before (one_parameter_type l q.signed r.signed q.span r.span)
     (leads_parameter_name l q) (leads_parameter_name l r)
@@ -90,14 +85,8 @@ one_parameter l q r =
 one_later_parameter : (l : Limits) (before q r : ParameterTree)
     → AreOne ExpressionEnds (q ≡ r) (IsLaterParameter l before q) (IsLaterParameter l before r)
 one_later_parameter l before q r = one_given (λ known known_too.
-    one_as (λ both i. record {
-      local = (known.0 ∙ sym known_too.0) i;
-      signed = (known.1 ∙ sym known_too.1) i;
-      span = (known.2 ∙ sym known_too.2) i;
-      name = both.0.0 i;
-      place = both.0.1 i;
-      value = both.1 i;
-    })
+    one_as (λ both. same_parameter q r (known.0 ∙ sym known_too.0) (known.1 ∙ sym known_too.1)
+    (known.2 ∙ sym known_too.2) both.0.0 both.0.1 both.1)
     (one_named_parameter l q r))
 
 pub one_parameters : (l : Limits) (qs rs : List ParameterTree) →

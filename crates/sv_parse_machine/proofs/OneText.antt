@@ -23,6 +23,7 @@ use Rattle.sv_ast.specs.GrammarModules.{IsNumber, IsKeyRange, IsKey, IsRow, IsMa
 use Rattle.sv_ast.specs.GrammarMeaning.{Means}
 use Rattle.sv_ast.specs.GrammarRules.{TokensMean, all_limits}
 use Rattle.sv_ast.proofs.GrammarOneToken.{NextIs, is_no_bracket}
+use Rattle.sv_parse_machine.proofs.TreeParts.{same_module, same_map}
 use Rattle.sv_parse_machine.proofs.OneForm.{Behind, Anything, AreOne, AreApart, Leads, At, one_as}
 use Rattle.sv_parse_machine.proofs.OneForm.{one_anywhere, one_apart, one_turned, apart_turned}
 use Rattle.sv_parse_machine.proofs.OneForm.{one_nothing, leads_nothing, one_then, one_before, apart_then}
@@ -141,13 +142,7 @@ one_header l m n =
 one_module : (l : Limits) (m n : ModuleTree) → AreOne Anything (m ≡ n) (IsModule l m) (IsModule l n)
 unfolding IsModule
 one_module l m n =
-    one_as (λ both i. record {
-      name = both.0.0.0 i;
-      place = both.0.0.1 i;
-      parameters = both.0.1.0 i;
-      ports = both.0.1.1 i;
-      items = both.1 i;
-    })
+    one_as (λ both. same_module m n both.0.0.0 both.0.0.1 both.0.1.0 both.0.1.1 both.1)
     (one_then (one_header l m n) (λ header.
     before_word words.Endmodule (one_items l m.items n.items) (λ p rest. refl)))
 
@@ -291,14 +286,7 @@ leads_rows a = leads_through
 one_map : (a b : MapTree) → AreOne Anything (a ≡ b) (IsMap a) (IsMap b)
 unfolding IsMap
 one_map a b =
-    one_as (λ both i. record {
-      name = both.0.0 i;
-      place = both.0.1 i;
-      span = both.1.0 i;
-      second = both.1.1.0 i;
-      rows = both.1.1.1.0 i;
-      other = both.1.1.1.1 i;
-    })
+    one_as (λ both. same_map a b both.0.0 both.0.1 both.1.0 both.1.1.0 both.1.1.1.0 both.1.1.1.1)
     (word_behind words.Labelmap (one_then (one_placed a.name b.name a.place b.place) (λ name.
     one_then (one_key_range a.span b.span) (λ span.
     one_before {F = NextIs is_no_bracket} (one_perhaps (λ s t. one_anywhere (one_key_range s t))

@@ -1,5 +1,5 @@
 -- What the symbols outside expressions stand for.
-use Rattle.std.specs.Prelude.{◌≡◌, ℕ, zero, suc, Bool, IsTrue, List, [], ◌∷◌}
+use Rattle.std.specs.Prelude.{◌≡◌, ℕ, zero, suc, Bool, IsTrue, List, ◌∷◌}
 use Rattle.sv_num.specs.declared.operators.BinOp.TheVariants.{Mul, Le}
 use Rattle.sv_token.specs.declared.keywords.WordKind.TheVariants as words
 use Rattle.sv_token.specs.declared.signs.SignKind.{SignKind}
@@ -560,8 +560,7 @@ outer_form l items = items_form l
 outer_form l one_module = one_module_form l
 
 abbrev pub outer_forms : Limits → List Outer → Form
-outer_forms l [] = nothing
-outer_forms l (y ∷ ys) = outer_form l y ⨾ outer_forms l ys
+outer_forms l ys = each (outer_form l) ys
 
 -- what a token and the tokens behind it are to a symbol
 abbrev pub Accepts : Limits → Placed → (ts rest : List Placed) → OuterReaction → Type 0

@@ -1,27 +1,53 @@
 -- Single steps outside expressions: names, operators, and the first token of an expression.
-use Rattle.std.proofs.Common.{◌≡◌, ℕ, zero, suc, Bool, true, false, not, List, [], ◌∷◌, ◌++◌}
-use Rattle.std.proofs.Common.{Option, Some, refl, sym, subst}
+use Rattle.std.proofs.Common.{◌≡◌, ℕ, zero, suc, Bool, true, false, not, List, [], ◌∷◌}
+use Rattle.std.proofs.Common.{Option, Some, refl, sym, subst, ◌∙◌}
 use Rattle.std.specs.Prelude.{IsTrue}
 use Rattle.sv_num.specs.declared.operators.BinOp.{BinOp}
 use Rattle.sv_num.specs.declared.operators.BinOp.TheVariants.{Mul, Le}
 use Rattle.sv_num.specs.declared.faults.Place.{Place}
+use Rattle.sv_token.specs.declared.signs.SignKind.{SignKind}
 use Rattle.sv_token.specs.declared.signs.SignKind.TheVariants as signs
-use Rattle.sv_token.specs.Lexemes.{Lexeme, Placed}
+use Rattle.sv_token.specs.Lexemes.{Lexeme, sign, Placed}
 use Rattle.sv_token.specs.Words.{is_refused_word}
-use Rattle.sv_ast.specs.GrammarForms.{Form, ◌⨾◌, nothing}
+use Rattle.sv_ast.specs.GrammarForms.{Form, ◌⨾◌, nothing, lexeme_at, a_sign}
 use Rattle.sv_ast.specs.GrammarExpressions.{Limits, is_within, read_tokens}
-use Rattle.sv_parse_machine.specs.Symbols.{Inner, operand, tail, Outer, punctuation, InnerReaction}
+use Rattle.sv_parse_machine.specs.Symbols.{operand, tail, Outer, punctuation, InnerReaction}
 use Rattle.sv_parse_machine.specs.Symbols.{takes_inner, over_inner, stuck_inner, OuterReaction, over}
 use Rattle.sv_parse_machine.specs.Symbols.{takes_all, unless_refused}
 use Rattle.sv_parse_machine.specs.ExpressionTable.{operand_on, as_expression, expression_on}
 use Rattle.sv_parse_machine.specs.StatementTable.{is_star, is_less_equal, taken_if}
 use Rattle.sv_parse_machine.specs.ModuleTable.{star_in_event}
-use Rattle.sv_parse_machine.proofs.ExpressionForms.{tail_form, inner_forms, AcceptsInner, expression_form}
+use Rattle.sv_parse_machine.proofs.ExpressionForms.{tail_form, inner_form, AcceptsInner, expression_form}
 use Rattle.sv_parse_machine.proofs.ExpressionParts.{to_parts, from_parts}
 use Rattle.sv_parse_machine.proofs.ReadSteps.{NotOver, operand_not_over}
-use Rattle.sv_parse_machine.proofs.InnerSteps.{placed, none_opens, no_arm, free_name, alone, f_inner}
+use Rattle.sv_parse_machine.proofs.InnerSteps.{placed, by_token, none_opens, no_arm, free_name, alone}
+use Rattle.sv_parse_machine.proofs.InnerSteps.{append_forms, split_forms, f_inner}
 use Rattle.sv_parse_machine.proofs.InnerForms.{b_inner, no_operand}
-use Rattle.sv_parse_machine.proofs.OuterForms.{IsOver, loop_form, outer_forms, Accepts}
+use Rattle.sv_parse_machine.proofs.OuterForms.{IsOver, loop_form, outer_form, outer_forms, Accepts}
+
+-- ---- what is shown of a symbol by its row of the table and its form
+
+-- where the form stands, its first token is taken as the row says
+abbrev pub StepsBy : (Lexeme → OuterReaction) → (Limits → Form) → Type 0
+StepsBy on form =
+    (l : Limits) (t : Placed) (ts rest : List Placed) → form l (t ∷ ts) rest
+    → Accepts l t ts rest (on t.lexeme)
+
+-- and back
+abbrev pub FormsBy : (Lexeme → OuterReaction) → (Limits → Form) → Type 0
+FormsBy on form =
+    (l : Limits) (x : Lexeme) (p : Place) (ts rest : List Placed)
+    → Accepts l (placed x p) ts rest (on x) → form l (placed x p ∷ ts) rest
+
+-- it does not stand where no token is left
+abbrev pub NeedsToken : (Limits → Form) → Type 0
+NeedsToken form = (l : Limits) (rest : List Placed) → form l [] rest → ⊥
+
+-- a row read at the token that stands there
+pub by_row : {x : Lexeme} {p : Place} {ts mid : List Placed} (l : Limits) (t : Placed)
+    (rest : List Placed) (on : Lexeme → OuterReaction)
+    → lexeme_at x p (t ∷ ts) mid → Accepts l t mid rest (on x) → Accepts l t ts rest (on t.lexeme)
+by_row l t rest on at is = by_token (λ x us. Accepts l t us rest (on x)) at is
 
 -- ---- any number of the one, and then the other
 
@@ -33,6 +59,22 @@ pub loop_goes_on : (row last : Form) (ts mid rest : List Placed) → row ts mid 
     (loop_form row last ⨾ nothing) mid rest → loop_form row last ts rest
 loop_goes_on row last ts mid rest first (ends, (k, (behind, others, final)), same) =
     subst (loop_form row last ts) same (suc k, (behind, (mid, first, others), final))
+
+-- further members of a list, each behind a comma
+pub f_commas : (on : Lexeme → OuterReaction) (z y : Outer) (s : SignKind) (l : Limits) (t : Placed)
+    (ts rest : List Placed)
+    → on (sign s) ≡ takes_all [] → on (sign signs.Comma) ≡ takes_all (z ∷ y ∷ [])
+    → ((us : List Placed) → loop_form (a_sign signs.Comma ⨾ outer_form l z) (a_sign s) us rest
+    → outer_form l y us rest)
+    → loop_form (a_sign signs.Comma ⨾ outer_form l z) (a_sign s) (t ∷ ts) rest
+    → Accepts l t ts rest (on t.lexeme)
+f_commas on z y s l t ts rest ends goes_on as_y (zero, (m, none, (p, e))) =
+    by_row l t rest on (none ∙ e)
+    (subst (Accepts l t rest rest) (sym ends) (none_opens l, no_arm l, refl))
+f_commas on z y s l t ts rest ends goes_on as_y
+    (suc k, (m, (m1, (m0, (p, e), first), others), final)) =
+    by_row l t rest on e (subst (Accepts l t m0 rest) (sym goes_on)
+    (none_opens l, no_arm l, (m1, first, (rest, as_y m1 (k, (m, others, final)), refl))))
 
 -- ---- names and operators
 
@@ -73,20 +115,6 @@ taken_star_inside l t ts rest b is = absurd is
 
 -- ---- expressions
 
-append_inner : (l : Limits) (xs zs : List Inner) (ts mid rest : List Placed) →
-    inner_forms l xs ts mid → inner_forms l zs mid rest → inner_forms l (xs ++ zs) ts rest
-append_inner l [] zs ts mid rest first second =
-    subst (λ us. inner_forms l zs us rest) (sym first) second
-append_inner l (x ∷ xs) zs ts mid rest first second =
-    (first.0, first.1, append_inner l xs zs first.0 mid rest first.2 second)
-
-split_inner : (l : Limits) (xs zs : List Inner) (ts rest : List Placed) →
-    inner_forms l (xs ++ zs) ts rest → (inner_forms l xs ⨾ inner_forms l zs) ts rest
-split_inner l [] zs ts rest is = (ts, refl, is)
-split_inner l (x ∷ xs) zs ts rest is =
-    let others = split_inner l xs zs is.0 rest is.2 in
-    (others.0, (is.0, is.1, others.1), others.2)
-
 begun : (l : Limits) (n arm : ℕ) (ys : List Outer) (t : Placed) (ts m mid rest : List Placed)
     (r : InnerReaction) → NotOver r
     → AcceptsInner l t ts m r → tail_form l n m mid
@@ -96,7 +124,7 @@ begun l n arm ys t ts m mid rest (takes_inner level xs) kind first behind count 
   first.0,
   few,
   mid,
-  append_inner l xs (tail n ∷ []) ts m mid first.1
+  append_forms (inner_form l) xs (tail n ∷ []) ts m mid first.1
       (mid, behind, refl),
   count,
   others,
@@ -126,7 +154,7 @@ begun_back : (l : Limits) (n arm : ℕ) (ys : List Outer) (x : Lexeme) (p : Plac
     → Begun l n arm ys (placed x p) ts rest
 begun_back l n arm ys x p ts rest (takes_inner level xs) found kind
     (opens, few, mid, inners, count, others) =
-    let (m, first, behind) = split_inner l xs (tail n ∷ []) ts mid inners in
+    let (m, first, behind) = split_forms (inner_form l) xs (tail n ∷ []) ts mid inners in
     let operand = b_inner l (operand n) x p ts m
     (subst (AcceptsInner l (placed x p) ts m) (sym found) (opens, first)) in
     let whole = from_parts l n (placed x p ∷ ts) mid

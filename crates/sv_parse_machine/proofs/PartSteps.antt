@@ -1,26 +1,23 @@
 -- Parts of statements: from forms to steps, and back.
-use Rattle.std.proofs.Common.{◌≡◌, ℕ, zero, suc, List, [], ◌∷◌, inl, inr, refl, subst, ◌∙◌}
+use Rattle.std.proofs.Common.{ℕ, zero, suc, List, [], ◌∷◌, inl, inr, refl, subst, ◌∙◌}
 use Rattle.sv_num.specs.declared.faults.Place.{Place}
-use Rattle.sv_token.specs.declared.keywords.WordKind.TheVariants as words
 use Rattle.sv_token.specs.declared.signs.SignKind.TheVariants as signs
-use Rattle.sv_token.specs.Lexemes.{Lexeme, word, sign, Placed}
+use Rattle.sv_token.specs.Lexemes.{Lexeme, sign, Placed}
 use Rattle.sv_ast.specs.GrammarExpressions.{Limits}
-use Rattle.sv_parse_machine.specs.StatementTable.{perhaps_block_name_on, perhaps_else_on, perhaps_bits_on}
+use Rattle.sv_parse_machine.specs.Symbols.{expression, more_choices}
 use Rattle.sv_parse_machine.specs.StatementTable.{bits_end_on, more_targets_on, more_choices_on}
-use Rattle.sv_parse_machine.specs.StatementTable.{perhaps_colon_on}
-use Rattle.sv_parse_machine.proofs.InnerSteps.{placed, by_token, no_token, none_opens, no_arm}
+use Rattle.sv_parse_machine.proofs.InnerSteps.{placed, no_token, none_opens, no_arm}
 use Rattle.sv_parse_machine.proofs.InnerForms.{last_token}
-use Rattle.sv_parse_machine.proofs.OuterForms.{bits_end_form, perhaps_bits_form, more_targets_form}
-use Rattle.sv_parse_machine.proofs.OuterForms.{more_choices_form, perhaps_block_name_form}
-use Rattle.sv_parse_machine.proofs.OuterForms.{perhaps_colon_form, perhaps_else_form, Accepts}
-use Rattle.sv_parse_machine.proofs.OuterTokens.{skipped}
+use Rattle.sv_parse_machine.proofs.OuterForms.{bits_end_form, more_targets_form, more_choices_form}
+use Rattle.sv_parse_machine.proofs.OuterForms.{Accepts}
+use Rattle.sv_parse_machine.proofs.OuterTokens.{by_row, f_commas}
 
 pub f_bits_end : (l : Limits) (n : ℕ) (t : Placed) (ts rest : List Placed) →
     bits_end_form l n (t ∷ ts) rest → Accepts l t ts rest (bits_end_on n t.lexeme)
 f_bits_end l n t ts rest (inl (m, (p, e), behind)) =
-    by_token (λ x us. Accepts l t us rest (bits_end_on n x)) e (none_opens l, no_arm l, behind)
+    by_row l t rest (bits_end_on n) e (none_opens l, no_arm l, behind)
 f_bits_end l n t ts rest (inr (m, (p, e), behind)) =
-    by_token (λ x us. Accepts l t us rest (bits_end_on n x)) e (none_opens l, no_arm l, behind)
+    by_row l t rest (bits_end_on n) e (none_opens l, no_arm l, behind)
 
 pub b_bits_end : (l : Limits) (n : ℕ) (x : Lexeme) (p : Place) (ts rest : List Placed) →
     Accepts l (placed x p) ts rest (bits_end_on n x) → bits_end_form l n (placed x p ∷ ts) rest
@@ -32,31 +29,12 @@ pub none_bits_end : (l : Limits) (n : ℕ) (rest : List Placed) → bits_end_for
 none_bits_end l n rest (inl (m, (p, e), behind)) = no_token e
 none_bits_end l n rest (inr (m, (p, e), behind)) = no_token e
 
-pub f_perhaps_bits : (l : Limits) (n : ℕ) (t : Placed) (ts rest : List Placed) →
-    perhaps_bits_form l n (t ∷ ts) rest → Accepts l t ts rest (perhaps_bits_on n t.lexeme)
-f_perhaps_bits l n t ts rest (inl (over, same)) =
-    skipped l t ts rest (perhaps_bits_on n t.lexeme) over same
-f_perhaps_bits l n t ts rest (inr (m, (p, e), behind)) =
-    by_token (λ x us. Accepts l t us rest (perhaps_bits_on n x)) e (none_opens l, no_arm l, behind)
-
-pub b_perhaps_bits : (l : Limits) (n : ℕ) (x : Lexeme) (p : Place) (ts rest : List Placed) →
-    Accepts l (placed x p) ts rest (perhaps_bits_on n x) →
-    perhaps_bits_form l n (placed x p ∷ ts) rest
-b_perhaps_bits l n (sign signs.OpenBracket) p ts rest is = inr (ts, (p, refl), is.2)
-b_perhaps_bits l n x p ts rest is = inl (tt, is)
-
-pub none_perhaps_bits : (l : Limits) (n : ℕ) (rest : List Placed) → perhaps_bits_form l n [] rest →
-    [] ≡ rest
-none_perhaps_bits l n rest (inl (over, same)) = same
-none_perhaps_bits l n rest (inr (m, (p, e), behind)) = absurd (no_token e)
-
 pub f_more_targets : (l : Limits) (n : ℕ) (t : Placed) (ts rest : List Placed) →
     more_targets_form l n (t ∷ ts) rest → Accepts l t ts rest (more_targets_on n t.lexeme)
 f_more_targets l n t ts rest (zero, (m, none, (p, e))) =
-    by_token (λ x us. Accepts l t us rest (more_targets_on n x)) (none ∙ e)
-    (none_opens l, no_arm l, refl)
+    by_row l t rest (more_targets_on n) (none ∙ e) (none_opens l, no_arm l, refl)
 f_more_targets l n t ts rest (suc k, (m, (m1, (m0, (p, e), (q0, a0, a1)), others), final)) =
-    by_token (λ x us. Accepts l t us rest (more_targets_on n x)) e
+    by_row l t rest (more_targets_on n) e
     (none_opens l, no_arm l, (q0, a0, (m1, a1, (rest, (k, (m, others, final)), refl))))
 
 pub b_more_targets : (l : Limits) (n : ℕ) (x : Lexeme) (p : Place) (ts rest : List Placed) →
@@ -84,12 +62,9 @@ none_more_targets l n rest (suc k, (m, (m1, (m0, (p, e), behind), others), final
 
 pub f_more_choices : (l : Limits) (n : ℕ) (t : Placed) (ts rest : List Placed) →
     more_choices_form l n (t ∷ ts) rest → Accepts l t ts rest (more_choices_on n t.lexeme)
-f_more_choices l n t ts rest (zero, (m, none, (p, e))) =
-    by_token (λ x us. Accepts l t us rest (more_choices_on n x)) (none ∙ e)
-    (none_opens l, no_arm l, refl)
-f_more_choices l n t ts rest (suc k, (m, (m1, (m0, (p, e), a0), others), final)) =
-    by_token (λ x us. Accepts l t us rest (more_choices_on n x)) e
-    (none_opens l, no_arm l, (m1, a0, (rest, (k, (m, others, final)), refl)))
+f_more_choices l n t ts rest is =
+    f_commas (more_choices_on n) (expression n) (more_choices n) signs.Colon l t ts rest
+    refl refl (λ us is. is) is
 
 pub b_more_choices : (l : Limits) (n : ℕ) (x : Lexeme) (p : Place) (ts rest : List Placed) →
     Accepts l (placed x p) ts rest (more_choices_on n x) →
@@ -113,58 +88,3 @@ pub none_more_choices : (l : Limits) (n : ℕ) (rest : List Placed) →
     more_choices_form l n [] rest → ⊥
 none_more_choices l n rest (zero, (m, none, (p, e))) = no_token (none ∙ e)
 none_more_choices l n rest (suc k, (m, (m1, (m0, (p, e), behind), others), final)) = no_token e
-
-pub f_perhaps_block_name : (l : Limits) (t : Placed) (ts rest : List Placed) →
-    perhaps_block_name_form l (t ∷ ts) rest → Accepts l t ts rest (perhaps_block_name_on t.lexeme)
-f_perhaps_block_name l t ts rest (inl (over, same)) =
-    skipped l t ts rest (perhaps_block_name_on t.lexeme) over same
-f_perhaps_block_name l t ts rest (inr (m, (p, e), behind)) =
-    by_token (λ x us. Accepts l t us rest (perhaps_block_name_on x)) e
-    (none_opens l, no_arm l, behind)
-
-pub b_perhaps_block_name : (l : Limits) (x : Lexeme) (p : Place) (ts rest : List Placed) →
-    Accepts l (placed x p) ts rest (perhaps_block_name_on x) →
-    perhaps_block_name_form l (placed x p ∷ ts) rest
-b_perhaps_block_name l (sign signs.Colon) p ts rest is = inr (ts, (p, refl), is.2)
-b_perhaps_block_name l x p ts rest is = inl (tt, is)
-
-pub none_perhaps_block_name : (l : Limits) (rest : List Placed) →
-    perhaps_block_name_form l [] rest → [] ≡ rest
-none_perhaps_block_name l rest (inl (over, same)) = same
-none_perhaps_block_name l rest (inr (m, (p, e), behind)) = absurd (no_token e)
-
-pub f_perhaps_colon : (l : Limits) (t : Placed) (ts rest : List Placed) →
-    perhaps_colon_form l (t ∷ ts) rest → Accepts l t ts rest (perhaps_colon_on t.lexeme)
-f_perhaps_colon l t ts rest (inl (over, same)) =
-    skipped l t ts rest (perhaps_colon_on t.lexeme) over same
-f_perhaps_colon l t ts rest (inr (m, (p, e), behind)) =
-    by_token (λ x us. Accepts l t us rest (perhaps_colon_on x)) e (none_opens l, no_arm l, behind)
-
-pub b_perhaps_colon : (l : Limits) (x : Lexeme) (p : Place) (ts rest : List Placed) →
-    Accepts l (placed x p) ts rest (perhaps_colon_on x) →
-    perhaps_colon_form l (placed x p ∷ ts) rest
-b_perhaps_colon l (sign signs.Colon) p ts rest is = inr (ts, (p, refl), is.2)
-b_perhaps_colon l x p ts rest is = inl (tt, is)
-
-pub none_perhaps_colon : (l : Limits) (rest : List Placed) → perhaps_colon_form l [] rest →
-    [] ≡ rest
-none_perhaps_colon l rest (inl (over, same)) = same
-none_perhaps_colon l rest (inr (m, (p, e), behind)) = absurd (no_token e)
-
-pub f_perhaps_else : (l : Limits) (n : ℕ) (t : Placed) (ts rest : List Placed) →
-    perhaps_else_form l n (t ∷ ts) rest → Accepts l t ts rest (perhaps_else_on n t.lexeme)
-f_perhaps_else l n t ts rest (inl (over, same)) =
-    skipped l t ts rest (perhaps_else_on n t.lexeme) over same
-f_perhaps_else l n t ts rest (inr (m, (p, e), behind)) =
-    by_token (λ x us. Accepts l t us rest (perhaps_else_on n x)) e (none_opens l, no_arm l, behind)
-
-pub b_perhaps_else : (l : Limits) (n : ℕ) (x : Lexeme) (p : Place) (ts rest : List Placed) →
-    Accepts l (placed x p) ts rest (perhaps_else_on n x) →
-    perhaps_else_form l n (placed x p ∷ ts) rest
-b_perhaps_else l n (word words.Else) p ts rest is = inr (ts, (p, refl), is.2)
-b_perhaps_else l n x p ts rest is = inl (tt, is)
-
-pub none_perhaps_else : (l : Limits) (n : ℕ) (rest : List Placed) → perhaps_else_form l n [] rest →
-    [] ≡ rest
-none_perhaps_else l n rest (inl (over, same)) = same
-none_perhaps_else l n rest (inr (m, (p, e), behind)) = absurd (no_token e)

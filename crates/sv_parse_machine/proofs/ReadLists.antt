@@ -2,10 +2,9 @@
 -- begin as these do.
 use Rattle.std.proofs.Common.{◌≡◌, ℕ, Bool, true, false, List, [], ◌∷◌, ◌++◌, length, refl, sym, ap}
 use Rattle.std.proofs.Common.{Option, None, Some, subst, ◌∙◌}
-use Rattle.sv_token.specs.declared.keywords.WordKind.TheVariants as words
 use Rattle.sv_token.specs.declared.signs.SignKind.{SignKind}
 use Rattle.sv_token.specs.declared.signs.SignKind.TheVariants as signs
-use Rattle.sv_token.specs.Lexemes.{Lexeme, word, identifier, sign, Placed}
+use Rattle.sv_token.specs.Lexemes.{Lexeme, identifier, sign, Placed}
 use Rattle.sv_token.specs.Words.{is_refused_word}
 use Rattle.sv_ast.specs.GrammarRules.{all_limits}
 use Rattle.sv_parse_machine.specs.Symbols.{Inner, members_or_count, members, inner_brace, Outer}
@@ -13,13 +12,11 @@ use Rattle.sv_parse_machine.specs.Symbols.{punctuation, plain_name, more_names, 
 use Rattle.sv_parse_machine.specs.Symbols.{more_header_parameters, more_ports, more_parameters}
 use Rattle.sv_parse_machine.specs.Symbols.{more_wires, more_assigned, more_named_overrides}
 use Rattle.sv_parse_machine.specs.Symbols.{more_named_links, more_instances, more_targets, more_choices}
-use Rattle.sv_parse_machine.specs.Symbols.{behind_reg_name, statement, items, inner, outer, State}
-use Rattle.sv_parse_machine.specs.Symbols.{a_statement, an_item, takes, stuck, unless_refused}
+use Rattle.sv_parse_machine.specs.Symbols.{inner, outer, State, takes, unless_refused}
 use Rattle.sv_parse_machine.specs.ExpressionTable.{inner_on}
-use Rattle.sv_parse_machine.specs.Machine.{outer_on, Step, stuck_at, outside_on, after_inner, after_outer}
+use Rattle.sv_parse_machine.specs.Machine.{outer_on, Step, outside_on, after_inner, after_outer}
 use Rattle.sv_parse_machine.specs.Machine.{step, may_be_empty, ended, at_end, go_on, run}
-use Rattle.sv_parse_machine.specs.Reads.{IsNot, NextIs, NextIsNot, Reads, Halts}
-use Rattle.sv_parse_machine.proofs.ReadSteps.{is_stuck}
+use Rattle.sv_parse_machine.specs.Reads.{IsNot, NextIs, NextIsNot, Reads}
 
 -- ---- symbols that do the same
 
@@ -197,20 +194,6 @@ ends_joined =
     ends_list (more_names signs.CloseBrace) signs.CloseBrace refl
     (row_list (more_names signs.CloseBrace))
 
-row_behind_reg_name : (x : Lexeme) → IsNot (sign signs.Comma) x × IsNot (sign signs.OpenBracket) x →
-    outer_on behind_reg_name x ≡ outer_on (punctuation signs.Semicolon) x
-row_behind_reg_name (sign signs.Comma) others = absurd (others.0 refl)
-row_behind_reg_name (sign signs.OpenBracket) others = absurd (others.1 refl)
-row_behind_reg_name x others = refl
-
--- a `reg` that is no memory, and the last of its list
-pub ends_behind_reg_name : (ts : List Placed)
-    → NextIs (λ x. IsNot (sign signs.Comma) x × IsNot (sign signs.OpenBracket) x) ts
-    → Reads (outer behind_reg_name ∷ []) (outer (punctuation signs.Semicolon) ∷ []) ts ts
-ends_behind_reg_name =
-    alike_if (λ x. IsNot (sign signs.Comma) x × IsNot (sign signs.OpenBracket) x) behind_reg_name
-    (punctuation signs.Semicolon) refl refl row_behind_reg_name
-
 -- ---- braces of expressions
 
 row_members : (n : ℕ) (x : Lexeme) → IsNot (sign signs.Comma) x →
@@ -266,64 +249,3 @@ name_first y ys (t ∷ ts) row (x, at) = record {
       (step all_limits (length ts) below (identifier x))
       (step all_limits (length ts) (outside_on ys ++ below) (identifier x))));
 }
-
--- ---- where neither a statement nor an item begins
-
-abbrev pub IsNoIdentifier : Lexeme → Type 0
-IsNoIdentifier x = (y : List ℕ) → x ≡ identifier y → ⊥
-
--- none of the tokens that a statement begins with; a name counts as one, refused or not
-abbrev pub BeginsNoStatement : Lexeme → Type 0
-BeginsNoStatement x =
-    IsNoIdentifier x
-    × IsNot (sign signs.Semicolon) x
-    × IsNot (sign signs.OpenBrace) x
-    × IsNot (word words.Begin) x
-    × IsNot (word words.If) x
-    × IsNot (word words.Case) x
-
-row_statement : (n : ℕ) (x : Lexeme) → BeginsNoStatement x →
-    outer_on (statement n) x ≡ stuck a_statement
-row_statement n (identifier y) none = absurd (none.0 y refl)
-row_statement n (sign signs.Semicolon) none = absurd (none.1 refl)
-row_statement n (sign signs.OpenBrace) none = absurd (none.2 refl)
-row_statement n (word words.Begin) none = absurd (none.3 refl)
-row_statement n (word words.If) none = absurd (none.4 refl)
-row_statement n (word words.Case) none = absurd (none.5 refl)
-row_statement n x none = refl
-
-pub halts_statement : (n : ℕ) (ts : List Placed) → NextIs BeginsNoStatement ts →
-    Halts (outer (statement n) ∷ []) ts (stuck_at a_statement) (length ts)
-halts_statement n [] none = is_stuck (statement n) a_statement [] refl tt
-halts_statement n (t ∷ ts) none =
-    is_stuck (statement n) a_statement (t ∷ ts) refl (row_statement n t.lexeme none)
-
--- none of the tokens that an item begins with, nor `endmodule`
-abbrev pub BeginsNoItem : Lexeme → Type 0
-BeginsNoItem x =
-    IsNoIdentifier x
-    × IsNot (word words.Parameter) x
-    × IsNot (word words.Localparam) x
-    × IsNot (word words.Wire) x
-    × IsNot (word words.Reg) x
-    × IsNot (word words.Assign) x
-    × IsNot (word words.Always) x
-    × IsNot (word words.Invariant) x
-    × IsNot (word words.Endmodule) x
-
-row_items : (x : Lexeme) → BeginsNoItem x → outer_on items x ≡ stuck an_item
-row_items (identifier y) none = absurd (none.0 y refl)
-row_items (word words.Parameter) none = absurd (none.1 refl)
-row_items (word words.Localparam) none = absurd (none.2 refl)
-row_items (word words.Wire) none = absurd (none.3 refl)
-row_items (word words.Reg) none = absurd (none.4 refl)
-row_items (word words.Assign) none = absurd (none.5 refl)
-row_items (word words.Always) none = absurd (none.6 refl)
-row_items (word words.Invariant) none = absurd (none.7 refl)
-row_items (word words.Endmodule) none = absurd (none.8 refl)
-row_items x none = refl
-
-pub halts_items : (ts : List Placed) → NextIs BeginsNoItem ts →
-    Halts (outer items ∷ []) ts (stuck_at an_item) (length ts)
-halts_items [] none = is_stuck items an_item [] refl tt
-halts_items (t ∷ ts) none = is_stuck items an_item (t ∷ ts) refl (row_items t.lexeme none)

@@ -1,34 +1,28 @@
 -- How reading is put together: one token, one after the other, and what is read in front of other
 -- symbols.
 use Rattle.std.proofs.Common.{◌≡◌, ℕ, ◌+◌, ◌-◌, ◌<◌, ◌≤◌, max, Bool, true, false, ◌&&◌, List, []}
-use Rattle.std.proofs.Common.{◌∷◌, ◌++◌, length, Option, Some, None, refl, sym, ap, ◌∙◌}
+use Rattle.std.proofs.Common.{◌∷◌, ◌++◌, length, Some, refl, sym, ap, ◌∙◌}
 use Rattle.std.proofs.Common.{append_assoc, arith}
 use Rattle.std.proofs.lemmas.Bool.{false≢true}
-use Rattle.sv_num.specs.declared.operators.UnOp.{UnOp}
-use Rattle.sv_token.specs.declared.signs.SignKind.TheVariants as signs
 use Rattle.std.proofs.lemmas.List.{length-map}
 use Rattle.sv_token.specs.declared.tokens.Token.{Token}
-use Rattle.sv_token.specs.Lexemes.{Lexeme, identifier, sign, Placed, placed_of, placed_tokens}
-use Rattle.sv_token.specs.Words.{is_refused_word}
-use Rattle.sv_ast.specs.GrammarForms.{unary_operator}
+use Rattle.sv_token.specs.Lexemes.{Lexeme, Placed, placed_of, placed_tokens}
 use Rattle.sv_ast.specs.GrammarExpressions.{is_within}
 use Rattle.sv_ast.specs.GrammarRules.{all_limits}
-use Rattle.sv_parse_machine.specs.Symbols.{Inner, operand, tail, Outer, expression, inner, outer, State}
-use Rattle.sv_parse_machine.specs.Symbols.{Expected, InnerReaction, takes_inner, over_inner, stuck_inner}
+use Rattle.sv_parse_machine.specs.Symbols.{Inner, operand, tail, Outer, expression, Symbol, inner, outer}
+use Rattle.sv_parse_machine.specs.Symbols.{State, Expected, InnerReaction, takes_inner, over_inner, stuck_inner}
 use Rattle.sv_parse_machine.specs.Symbols.{OuterReaction, takes, over, stuck}
-use Rattle.sv_parse_machine.specs.ExpressionTable.{name_operand, prefix_operand, operand_on, inner_on}
+use Rattle.sv_parse_machine.specs.ExpressionTable.{operand_on, inner_on}
 use Rattle.sv_parse_machine.specs.ExpressionTable.{as_expression, expression_on}
 use Rattle.sv_parse_machine.specs.Machine.{outer_on, Step, goes, fails_as, Failure, stuck_at, too_deep}
 use Rattle.sv_parse_machine.specs.Machine.{too_long, ends_early, within_limits, inside_on, outside_on}
 use Rattle.sv_parse_machine.specs.Machine.{tokens_of, after_inner, after_outer, step, Outcome, fails}
 use Rattle.sv_parse_machine.specs.Machine.{may_be_empty, ended, at_end, go_on, run}
 use Rattle.sv_parse_machine.specs.Reads.{Reads, Halts}
+use Rattle.sv_parse_machine.proofs.AgreedRows.{PlainlyStuck, operand_is_plain}
 use Rattle.sv_parse_machine.proofs.ExpressionForms.{Next}
 
 -- ---- one after the other
-
-pub reads_nothing : (xs : State) (ts : List Placed) → Reads xs xs ts ts
-reads_nothing xs ts = record { runs = λ below. refl }
 
 pub reads_then : (xs ys zs : State) (ts mid rest : List Placed) → Reads xs ys ts mid →
     Reads ys zs mid rest → Reads xs zs ts rest
@@ -78,6 +72,15 @@ outer_step y below t ts r e =
     ap (λ r. after_outer all_limits (length ts) below
     (step all_limits (length ts) below t.lexeme) r) e
 
+fails_at : (y : Symbol) (t : Placed) (ts : List Placed) (f : Failure)
+    → ((below : State) → step all_limits (length ts) (y ∷ below) t.lexeme ≡ fails_as f)
+    → Halts (y ∷ []) (t ∷ ts) f (length (t ∷ ts))
+fails_at y t ts f fails = record {
+  rest = t ∷ ts;
+  many = refl;
+  runs = λ below. stepped (y ∷ below) t ts (fails_as f) (fails below);
+}
+
 pub takes_token : (y : Outer) (ys : List Outer) (t : Placed) (ts : List Placed) →
     outer_on y t.lexeme ≡ takes 0 0 ys → Reads (outer y ∷ []) (outside_on ys) (t ∷ ts) ts
 takes_token y ys t ts e = record {
@@ -89,7 +92,7 @@ takes_token y ys t ts e = record {
 within : (n most : ℕ) → n ≤ most → is_within (Some most) n ≡ true
 within n most less = grind arith
 
-beyond : (n most : ℕ) → most < n → is_within (Some most) n ≡ false
+pub beyond : (n most : ℕ) → most < n → is_within (Some most) n ≡ false
 beyond n most more = grind arith
 
 -- it opens a level
@@ -105,34 +108,9 @@ takes_level y level ys t ts less e = record {
 pub level_is_too_deep : (y : Outer) (level : ℕ) (ys : List Outer) (t : Placed) (ts : List Placed)
     → 64 < level → outer_on y t.lexeme ≡ takes level 0 ys
     → Halts (outer y ∷ []) (t ∷ ts) too_deep (length (t ∷ ts))
-level_is_too_deep y level ys t ts more e = record {
-  rest = t ∷ ts;
-  many = refl;
-  runs = λ below. stepped (outer y ∷ below) t ts (fails_as too_deep)
-      (outer_step y below t ts (takes level 0 ys) e
-      ∙ ap (λ b. within_limits b true (outside_on ys ++ below)) (beyond level 64 more));
-}
-
--- it begins an arm
-pub takes_arm : (y : Outer) (arm : ℕ) (ys : List Outer) (t : Placed) (ts : List Placed) → arm ≤ 256
-    → outer_on y t.lexeme ≡ takes 0 arm ys
-    → Reads (outer y ∷ []) (outside_on ys) (t ∷ ts) ts
-takes_arm y arm ys t ts less e = record {
-  runs = λ below. stepped (outer y ∷ below) t ts (goes (outside_on ys ++ below))
-      (outer_step y below t ts (takes 0 arm ys) e
-      ∙ ap (λ b. within_limits true b (outside_on ys ++ below)) (within arm 256 less));
-}
-
-pub arm_is_too_long : (y : Outer) (arm : ℕ) (ys : List Outer) (t : Placed) (ts : List Placed)
-    → 256 < arm → outer_on y t.lexeme ≡ takes 0 arm ys
-    → Halts (outer y ∷ []) (t ∷ ts) too_long (length (t ∷ ts))
-arm_is_too_long y arm ys t ts more e = record {
-  rest = t ∷ ts;
-  many = refl;
-  runs = λ below. stepped (outer y ∷ below) t ts (fails_as too_long)
-      (outer_step y below t ts (takes 0 arm ys) e
-      ∙ ap (λ b. within_limits true b (outside_on ys ++ below)) (beyond arm 256 more));
-}
+level_is_too_deep y level ys t ts more e = fails_at (outer y) t ts too_deep (λ below.
+    outer_step y below t ts (takes level 0 ys) e
+    ∙ ap (λ b. within_limits b true (outside_on ys ++ below)) (beyond level 64 more))
 
 ended_over : (b : Bool) (below : Outcome) → b ≡ true → ended b below ≡ below
 ended_over true below e = refl
@@ -209,32 +187,24 @@ pub inside_is_too_deep :
     → 64 < level
     → inner_on s t.lexeme ≡ takes_inner level xs
     → Halts (inner start s ∷ []) (t ∷ ts) too_deep (length (t ∷ ts))
-inside_is_too_deep start s level xs t ts more e = record {
-  rest = t ∷ ts;
-  many = refl;
-  runs = λ below. stepped (inner start s ∷ below) t ts (fails_as too_deep)
-      (inner_step start s below t ts (takes_inner level xs) e
-      ∙ ap (λ b. within_limits b
-      (is_within all_limits.tokens (tokens_of all_limits start (length ts)))
-      (inside_on start xs ++ below)) (beyond level 64 more));
-}
+inside_is_too_deep start s level xs t ts more e = fails_at (inner start s) t ts too_deep (λ below.
+    inner_step start s below t ts (takes_inner level xs) e
+    ∙ ap (λ b. within_limits b
+    (is_within all_limits.tokens (tokens_of all_limits start (length ts)))
+    (inside_on start xs ++ below)) (beyond level 64 more))
 
 pub inside_is_too_long :
     (start : ℕ) (s : Inner) (level : ℕ) (xs : List Inner) (t : Placed) (ts : List Placed)
     → level ≤ 64 → length (t ∷ ts) ≤ start - 1024
     → inner_on s t.lexeme ≡ takes_inner level xs
     → Halts (inner start s ∷ []) (t ∷ ts) too_long (length (t ∷ ts))
-inside_is_too_long start s level xs t ts less count e = record {
-  rest = t ∷ ts;
-  many = refl;
-  runs = λ below. stepped (inner start s ∷ below) t ts (fails_as too_long)
-      (inner_step start s below t ts (takes_inner level xs) e
-      ∙ ap (λ b. within_limits b
-      (is_within all_limits.tokens (tokens_of all_limits start (length ts)))
-      (inside_on start xs ++ below)) (within level 64 less)
-      ∙ ap (λ b. within_limits true b (inside_on start xs ++ below))
-      (overcounted start t ts count));
-}
+inside_is_too_long start s level xs t ts less count e = fails_at (inner start s) t ts too_long
+    (λ below.
+    inner_step start s below t ts (takes_inner level xs) e
+    ∙ ap (λ b. within_limits b
+    (is_within all_limits.tokens (tokens_of all_limits start (length ts)))
+    (inside_on start xs ++ below)) (within level 64 less)
+    ∙ ap (λ b. within_limits true b (inside_on start xs ++ below)) (overcounted start t ts count))
 
 pub skips_inside : (start : ℕ) (s : Inner) (ts : List Placed) → may_be_empty (inner start s) ≡ true
     → Next (λ x. inner_on s x ≡ over_inner) ts
@@ -294,18 +264,13 @@ abbrev pub NotOver : InnerReaction → Type 0
 NotOver over_inner = ⊥
 NotOver r = Unit {0}
 
-name_not_over : (n : ℕ) (b : Bool) → NotOver (name_operand n b)
-name_not_over n true = tt
-name_not_over n false = tt
-
-prefix_not_over : (n : ℕ) (u : Option UnOp) → NotOver (prefix_operand n u)
-prefix_not_over n None = tt
-prefix_not_over n (Some op) = tt
+plain_is_not_over : (r : InnerReaction) → PlainlyStuck r → NotOver r
+plain_is_not_over (takes_inner level xs) plain = tt
+plain_is_not_over over_inner plain = absurd plain
+plain_is_not_over (stuck_inner e) plain = tt
 
 pub operand_not_over : (n : ℕ) (x : Lexeme) → NotOver (operand_on n x)
-operand_not_over n (identifier y) = name_not_over n (is_refused_word y)
-operand_not_over n (sign (signs.Operator o)) = prefix_not_over n (unary_operator o)
-operand_not_over n x = tt
+operand_not_over n x = plain_is_not_over (operand_on n x) (operand_is_plain n x)
 
 begun_step : (n arm : ℕ) (ys : List Outer) (a : ℕ) (below : State) (skip other : Step)
     (r : InnerReaction) → NotOver r → arm ≤ 256

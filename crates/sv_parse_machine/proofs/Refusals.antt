@@ -128,9 +128,6 @@ all_to_levels = record { levels = λ n is. is; arms = λ n is. refl; tokens = λ
 pub all_to_none : Widens all_limits no_limits
 all_to_none = record { levels = λ n is. refl; arms = λ n is. refl; tokens = λ start after is. refl }
 
-pub all_to_all : Widens all_limits all_limits
-all_to_all = record { levels = λ n is. is; arms = λ n is. is; tokens = λ start after is. is }
-
 -- ---- the rules
 
 end_is_early : (s : State) (f : Failure) → at_end s ≡ fails f [] → f ≡ ends_early

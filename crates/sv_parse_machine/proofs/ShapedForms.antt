@@ -47,6 +47,18 @@ all_listed test first member (x ∷ xs) ts r is =
     let this = first x ts is.0 is.1 in
     and_from _ _ this (all_later test member x this xs is.0 r is.2)
 
+-- a list whose later members may be as the first
+first_or_later : {A : Type 0} (P : A → Form) (L : A → A → Form) (test : A → Bool)
+    → Passes test P → ((before : A) → IsTrue (test before) → Passes test (L before))
+    → (xs : List A) (ts r : List Placed) → listed P (λ before a. P a or L before a) xs ts r
+    → IsTrue (list_all test xs)
+first_or_later {A} P L test first later xs ts r is =
+    all_listed test first (λ before known a us s one. either before known a us s one) xs ts r is
+  where
+    either : (before : A) → IsTrue (test before) → Passes test (λ a. P a or L before a)
+    either before known a us s (inl one) = first a us s one
+    either before known a us s (inr one) = later before known a us s one
+
 pub all_each : {A : Type 0} {P : A → Form} (test : A → Bool) → Passes test P
     → (xs : List A) (ts r : List Placed) → each P xs ts r
     → IsTrue (list_all test xs)
@@ -143,26 +155,13 @@ parameters_are_shaped l qs ts r is =
     all_listed is_shaped_parameter (parameter_is_shaped l) (λ before first q us s one.
     named_is_shaped l before q us s first one) qs ts r is
 
-header_passes : (l : Limits) (test : ParameterTree → Bool)
-    → ((q : ParameterTree) (ts r : List Placed) → IsHeaderParameter l q ts r → IsTrue (test q))
-    → ((before q : ParameterTree) (ts r : List Placed) → IsTrue (test before)
-    → IsLaterParameter l before q ts r → IsTrue (test q))
-    → (qs : List ParameterTree) (ts r : List Placed) → AreHeaderParameters l qs ts r
-    → IsTrue (list_all test qs)
-header_passes l test first later qs ts r is =
-    all_listed test first (λ before known q us s one. either before known q us s one) qs ts r is
-  where
-    either : (before : ParameterTree) → IsTrue (test before) →
-        Passes test (λ q. IsHeaderParameter l q or IsLaterParameter l before q)
-    either before known q us s (inl one) = first q us s one
-    either before known q us s (inr one) = later before q us s known one
-
 pub header_parameters_are_shaped : (l : Limits) (qs : List ParameterTree) (ts r : List Placed)
     → AreHeaderParameters l qs ts r
     → IsTrue (list_all is_shaped_parameter qs)
 header_parameters_are_shaped l qs ts r is =
-    header_passes l is_shaped_parameter (λ q us s one. parameter_is_shaped l q us s one.1)
-    (λ before q us s known one. named_is_shaped l before q us s known one) qs ts r is
+    first_or_later (IsHeaderParameter l) (IsLaterParameter l) is_shaped_parameter
+    (λ q us s one. parameter_is_shaped l q us s one.1)
+    (λ before known q us s one. named_is_shaped l before q us s known one) qs ts r is
 
 not_local : (b : Bool) → b ≡ false → IsTrue (not b)
 not_local b same = ap not same
@@ -171,8 +170,9 @@ pub header_parameters_are_outer : (l : Limits) (qs : List ParameterTree) (ts r :
     → AreHeaderParameters l qs ts r
     → IsTrue (are_header_parameters qs)
 header_parameters_are_outer l qs ts r is =
-    header_passes l (λ q. not q.local) (λ q us s one.
-    not_local q.local one.0) (λ before q us s known one. ap not one.0.0 ∙ known) qs ts r is
+    first_or_later (IsHeaderParameter l) (IsLaterParameter l) (λ q. not q.local)
+    (λ q us s one. not_local q.local one.0) (λ before known q us s one. ap not one.0.0 ∙ known)
+    qs ts r is
 
 -- ---- ports and signals
 
@@ -192,27 +192,17 @@ alike_range : (before d : DeclarationTree) → d.span ≡ before.span
 alike_range before d same shaped =
     subst (λ s. IsTrue (option_map_or is_shaped_span s true)) (sym same) (and_parts _ _ shaped).0
 
-port_passes : (l : Limits) (test : DeclarationTree → Bool)
-    → ((d : DeclarationTree) (ts r : List Placed) → IsPort l d ts r → IsTrue (test d))
-    → ((before d : DeclarationTree) → IsTrue (test before) → AreAlike before d → d.value ≡ None
-    → IsTrue (test d))
-    → (ds : List DeclarationTree) (ts r : List Placed) → ArePorts l ds ts r
-    → IsTrue (list_all test ds)
-port_passes l test first later ds ts r is =
-    all_listed test first (λ before known d us s one. either before known d us s one) ds ts r is
-  where
-    either : (before : DeclarationTree) → IsTrue (test before) →
-        Passes test (λ d. IsPort l d or given (AreAlike before d) (IsNamedPort d))
-    either before known d us s (inl one) = first d us s one
-    either before known d us s (inr one) = later before d known one.0 one.1.0
+abbrev LaterPort : DeclarationTree → DeclarationTree → Form
+LaterPort before d = given (AreAlike before d) (IsNamedPort d)
 
 pub ports_are_shaped : (l : Limits) (ds : List DeclarationTree) (ts r : List Placed)
     → ArePorts l ds ts r
     → IsTrue (list_all is_shaped_declaration ds)
-ports_are_shaped l ds ts r is = port_passes l is_shaped_declaration
+ports_are_shaped l ds ts r is =
+    first_or_later (IsPort l) LaterPort is_shaped_declaration
     (λ d us s one. without_value d (typed_range l d _ _ one.2.1) one.2.2.0)
-    (λ before d known alike none. without_value d (alike_range before d alike.2 known) none)
-    ds ts r is
+    (λ before known d us s one.
+    without_value d (alike_range before d one.0.2 known) one.1.0) ds ts r is
 
 port_kind : (k : DeclKind) (ts r : List Placed) → IsPortKind k ts r → IsTrue (is_port_kind k)
 port_kind kinds.Input ts r is = refl
@@ -226,10 +216,11 @@ no_value v none = ap is_none none
 
 pub ports_are_ports : (l : Limits) (ds : List DeclarationTree) (ts r : List Placed) →
     ArePorts l ds ts r → IsTrue (are_ports ds)
-ports_are_ports l ds ts r is = port_passes l is_port
+ports_are_ports l ds ts r is =
+    first_or_later (IsPort l) LaterPort is_port
     (λ d us s one. and_from _ _ (port_kind d.kind _ _ one.1) (no_value d.value one.2.2.0))
-    (λ before d known alike none.
-    and_from _ _ (ap is_port_kind alike.0 ∙ (and_parts _ _ known).0) (no_value d.value none))
+    (λ before known d us s one.
+    and_from _ _ (ap is_port_kind one.0.0 ∙ (and_parts _ _ known).0) (no_value d.value one.1.0))
     ds ts r is
 
 -- what an item declares

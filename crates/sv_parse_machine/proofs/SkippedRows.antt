@@ -1,211 +1,221 @@
 -- For each symbol outside expressions that may be left out, or that an expression may begin: what
 -- reading it comes to where no token of its own comes.
-use Rattle.std.proofs.Common.{◌≡◌, ℕ, ◌+◌, ◌≤◌, Bool, true, List, [], ◌∷◌, length, refl, arith}
+use Rattle.std.proofs.Common.{◌≡◌, ℕ, ◌+◌, ◌≤◌, Bool, true, false, List, [], ◌∷◌, length, ◌⊎◌, inl}
+use Rattle.std.proofs.Common.{inr, ⊎_elim, refl, arith}
 use Rattle.sv_token.specs.declared.keywords.WordKind.TheVariants as words
 use Rattle.sv_token.specs.declared.signs.SignKind.TheVariants as signs
 use Rattle.sv_token.specs.Lexemes.{Lexeme, word, sign, Placed}
-use Rattle.sv_parse_machine.specs.Symbols.{punctuation, more_values, perhaps_lattice, perhaps_maps}
-use Rattle.sv_parse_machine.specs.Symbols.{perhaps_key_range, perhaps_second_key}
-use Rattle.sv_parse_machine.specs.Symbols.{perhaps_header_parameters, parameter_type, perhaps_ports}
-use Rattle.sv_parse_machine.specs.Symbols.{perhaps_wire, perhaps_wire_or_reg, perhaps_signed}
-use Rattle.sv_parse_machine.specs.Symbols.{perhaps_range, perhaps_label, perhaps_second_name}
-use Rattle.sv_parse_machine.specs.Symbols.{perhaps_value, value_or_release, more_assigned}
-use Rattle.sv_parse_machine.specs.Symbols.{perhaps_overrides, overrides, links, link, statement}
-use Rattle.sv_parse_machine.specs.Symbols.{perhaps_block_name, perhaps_else, perhaps_bits, arms}
-use Rattle.sv_parse_machine.specs.Symbols.{more_choices, perhaps_colon, Outer, outer, over}
+use Rattle.sv_parse_machine.specs.Symbols.{punctuation, plain_name, plain_number, expression}
+use Rattle.sv_parse_machine.specs.Symbols.{more_values, perhaps_lattice, lattice_lines, perhaps_maps}
+use Rattle.sv_parse_machine.specs.Symbols.{map_name, perhaps_key_range, rows, perhaps_second_key}
+use Rattle.sv_parse_machine.specs.Symbols.{perhaps_header_parameters, header_parameter}
+use Rattle.sv_parse_machine.specs.Symbols.{more_header_parameters, perhaps_ports, ports, perhaps_wire}
+use Rattle.sv_parse_machine.specs.Symbols.{perhaps_signed, perhaps_range, perhaps_label, label_end}
+use Rattle.sv_parse_machine.specs.Symbols.{perhaps_second_name, perhaps_value, value_or_release}
+use Rattle.sv_parse_machine.specs.Symbols.{more_assigned, perhaps_overrides, overrides, links, link}
+use Rattle.sv_parse_machine.specs.Symbols.{statement, perhaps_block_name, perhaps_else, perhaps_bits}
+use Rattle.sv_parse_machine.specs.Symbols.{bits_end, arms, more_choices, perhaps_colon, Outer, outer}
+use Rattle.sv_parse_machine.specs.Symbols.{over, takes_all}
 use Rattle.sv_parse_machine.specs.ExpressionTable.{expression_on}
+use Rattle.sv_parse_machine.specs.ModuleTable.{number_range, value_range}
 use Rattle.sv_parse_machine.specs.Machine.{outer_on, may_be_empty}
 use Rattle.sv_parse_machine.specs.Reads.{IsNot, NextIsNot, Reads}
 use Rattle.sv_parse_machine.proofs.ReadSteps.{skips, expression_from, begins_expression}
 
--- where one token alone keeps the symbol from being over
-skips_without : (k : Lexeme) (y : Outer) → may_be_empty (outer y) ≡ true
-    → ((x : Lexeme) → IsNot k x → outer_on y x ≡ over) → (ts : List Placed) → NextIsNot k ts
+-- ---- symbols that may be left out, and that one token alone begins
+
+abbrev pub OneToken : Outer → Type 0
+OneToken perhaps_lattice = Unit {0}
+OneToken perhaps_maps = Unit {0}
+OneToken perhaps_key_range = Unit {0}
+OneToken perhaps_second_key = Unit {0}
+OneToken perhaps_header_parameters = Unit {0}
+OneToken perhaps_ports = Unit {0}
+OneToken perhaps_wire = Unit {0}
+OneToken perhaps_signed = Unit {0}
+OneToken perhaps_range = Unit {0}
+OneToken perhaps_label = Unit {0}
+OneToken perhaps_second_name = Unit {0}
+OneToken perhaps_value = Unit {0}
+OneToken perhaps_overrides = Unit {0}
+OneToken perhaps_block_name = Unit {0}
+OneToken (perhaps_else n) = Unit {0}
+OneToken (perhaps_bits n) = Unit {0}
+OneToken perhaps_colon = Unit {0}
+OneToken y = ⊥
+
+-- the token
+abbrev pub first_of : (y : Outer) → OneToken y → Lexeme
+first_of perhaps_lattice one = word words.Lattice
+first_of perhaps_maps one = word words.Labelmap
+first_of perhaps_key_range one = sign signs.OpenBracket
+first_of perhaps_second_key one = sign signs.Comma
+first_of perhaps_header_parameters one = sign signs.Hash
+first_of perhaps_ports one = sign signs.OpenParenthesis
+first_of perhaps_wire one = word words.Wire
+first_of perhaps_signed one = word words.Signed
+first_of perhaps_range one = sign signs.OpenBracket
+first_of perhaps_label one = sign signs.OpenBrace
+first_of perhaps_second_name one = sign signs.Comma
+first_of perhaps_value one = sign signs.Equals
+first_of perhaps_overrides one = sign signs.Hash
+first_of perhaps_block_name one = sign signs.Colon
+first_of (perhaps_else n) one = word words.Else
+first_of (perhaps_bits n) one = sign signs.OpenBracket
+first_of perhaps_colon one = sign signs.Colon
+first_of y one = absurd one
+
+-- and what comes behind it
+abbrev pub others_of : (y : Outer) → OneToken y → List Outer
+others_of perhaps_lattice one = lattice_lines ∷ []
+others_of perhaps_maps one = map_name ∷ perhaps_key_range ∷ rows ∷ perhaps_maps ∷ []
+others_of perhaps_key_range one = number_range
+others_of perhaps_second_key one = plain_number ∷ []
+others_of perhaps_header_parameters one =
+    punctuation signs.OpenParenthesis ∷ header_parameter ∷ more_header_parameters ∷ []
+others_of perhaps_ports one = ports ∷ []
+others_of perhaps_wire one = []
+others_of perhaps_signed one = []
+others_of perhaps_range one = value_range
+others_of perhaps_label one = plain_name ∷ label_end ∷ []
+others_of perhaps_second_name one = plain_name ∷ []
+others_of perhaps_value one = expression 0 ∷ []
+others_of perhaps_overrides one = punctuation signs.OpenParenthesis ∷ overrides ∷ []
+others_of perhaps_block_name one = plain_name ∷ []
+others_of (perhaps_else n) one = statement n ∷ []
+others_of (perhaps_bits n) one = expression n ∷ bits_end n ∷ []
+others_of perhaps_colon one = []
+others_of y one = absurd one
+
+pub row_of_first : (y : Outer) (one : OneToken y) →
+    (outer_on y (first_of y one) ≡ takes_all (others_of y one)) × (may_be_empty (outer y) ≡ true)
+row_of_first perhaps_lattice one = (refl, refl)
+row_of_first perhaps_maps one = (refl, refl)
+row_of_first perhaps_key_range one = (refl, refl)
+row_of_first perhaps_second_key one = (refl, refl)
+row_of_first perhaps_header_parameters one = (refl, refl)
+row_of_first perhaps_ports one = (refl, refl)
+row_of_first perhaps_wire one = (refl, refl)
+row_of_first perhaps_signed one = (refl, refl)
+row_of_first perhaps_range one = (refl, refl)
+row_of_first perhaps_label one = (refl, refl)
+row_of_first perhaps_second_name one = (refl, refl)
+row_of_first perhaps_value one = (refl, refl)
+row_of_first perhaps_overrides one = (refl, refl)
+row_of_first perhaps_block_name one = (refl, refl)
+row_of_first (perhaps_else n) one = (refl, refl)
+row_of_first (perhaps_bits n) one = (refl, refl)
+row_of_first perhaps_colon one = (refl, refl)
+row_of_first y one = absurd one
+
+-- before any other token the symbol is over
+pub only_first : (y : Outer) (one : OneToken y) (x : Lexeme) →
+    (x ≡ first_of y one) ⊎ (outer_on y x ≡ over)
+only_first perhaps_lattice one (word words.Lattice) = inl refl
+only_first perhaps_lattice one x = inr refl
+only_first perhaps_maps one (word words.Labelmap) = inl refl
+only_first perhaps_maps one x = inr refl
+only_first perhaps_key_range one (sign signs.OpenBracket) = inl refl
+only_first perhaps_key_range one x = inr refl
+only_first perhaps_second_key one (sign signs.Comma) = inl refl
+only_first perhaps_second_key one x = inr refl
+only_first perhaps_header_parameters one (sign signs.Hash) = inl refl
+only_first perhaps_header_parameters one x = inr refl
+only_first perhaps_ports one (sign signs.OpenParenthesis) = inl refl
+only_first perhaps_ports one x = inr refl
+only_first perhaps_wire one (word words.Wire) = inl refl
+only_first perhaps_wire one x = inr refl
+only_first perhaps_signed one (word words.Signed) = inl refl
+only_first perhaps_signed one x = inr refl
+only_first perhaps_range one (sign signs.OpenBracket) = inl refl
+only_first perhaps_range one x = inr refl
+only_first perhaps_label one (sign signs.OpenBrace) = inl refl
+only_first perhaps_label one x = inr refl
+only_first perhaps_second_name one (sign signs.Comma) = inl refl
+only_first perhaps_second_name one x = inr refl
+only_first perhaps_value one (sign signs.Equals) = inl refl
+only_first perhaps_value one x = inr refl
+only_first perhaps_overrides one (sign signs.Hash) = inl refl
+only_first perhaps_overrides one x = inr refl
+only_first perhaps_block_name one (sign signs.Colon) = inl refl
+only_first perhaps_block_name one x = inr refl
+only_first (perhaps_else n) one (word words.Else) = inl refl
+only_first (perhaps_else n) one x = inr refl
+only_first (perhaps_bits n) one (sign signs.OpenBracket) = inl refl
+only_first (perhaps_bits n) one x = inr refl
+only_first perhaps_colon one (sign signs.Colon) = inl refl
+only_first perhaps_colon one x = inr refl
+only_first y one x = absurd one
+
+-- where the token does not come
+pub skips_symbol : (y : Outer) (one : OneToken y) (ts : List Placed) → NextIsNot (first_of y one) ts
     → Reads (outer y ∷ []) [] ts ts
-skips_without k y empty row [] other = skips y [] empty tt
-skips_without k y empty row (t ∷ ts) other = skips y (t ∷ ts) empty (row t.lexeme other)
+skips_symbol y one [] other = skips y [] (row_of_first y one).1 tt
+skips_symbol y one (t ∷ ts) other =
+    skips y (t ∷ ts) (row_of_first y one).1
+    (⊎_elim (λ is. absurd (other is)) (λ none. none) (only_first y one t.lexeme))
 
-row_perhaps_lattice : (x : Lexeme) → IsNot (word words.Lattice) x →
-    outer_on perhaps_lattice x ≡ over
-row_perhaps_lattice (word words.Lattice) no_0 = absurd (no_0 refl)
-row_perhaps_lattice x no_0 = refl
+-- ---- symbols that an expression begins where one token does not come
 
-pub skips_perhaps_lattice : (ts : List Placed) → NextIsNot (word words.Lattice) ts →
-    Reads (outer perhaps_lattice ∷ []) [] ts ts
-skips_perhaps_lattice = skips_without (word words.Lattice) perhaps_lattice refl row_perhaps_lattice
+abbrev pub IsBegun : Outer → Type 0
+IsBegun value_or_release = Unit {0}
+IsBegun overrides = Unit {0}
+IsBegun link = Unit {0}
+IsBegun y = ⊥
 
-row_perhaps_key_range : (x : Lexeme) → IsNot (sign signs.OpenBracket) x →
-    outer_on perhaps_key_range x ≡ over
-row_perhaps_key_range (sign signs.OpenBracket) no_0 = absurd (no_0 refl)
-row_perhaps_key_range x no_0 = refl
+-- what comes behind the expression
+abbrev pub behind_it : (y : Outer) → IsBegun y → List Outer
+behind_it value_or_release begun = more_assigned ∷ []
+behind_it overrides begun = more_values ∷ []
+behind_it link begun = punctuation signs.CloseParenthesis ∷ []
+behind_it y begun = absurd begun
 
-pub skips_perhaps_key_range : (ts : List Placed) → NextIsNot (sign signs.OpenBracket) ts →
-    Reads (outer perhaps_key_range ∷ []) [] ts ts
-skips_perhaps_key_range =
-    skips_without (sign signs.OpenBracket) perhaps_key_range refl row_perhaps_key_range
+-- the token
+abbrev pub unless_first : (y : Outer) → IsBegun y → Lexeme
+unless_first value_or_release begun = word words.Release
+unless_first overrides begun = sign signs.Dot
+unless_first link begun = sign signs.CloseParenthesis
+unless_first y begun = absurd begun
 
-row_perhaps_second_key : (x : Lexeme) → IsNot (sign signs.Comma) x →
-    outer_on perhaps_second_key x ≡ over
-row_perhaps_second_key (sign signs.Comma) no_0 = absurd (no_0 refl)
-row_perhaps_second_key x no_0 = refl
+row_begun : (y : Outer) (begun : IsBegun y) (x : Lexeme) → IsNot (unless_first y begun) x →
+    outer_on y x ≡ expression_on 0 0 (behind_it y begun) x
+row_begun value_or_release begun (word words.Release) other = absurd (other refl)
+row_begun value_or_release begun x other = refl
+row_begun overrides begun (sign signs.Dot) other = absurd (other refl)
+row_begun overrides begun x other = refl
+row_begun link begun (sign signs.CloseParenthesis) other = absurd (other refl)
+row_begun link begun x other = refl
+row_begun y begun x other = absurd begun
 
-pub skips_perhaps_second_key : (ts : List Placed) → NextIsNot (sign signs.Comma) ts →
-    Reads (outer perhaps_second_key ∷ []) [] ts ts
-skips_perhaps_second_key =
-    skips_without (sign signs.Comma) perhaps_second_key refl row_perhaps_second_key
+never_left : (y : Outer) → IsBegun y → may_be_empty (outer y) ≡ false
+never_left value_or_release begun = refl
+never_left overrides begun = refl
+never_left link begun = refl
+never_left y begun = absurd begun
 
-row_perhaps_maps : (x : Lexeme) → IsNot (word words.Labelmap) x → outer_on perhaps_maps x ≡ over
-row_perhaps_maps (word words.Labelmap) no_0 = absurd (no_0 refl)
-row_perhaps_maps x no_0 = refl
-
-pub skips_perhaps_maps : (ts : List Placed) → NextIsNot (word words.Labelmap) ts →
-    Reads (outer perhaps_maps ∷ []) [] ts ts
-skips_perhaps_maps = skips_without (word words.Labelmap) perhaps_maps refl row_perhaps_maps
-
-row_parameter_type : (x : Lexeme) → IsNot (word words.Signed) x → IsNot (sign signs.OpenBracket) x →
-    outer_on parameter_type x ≡ over
-row_parameter_type (word words.Signed) no_0 no_1 = absurd (no_0 refl)
-row_parameter_type (sign signs.OpenBracket) no_0 no_1 = absurd (no_1 refl)
-row_parameter_type x no_0 no_1 = refl
-
-pub skips_parameter_type : (ts : List Placed) → NextIsNot (word words.Signed) ts →
-    NextIsNot (sign signs.OpenBracket) ts → Reads (outer parameter_type ∷ []) [] ts ts
-skips_parameter_type [] no_0 no_1 = skips parameter_type [] refl tt
-skips_parameter_type (t ∷ ts) no_0 no_1 =
-    skips parameter_type (t ∷ ts) refl (row_parameter_type t.lexeme no_0 no_1)
-
-row_perhaps_header_parameters : (x : Lexeme) → IsNot (sign signs.Hash) x →
-    outer_on perhaps_header_parameters x ≡ over
-row_perhaps_header_parameters (sign signs.Hash) no_0 = absurd (no_0 refl)
-row_perhaps_header_parameters x no_0 = refl
-
-pub skips_perhaps_header_parameters : (ts : List Placed) → NextIsNot (sign signs.Hash) ts →
-    Reads (outer perhaps_header_parameters ∷ []) [] ts ts
-skips_perhaps_header_parameters =
-    skips_without (sign signs.Hash) perhaps_header_parameters refl row_perhaps_header_parameters
-
-row_perhaps_wire : (x : Lexeme) → IsNot (word words.Wire) x → outer_on perhaps_wire x ≡ over
-row_perhaps_wire (word words.Wire) no_0 = absurd (no_0 refl)
-row_perhaps_wire x no_0 = refl
-
-pub skips_perhaps_wire : (ts : List Placed) → NextIsNot (word words.Wire) ts →
-    Reads (outer perhaps_wire ∷ []) [] ts ts
-skips_perhaps_wire = skips_without (word words.Wire) perhaps_wire refl row_perhaps_wire
-
-row_perhaps_wire_or_reg : (x : Lexeme) → IsNot (word words.Wire) x → IsNot (word words.Reg) x →
-    outer_on perhaps_wire_or_reg x ≡ over
-row_perhaps_wire_or_reg (word words.Wire) no_0 no_1 = absurd (no_0 refl)
-row_perhaps_wire_or_reg (word words.Reg) no_0 no_1 = absurd (no_1 refl)
-row_perhaps_wire_or_reg x no_0 no_1 = refl
-
-pub skips_perhaps_wire_or_reg : (ts : List Placed) → NextIsNot (word words.Wire) ts →
-    NextIsNot (word words.Reg) ts → Reads (outer perhaps_wire_or_reg ∷ []) [] ts ts
-skips_perhaps_wire_or_reg [] no_0 no_1 = skips perhaps_wire_or_reg [] refl tt
-skips_perhaps_wire_or_reg (t ∷ ts) no_0 no_1 =
-    skips perhaps_wire_or_reg (t ∷ ts) refl (row_perhaps_wire_or_reg t.lexeme no_0 no_1)
-
-row_perhaps_signed : (x : Lexeme) → IsNot (word words.Signed) x → outer_on perhaps_signed x ≡ over
-row_perhaps_signed (word words.Signed) no_0 = absurd (no_0 refl)
-row_perhaps_signed x no_0 = refl
-
-pub skips_perhaps_signed : (ts : List Placed) → NextIsNot (word words.Signed) ts →
-    Reads (outer perhaps_signed ∷ []) [] ts ts
-skips_perhaps_signed = skips_without (word words.Signed) perhaps_signed refl row_perhaps_signed
-
-row_perhaps_range : (x : Lexeme) → IsNot (sign signs.OpenBracket) x →
-    outer_on perhaps_range x ≡ over
-row_perhaps_range (sign signs.OpenBracket) no_0 = absurd (no_0 refl)
-row_perhaps_range x no_0 = refl
-
-pub skips_perhaps_range : (ts : List Placed) → NextIsNot (sign signs.OpenBracket) ts →
-    Reads (outer perhaps_range ∷ []) [] ts ts
-skips_perhaps_range = skips_without (sign signs.OpenBracket) perhaps_range refl row_perhaps_range
-
-row_perhaps_second_name : (x : Lexeme) → IsNot (sign signs.Comma) x →
-    outer_on perhaps_second_name x ≡ over
-row_perhaps_second_name (sign signs.Comma) no_0 = absurd (no_0 refl)
-row_perhaps_second_name x no_0 = refl
-
-pub skips_perhaps_second_name : (ts : List Placed) → NextIsNot (sign signs.Comma) ts →
-    Reads (outer perhaps_second_name ∷ []) [] ts ts
-skips_perhaps_second_name =
-    skips_without (sign signs.Comma) perhaps_second_name refl row_perhaps_second_name
-
-row_perhaps_label : (x : Lexeme) → IsNot (sign signs.OpenBrace) x → outer_on perhaps_label x ≡ over
-row_perhaps_label (sign signs.OpenBrace) no_0 = absurd (no_0 refl)
-row_perhaps_label x no_0 = refl
-
-pub skips_perhaps_label : (ts : List Placed) → NextIsNot (sign signs.OpenBrace) ts →
-    Reads (outer perhaps_label ∷ []) [] ts ts
-skips_perhaps_label = skips_without (sign signs.OpenBrace) perhaps_label refl row_perhaps_label
-
-row_perhaps_ports : (x : Lexeme) → IsNot (sign signs.OpenParenthesis) x →
-    outer_on perhaps_ports x ≡ over
-row_perhaps_ports (sign signs.OpenParenthesis) no_0 = absurd (no_0 refl)
-row_perhaps_ports x no_0 = refl
-
-pub skips_perhaps_ports : (ts : List Placed) → NextIsNot (sign signs.OpenParenthesis) ts →
-    Reads (outer perhaps_ports ∷ []) [] ts ts
-skips_perhaps_ports =
-    skips_without (sign signs.OpenParenthesis) perhaps_ports refl row_perhaps_ports
-
-row_perhaps_value : (x : Lexeme) → IsNot (sign signs.Equals) x → outer_on perhaps_value x ≡ over
-row_perhaps_value (sign signs.Equals) no_0 = absurd (no_0 refl)
-row_perhaps_value x no_0 = refl
-
-pub skips_perhaps_value : (ts : List Placed) → NextIsNot (sign signs.Equals) ts →
-    Reads (outer perhaps_value ∷ []) [] ts ts
-skips_perhaps_value = skips_without (sign signs.Equals) perhaps_value refl row_perhaps_value
-
-row_value_or_release : (x : Lexeme) → IsNot (word words.Release) x →
-    outer_on value_or_release x ≡ expression_on 0 0 (more_assigned ∷ []) x
-row_value_or_release (word words.Release) no_0 = absurd (no_0 refl)
-row_value_or_release x no_0 = refl
+begins_symbol : (y : Outer) (begun : IsBegun y) (ts : List Placed)
+    → NextIsNot (unless_first y begun) ts
+    → Reads (outer y ∷ []) (expression_from (length ts) 0 (behind_it y begun)) ts ts
+begins_symbol y begun [] other =
+    begins_expression y 0 0 (behind_it y begun) [] (omega arith) (never_left y begun) tt
+begins_symbol y begun (t ∷ ts) other =
+    begins_expression y 0 0 (behind_it y begun) (t ∷ ts) (omega arith) (never_left y begun)
+    (row_begun y begun t.lexeme other)
 
 pub begins_value_or_release : (ts : List Placed) → NextIsNot (word words.Release) ts →
     Reads (outer value_or_release ∷ []) (expression_from (length ts) 0 (more_assigned ∷ [])) ts ts
-begins_value_or_release [] no_0 =
-    begins_expression value_or_release 0 0 (more_assigned ∷ []) [] (omega arith) refl tt
-begins_value_or_release (t ∷ ts) no_0 =
-    begins_expression value_or_release 0 0 (more_assigned ∷ []) (t ∷ ts) (omega arith) refl
-    (row_value_or_release t.lexeme no_0)
-
-row_overrides : (x : Lexeme) → IsNot (sign signs.Dot) x →
-    outer_on overrides x ≡ expression_on 0 0 (more_values ∷ []) x
-row_overrides (sign signs.Dot) no_0 = absurd (no_0 refl)
-row_overrides x no_0 = refl
+begins_value_or_release = begins_symbol value_or_release tt
 
 pub begins_overrides : (ts : List Placed) → NextIsNot (sign signs.Dot) ts →
     Reads (outer overrides ∷ []) (expression_from (length ts) 0 (more_values ∷ [])) ts ts
-begins_overrides [] no_0 =
-    begins_expression overrides 0 0 (more_values ∷ []) [] (omega arith) refl tt
-begins_overrides (t ∷ ts) no_0 =
-    begins_expression overrides 0 0 (more_values ∷ []) (t ∷ ts) (omega arith) refl
-    (row_overrides t.lexeme no_0)
-
-row_perhaps_overrides : (x : Lexeme) → IsNot (sign signs.Hash) x →
-    outer_on perhaps_overrides x ≡ over
-row_perhaps_overrides (sign signs.Hash) no_0 = absurd (no_0 refl)
-row_perhaps_overrides x no_0 = refl
-
-pub skips_perhaps_overrides : (ts : List Placed) → NextIsNot (sign signs.Hash) ts →
-    Reads (outer perhaps_overrides ∷ []) [] ts ts
-skips_perhaps_overrides =
-    skips_without (sign signs.Hash) perhaps_overrides refl row_perhaps_overrides
-
-row_link : (x : Lexeme) → IsNot (sign signs.CloseParenthesis) x →
-    outer_on link x ≡ expression_on 0 0 (punctuation signs.CloseParenthesis ∷ []) x
-row_link (sign signs.CloseParenthesis) no_0 = absurd (no_0 refl)
-row_link x no_0 = refl
+begins_overrides = begins_symbol overrides tt
 
 pub begins_link : (ts : List Placed) → NextIsNot (sign signs.CloseParenthesis) ts →
     Reads (outer link ∷ [])
     (expression_from (length ts) 0 (punctuation signs.CloseParenthesis ∷ [])) ts ts
-begins_link [] no_0 =
-    begins_expression link 0 0 (punctuation signs.CloseParenthesis ∷ []) [] (omega arith) refl tt
-begins_link (t ∷ ts) no_0 =
-    begins_expression link 0 0 (punctuation signs.CloseParenthesis ∷ []) (t ∷ ts) (omega arith) refl
-    (row_link t.lexeme no_0)
+begins_link = begins_symbol link tt
+
+-- ---- symbols that an expression begins where none of two tokens comes
 
 row_links : (x : Lexeme) → IsNot (sign signs.CloseParenthesis) x → IsNot (sign signs.Dot) x →
     outer_on links x ≡ expression_on 0 0 (more_values ∷ []) x
@@ -220,43 +230,6 @@ begins_links [] no_0 no_1 = begins_expression links 0 0 (more_values ∷ []) [] 
 begins_links (t ∷ ts) no_0 no_1 =
     begins_expression links 0 0 (more_values ∷ []) (t ∷ ts) (omega arith) refl
     (row_links t.lexeme no_0 no_1)
-
-row_perhaps_bits : (n : ℕ) (x : Lexeme) → IsNot (sign signs.OpenBracket) x →
-    outer_on (perhaps_bits n) x ≡ over
-row_perhaps_bits n (sign signs.OpenBracket) no_0 = absurd (no_0 refl)
-row_perhaps_bits n x no_0 = refl
-
-pub skips_perhaps_bits : (n : ℕ) (ts : List Placed) → NextIsNot (sign signs.OpenBracket) ts →
-    Reads (outer (perhaps_bits n) ∷ []) [] ts ts
-skips_perhaps_bits n =
-    skips_without (sign signs.OpenBracket) (perhaps_bits n) refl (row_perhaps_bits n)
-
-row_perhaps_block_name : (x : Lexeme) → IsNot (sign signs.Colon) x →
-    outer_on perhaps_block_name x ≡ over
-row_perhaps_block_name (sign signs.Colon) no_0 = absurd (no_0 refl)
-row_perhaps_block_name x no_0 = refl
-
-pub skips_perhaps_block_name : (ts : List Placed) → NextIsNot (sign signs.Colon) ts →
-    Reads (outer perhaps_block_name ∷ []) [] ts ts
-skips_perhaps_block_name =
-    skips_without (sign signs.Colon) perhaps_block_name refl row_perhaps_block_name
-
-row_perhaps_colon : (x : Lexeme) → IsNot (sign signs.Colon) x → outer_on perhaps_colon x ≡ over
-row_perhaps_colon (sign signs.Colon) no_0 = absurd (no_0 refl)
-row_perhaps_colon x no_0 = refl
-
-pub skips_perhaps_colon : (ts : List Placed) → NextIsNot (sign signs.Colon) ts →
-    Reads (outer perhaps_colon ∷ []) [] ts ts
-skips_perhaps_colon = skips_without (sign signs.Colon) perhaps_colon refl row_perhaps_colon
-
-row_perhaps_else : (n : ℕ) (x : Lexeme) → IsNot (word words.Else) x →
-    outer_on (perhaps_else n) x ≡ over
-row_perhaps_else n (word words.Else) no_0 = absurd (no_0 refl)
-row_perhaps_else n x no_0 = refl
-
-pub skips_perhaps_else : (n : ℕ) (ts : List Placed) → NextIsNot (word words.Else) ts →
-    Reads (outer (perhaps_else n) ∷ []) [] ts ts
-skips_perhaps_else n = skips_without (word words.Else) (perhaps_else n) refl (row_perhaps_else n)
 
 row_arms : (n before : ℕ) (default : Bool) (x : Lexeme) → IsNot (word words.Endcase) x →
     IsNot (word words.Default) x →

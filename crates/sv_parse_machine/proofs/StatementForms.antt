@@ -1,5 +1,5 @@
 -- From steps to forms: statements and the arms of a case, as the grammar's trees.
-use Rattle.std.proofs.Common.{◌≡◌, ℕ, zero, suc, ◌+◌, Bool, true, false, ◌||◌, List, [], ◌∷◌, ◌++◌}
+use Rattle.std.proofs.Common.{◌≡◌, ℕ, zero, suc, ◌+◌, Bool, true, false, ◌||◌, List, [], ◌∷◌}
 use Rattle.std.proofs.Common.{inl, inr, refl, sym, subst, arith}
 use Rattle.std.specs.Prelude.{IsTrue, nat_lt}
 use Rattle.sv_num.specs.declared.faults.Place.{Place}
@@ -23,9 +23,10 @@ use Rattle.sv_parse_machine.specs.StatementTable.{assignment_behind, no_more_arm
 use Rattle.sv_parse_machine.specs.StatementTable.{statement_on, statements_on, perhaps_else_on}
 use Rattle.sv_parse_machine.specs.StatementTable.{assigns_on, arms_on}
 use Rattle.sv_parse_machine.proofs.ExpressionForms.{Next, expression_form}
-use Rattle.sv_parse_machine.proofs.InnerSteps.{placed}
+use Rattle.sv_parse_machine.proofs.InnerSteps.{placed, split_forms}
 use Rattle.sv_parse_machine.proofs.InnerForms.{last_token}
-use Rattle.sv_parse_machine.proofs.OuterForms.{times, more_targets_row, more_choices_row, outer_forms}
+use Rattle.sv_parse_machine.proofs.OuterForms.{times, more_targets_row, more_choices_row, outer_form}
+use Rattle.sv_parse_machine.proofs.OuterForms.{outer_forms}
 use Rattle.sv_parse_machine.proofs.OuterForms.{IsOver, assigns_form, perhaps_bits_form, bits_end_form}
 use Rattle.sv_parse_machine.proofs.OuterForms.{statement_form, statements_form, arms_form}
 use Rattle.sv_parse_machine.proofs.OuterForms.{perhaps_else_form, perhaps_block_name_form}
@@ -183,21 +184,14 @@ b_statement l n (word words.Case) p ts rest
     (case_of p tree.0 cs, (opens, (ts, refl, (m2, (m, first, (m1, tree.1, second)), are))))
 b_statement l n x p ts rest is = absurd is
 
-split_outer : (l : Limits) (ys zs : List Outer) (ts rest : List Placed) →
-    outer_forms l (ys ++ zs) ts rest → (outer_forms l ys ⨾ outer_forms l zs) ts rest
-split_outer l [] zs ts rest is = (ts, refl, is)
-split_outer l (y ∷ ys) zs ts rest is =
-    let others = split_outer l ys zs is.0 rest is.2 in
-    (others.0, (is.0, is.1, others.1), others.2)
-
 without_others : (l : Limits) (zs : List Outer) (t : Placed) (ts rest : List Placed)
     (r : OuterReaction) → IsNotOver r → Accepts l t ts rest (and_then zs r)
     → (mid : List Placed) × Accepts l t ts mid r × outer_forms l zs mid rest
 without_others l zs t ts rest (takes level arm ys) kind (opens, few, is) =
-    let parts = split_outer l ys zs ts rest is in
+    let parts = split_forms (outer_form l) ys zs ts rest is in
     (parts.0, (opens, few, parts.1), parts.2)
 without_others l zs t ts rest (begins level arm xs ys) kind (opens, few, m, inners, count, is) =
-    let parts = split_outer l ys zs m rest is in
+    let parts = split_forms (outer_form l) ys zs m rest is in
     (parts.0, (opens, few, m, inners, count, parts.1), parts.2)
 without_others l zs t ts rest over kind is = absurd kind
 without_others l zs t ts rest (stuck e) kind is = absurd is

@@ -1,6 +1,6 @@
 -- What a token does to a statement and to the arms of a case is what their forms say, in the
 -- grammar's own trees.
-use Rattle.std.proofs.Common.{◌≡◌, ℕ, zero, suc, ◌+◌, Bool, true, false, List, [], ◌∷◌, ◌++◌, inl}
+use Rattle.std.proofs.Common.{◌≡◌, ℕ, zero, suc, ◌+◌, Bool, true, false, List, [], ◌∷◌, inl}
 use Rattle.std.proofs.Common.{inr, refl, sym, subst, ◌∙◌}
 use Rattle.std.specs.Prelude.{IsTrue}
 use Rattle.std.proofs.lemmas.Bool.{false≢true}
@@ -28,12 +28,13 @@ use Rattle.sv_parse_machine.specs.StatementTable.{perhaps_block_name_on, perhaps
 use Rattle.sv_parse_machine.specs.StatementTable.{perhaps_colon_on, assigns_on, taken_if, is_less_equal}
 use Rattle.sv_parse_machine.proofs.ExpressionForms.{Next, ends_tail, ends_name, expression_form}
 use Rattle.sv_parse_machine.proofs.ExpressionParts.{next_at, ends_any}
-use Rattle.sv_parse_machine.proofs.InnerSteps.{by_token, none_opens, no_arm}
-use Rattle.sv_parse_machine.proofs.OuterForms.{outer_forms, IsOver, assigns_form, perhaps_bits_form}
+use Rattle.sv_parse_machine.proofs.InnerSteps.{by_token, none_opens, no_arm, append_forms}
+use Rattle.sv_parse_machine.proofs.OuterForms.{outer_form, outer_forms, IsOver, assigns_form}
+use Rattle.sv_parse_machine.proofs.OuterForms.{perhaps_bits_form}
 use Rattle.sv_parse_machine.proofs.OuterForms.{more_targets_form, more_choices_form, statement_form}
 use Rattle.sv_parse_machine.proofs.OuterForms.{statements_form, arms_form, perhaps_block_name_form}
 use Rattle.sv_parse_machine.proofs.OuterForms.{perhaps_colon_form, Accepts}
-use Rattle.sv_parse_machine.proofs.OuterTokens.{unrefused, f_begins}
+use Rattle.sv_parse_machine.proofs.OuterTokens.{by_row, unrefused, f_begins}
 
 -- ---- expressions in front of signs
 
@@ -117,10 +118,9 @@ next_assigns n false ts rest (p, (o, op, e)) =
 
 pub f_assigns : (l : Limits) (t : Placed) (ts rest : List Placed) → assigns_form l (t ∷ ts) rest →
     Accepts l t ts rest (assigns_on t.lexeme)
-f_assigns l t ts rest (inl (p, e)) =
-    by_token (λ x us. Accepts l t us rest (assigns_on x)) e (none_opens l, no_arm l, refl)
+f_assigns l t ts rest (inl (p, e)) = by_row l t rest assigns_on e (none_opens l, no_arm l, refl)
 f_assigns l t ts rest (inr (p, (o, op, e))) =
-    by_token (λ x us. Accepts l t us rest (assigns_on x)) e
+    by_row l t rest assigns_on e
     (subst (λ b. Accepts l t rest rest (taken_if (is_less_equal b))) (sym op)
     (none_opens l, no_arm l, refl))
 
@@ -181,7 +181,7 @@ assignment_behind_target l n (a ∷ []) blocking e t ts mid rest (inl (m, name, 
     (m2, assigning, (m3, is, semicolon)) =
     let bits = f_bits l n a.selection m mid bits (next_assigns n blocking mid m2 assigning) in
     let value = value_before l n e signs.Semicolon m2 m3 rest tt tt is semicolon in
-    by_token (λ x us. Accepts l t us rest (statement_on n x)) name.1
+    by_row l t rest (statement_on n) name.1
     (unrefused l (perhaps_bits n ∷ assignment_behind n) t m rest a.name name.0 (
       mid,
       bits,
@@ -197,7 +197,7 @@ assignment_behind_target l n (a ∷ bs) blocking e t ts mid rest
     (m2, assigning, (m3, is, semicolon)) =
     let targets = f_targets l n a bs m5 mid (m4, bits, (m1, others, close)) in
     let value = value_before l n e signs.Semicolon m2 m3 rest tt tt is semicolon in
-    by_token (λ x us. Accepts l t us rest (statement_on n x)) brace (
+    by_row l t rest (statement_on n) brace (
       none_opens l,
       no_arm l,
       (
@@ -301,11 +301,11 @@ f_condition l n e ys ts mid rest (m, first, (m1, is, second)) behind = (
 pub f_statement : (l : Limits) (n : ℕ) (t : Placed) (ts rest : List Placed) →
     statement_form l n (t ∷ ts) rest → Accepts l t ts rest (statement_on n t.lexeme)
 f_statement l n t ts rest (null, (p, e)) =
-    by_token (λ x us. Accepts l t us rest (statement_on n x)) e (none_opens l, no_arm l, refl)
+    by_row l t rest (statement_on n) e (none_opens l, no_arm l, refl)
 f_statement l n t ts rest (assignment targets q b v, (at, (m, are, behind))) =
     assignment_behind_target l n targets b v t ts m rest are behind
 f_statement l n t ts rest (block ss, (opens, (m, (p, e), (m1, name, are)))) =
-    by_token (λ x us. Accepts l t us rest (statement_on n x)) e (
+    by_row l t rest (statement_on n) e (
       opens,
       no_arm l,
       (
@@ -317,7 +317,7 @@ f_statement l n t ts rest (block ss, (opens, (m, (p, e), (m1, name, are)))) =
     )
 f_statement l n t ts rest
     (if_only q c s, (opens, (m, e, (m1, condition, (m2, is, (no_else, same)))))) =
-    by_token (λ x us. Accepts l t us rest (statement_on n x)) e (
+    by_row l t rest (statement_on n) e (
       opens,
       no_arm l,
       f_condition l (n + 1) c (statement (n + 1) ∷ perhaps_else (n + 1) ∷ []) m m1 rest condition
@@ -325,14 +325,14 @@ f_statement l n t ts rest
     )
 f_statement l n t ts rest
     (if_else q c s u, (opens, (m, e, (m1, condition, (m2, is, (m3, other, others)))))) =
-    by_token (λ x us. Accepts l t us rest (statement_on n x)) e (
+    by_row l t rest (statement_on n) e (
       opens,
       no_arm l,
       f_condition l (n + 1) c (statement (n + 1) ∷ perhaps_else (n + 1) ∷ []) m m1 rest condition
           (m2, (s, is), (rest, inr (m3, other, (rest, (u, others), refl)), refl)),
     )
 f_statement l n t ts rest (case_of q v cs, (opens, (m, e, (m1, condition, are)))) =
-    by_token (λ x us. Accepts l t us rest (statement_on n x)) e (
+    by_row l t rest (statement_on n) e (
       opens,
       no_arm l,
       f_condition l (n + 1) v (arms (n + 1) 0 false ∷ []) m m1 rest condition
@@ -340,13 +340,6 @@ f_statement l n t ts rest (case_of q v cs, (opens, (m, e, (m1, condition, are)))
     )
 
 -- ---- statements in a row
-
-append_outer : (l : Limits) (ys zs : List Outer) (ts mid rest : List Placed) →
-    outer_forms l ys ts mid → outer_forms l zs mid rest → outer_forms l (ys ++ zs) ts rest
-append_outer l [] zs ts mid rest first second =
-    subst (λ us. outer_forms l zs us rest) (sym first) second
-append_outer l (y ∷ ys) zs ts mid rest first second =
-    (first.0, first.1, append_outer l ys zs first.0 mid rest first.2 second)
 
 abbrev pub IsNotOver : OuterReaction → Type 0
 IsNotOver over = ⊥
@@ -367,10 +360,10 @@ with_others : (l : Limits) (zs : List Outer) (t : Placed) (ts mid rest : List Pl
     (r : OuterReaction) → IsNotOver r → Accepts l t ts mid r
     → outer_forms l zs mid rest → Accepts l t ts rest (and_then zs r)
 with_others l zs t ts mid rest (takes level arm ys) kind (opens, few, is) others =
-    (opens, few, append_outer l ys zs ts mid rest is others)
+    (opens, few, append_forms (outer_form l) ys zs ts mid rest is others)
 with_others l zs t ts mid rest (begins level arm xs ys) kind (opens, few, m, inners, count, is)
     others =
-    (opens, few, m, inners, count, append_outer l ys zs m mid rest is others)
+    (opens, few, m, inners, count, append_forms (outer_form l) ys zs m mid rest is others)
 with_others l zs t ts mid rest over kind is others = absurd kind
 with_others l zs t ts mid rest (stuck e) kind is others = absurd is
 
@@ -383,8 +376,7 @@ statements_as_statement l n t ts rest x is = is
 pub f_statements : (l : Limits) (n : ℕ) (t : Placed) (ts rest : List Placed) →
     statements_form l n (t ∷ ts) rest → Accepts l t ts rest (statements_on n t.lexeme)
 f_statements l n t ts rest (zero, (m, none, (p, e))) =
-    by_token (λ x us. Accepts l t us rest (statements_on n x)) (none ∙ e)
-    (none_opens l, no_arm l, refl)
+    by_row l t rest (statements_on n) (none ∙ e) (none_opens l, no_arm l, refl)
 f_statements l n t ts rest (suc k, (m, (m1, is, others), final)) =
     statements_as_statement l n t ts rest t.lexeme
     (with_others l (statements n ∷ []) t ts m1 rest (statement_on n t.lexeme)
@@ -459,7 +451,7 @@ f_arms l n before true t ts rest (more_arms q [] s cs, (m, (few, (m1, (free, hea
     absurd (false≢true free)
 f_arms l n before false t ts rest
     (more_arms q [] s cs, (m, (few, (m1, (free, (m2, e, colon)), (m3, is, others))), final)) =
-    by_token (λ x us. Accepts l t us rest (arms_on n before false x)) e (
+    by_row l t rest (arms_on n before false) e (
       none_opens l,
       few,
       (

@@ -6,19 +6,16 @@ use Rattle.sv_token.specs.Tokens.{AreTokensOf}
 use Rattle.sv_token.proofs.Agreement.{HasTokens, HasBreak, has_tokens_or_break, tokens_are_one}
 use Rattle.sv_token.proofs.Agreement.{break_is_one, not_both}
 use Rattle.sv_ast.specs.Tree.{TextTree}
-use Rattle.sv_ast.specs.GrammarRules.{TokensMean, BreaksGrammar}
+use Rattle.sv_ast.specs.GrammarRules.{BreaksGrammar}
 use Rattle.sv_ast.specs.GrammarMeaning.{Means, BreaksSyntax, end_place}
-use Rattle.sv_ast.proofs.GrammarLaws.{meaning_breaks_no_rule}
+use Rattle.sv_ast.proofs.SyntaxLaws.{means_no_break}
 use Rattle.sv_parse_machine.proofs.Decisions.{MeansOrBreaks, means_or_breaks}
 use Rattle.sv_parse_machine.proofs.OneRule.{one_rule}
 
 pub text_breaks_nothing : (bytes : List ℕ) (text : TextTree) → Means bytes text
     → (number : ℕ) (names : List (List ℕ)) (place : Place)
     → BreaksSyntax number names place bytes → ⊥
-text_breaks_nothing bytes text (ts, are, mean) number names place (inl lexis) = not_both are lexis
-text_breaks_nothing bytes text (ts, are, mean) number names place (inr (us, are_too, breaks)) =
-    meaning_breaks_no_rule us text number names place (end_place bytes)
-    (subst (λ vs. TokensMean vs text) (tokens_are_one are are_too) mean) breaks
+text_breaks_nothing = means_no_break
 
 pub one_syntax_rule : (bytes : List ℕ) (n m : ℕ) (names others : List (List ℕ)) (p q : Place)
     → BreaksSyntax n names p bytes → BreaksSyntax m others q bytes

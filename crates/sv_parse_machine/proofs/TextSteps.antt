@@ -1,254 +1,139 @@
 -- From forms to steps: lattices, label maps and headers.
-use Rattle.std.proofs.Common.{zero, suc, List, [], ◌∷◌, inl, inr, refl, sym, subst, ◌∙◌}
+use Rattle.std.proofs.Common.{zero, suc, [], ◌∷◌, inl, inr, refl, sym, subst, ◌∙◌}
 use Rattle.sv_token.specs.declared.signs.SignKind.TheVariants as signs
-use Rattle.sv_token.specs.Lexemes.{Placed}
-use Rattle.sv_ast.specs.GrammarExpressions.{Limits}
 use Rattle.sv_parse_machine.specs.Symbols.{punctuation, plain_name, plain_number, expression}
-use Rattle.sv_parse_machine.specs.Symbols.{lattice_lines, less_equal}
+use Rattle.sv_parse_machine.specs.Symbols.{more_values, lattice_lines, less_equal}
+use Rattle.sv_parse_machine.specs.Symbols.{later_header_parameter, more_header_parameters}
+use Rattle.sv_parse_machine.specs.Symbols.{later_port, more_ports}
 use Rattle.sv_parse_machine.specs.StatementTable.{more_values_on}
-use Rattle.sv_parse_machine.specs.ModuleTable.{lattice_lines_on, perhaps_lattice_on, map_name_on}
-use Rattle.sv_parse_machine.specs.ModuleTable.{perhaps_key_range_on, perhaps_second_key_on, end_of_map_on}
+use Rattle.sv_parse_machine.specs.ModuleTable.{lattice_lines_on, map_name_on, end_of_map_on}
 use Rattle.sv_parse_machine.specs.ModuleTable.{rows_on, perhaps_maps_on, parameter_type_on}
 use Rattle.sv_parse_machine.specs.ModuleTable.{header_parameter_on, later_header_parameter_on}
-use Rattle.sv_parse_machine.specs.ModuleTable.{more_header_parameters_on, perhaps_header_parameters_on}
-use Rattle.sv_parse_machine.specs.ModuleTable.{perhaps_wire_on, perhaps_wire_or_reg_on, perhaps_signed_on}
-use Rattle.sv_parse_machine.specs.ModuleTable.{perhaps_range_on, perhaps_second_name_on, label_end_on}
-use Rattle.sv_parse_machine.specs.ModuleTable.{perhaps_label_on, later_port_on, more_ports_on, ports_on}
-use Rattle.sv_parse_machine.specs.ModuleTable.{perhaps_ports_on}
+use Rattle.sv_parse_machine.specs.ModuleTable.{more_header_parameters_on, perhaps_wire_or_reg_on}
+use Rattle.sv_parse_machine.specs.ModuleTable.{label_end_on, later_port_on, more_ports_on, ports_on}
 use Rattle.sv_parse_machine.proofs.ExpressionForms.{Next}
-use Rattle.sv_parse_machine.proofs.InnerSteps.{by_token, none_opens, no_arm}
+use Rattle.sv_parse_machine.proofs.InnerSteps.{none_opens, no_arm}
 use Rattle.sv_parse_machine.proofs.OuterForms.{IsOver, more_values_form, lattice_lines_form}
-use Rattle.sv_parse_machine.proofs.OuterForms.{perhaps_lattice_form, map_name_form}
-use Rattle.sv_parse_machine.proofs.OuterForms.{perhaps_key_range_form, perhaps_second_key_form}
-use Rattle.sv_parse_machine.proofs.OuterForms.{end_of_map_form, rows_form, perhaps_maps_form}
-use Rattle.sv_parse_machine.proofs.OuterForms.{parameter_type_form, header_parameter_form}
-use Rattle.sv_parse_machine.proofs.OuterForms.{later_header_parameter_form, more_header_parameters_form}
-use Rattle.sv_parse_machine.proofs.OuterForms.{perhaps_header_parameters_form, perhaps_wire_form}
-use Rattle.sv_parse_machine.proofs.OuterForms.{perhaps_wire_or_reg_form, perhaps_signed_form}
-use Rattle.sv_parse_machine.proofs.OuterForms.{perhaps_range_form, perhaps_second_name_form}
-use Rattle.sv_parse_machine.proofs.OuterForms.{label_end_form, perhaps_label_form, later_port_form}
-use Rattle.sv_parse_machine.proofs.OuterForms.{more_ports_form, ports_form, perhaps_ports_form, Accepts}
-use Rattle.sv_parse_machine.proofs.OuterTokens.{unrefused, skipped}
+use Rattle.sv_parse_machine.proofs.OuterForms.{map_name_form, end_of_map_form, rows_form}
+use Rattle.sv_parse_machine.proofs.OuterForms.{perhaps_maps_form, parameter_type_form}
+use Rattle.sv_parse_machine.proofs.OuterForms.{header_parameter_form, later_header_parameter_form}
+use Rattle.sv_parse_machine.proofs.OuterForms.{more_header_parameters_form}
+use Rattle.sv_parse_machine.proofs.OuterForms.{perhaps_wire_or_reg_form, label_end_form}
+use Rattle.sv_parse_machine.proofs.OuterForms.{later_port_form, more_ports_form, ports_form}
+use Rattle.sv_parse_machine.proofs.OuterTokens.{by_row, f_commas, StepsBy, unrefused, skipped}
 
-pub f_more_values : (l : Limits) (t : Placed) (ts rest : List Placed) →
-    more_values_form l (t ∷ ts) rest → Accepts l t ts rest (more_values_on t.lexeme)
-f_more_values l t ts rest (zero, (m, none, (p, e))) =
-    by_token (λ x us. Accepts l t us rest (more_values_on x)) (none ∙ e)
-    (none_opens l, no_arm l, refl)
-f_more_values l t ts rest (suc k, (m, (m1, (m0, (p, e), a0), others), final)) =
-    by_token (λ x us. Accepts l t us rest (more_values_on x)) e
-    (none_opens l, no_arm l, (m1, a0, (rest, (k, (m, others, final)), refl)))
+pub f_more_values : StepsBy more_values_on more_values_form
+f_more_values l t ts rest is =
+    f_commas more_values_on (expression 0) more_values signs.CloseParenthesis l t ts rest
+    refl refl (λ us is. is) is
 
-pub f_lattice_lines : (l : Limits) (t : Placed) (ts rest : List Placed) →
-    lattice_lines_form l (t ∷ ts) rest → Accepts l t ts rest (lattice_lines_on t.lexeme)
+pub f_lattice_lines : StepsBy lattice_lines_on lattice_lines_form
 f_lattice_lines l t ts rest (zero, (m, none, (p, e))) =
-    by_token (λ x us. Accepts l t us rest (lattice_lines_on x)) (none ∙ e)
-    (none_opens l, no_arm l, refl)
+    by_row l t rest lattice_lines_on (none ∙ e) (none_opens l, no_arm l, refl)
 f_lattice_lines l t ts rest (suc k, (m, (m1, inl ((m0, (p, e), (q0, a0, a1))), others), final)) =
-    by_token (λ x us. Accepts l t us rest (lattice_lines_on x)) e
+    by_row l t rest lattice_lines_on e
     (none_opens l, no_arm l, (q0, a0, (m1, a1, (rest, (k, (m, others, final)), refl))))
 f_lattice_lines l t ts rest
     (suc k, (m, (m1, inr ((m0, (x, (p, (free, e))), (q0, a0, (q1, a1, a2)))), others), final)) =
-    by_token (λ x us. Accepts l t us rest (lattice_lines_on x)) e
+    by_row l t rest lattice_lines_on e
     (unrefused l (less_equal ∷ plain_name ∷ punctuation signs.Semicolon ∷ lattice_lines ∷ []) t
     m0 rest x free (q0, a0, (q1, a1, (m1, a2, (rest, (k, (m, others, final)), refl)))))
 
-pub f_perhaps_lattice : (l : Limits) (t : Placed) (ts rest : List Placed) →
-    perhaps_lattice_form l (t ∷ ts) rest → Accepts l t ts rest (perhaps_lattice_on t.lexeme)
-f_perhaps_lattice l t ts rest (inl (over, same)) =
-    skipped l t ts rest (perhaps_lattice_on t.lexeme) over same
-f_perhaps_lattice l t ts rest (inr (m, (p, e), behind)) =
-    by_token (λ x us. Accepts l t us rest (perhaps_lattice_on x)) e (none_opens l, no_arm l, behind)
-
-pub f_map_name : (l : Limits) (t : Placed) (ts rest : List Placed) → map_name_form l (t ∷ ts) rest →
-    Accepts l t ts rest (map_name_on t.lexeme)
+pub f_map_name : StepsBy map_name_on map_name_form
 f_map_name l t ts rest (m, (x, (p, (free, e))), behind) =
-    by_token (λ x us. Accepts l t us rest (map_name_on x)) e
+    by_row l t rest map_name_on e
     (unrefused l (punctuation signs.OpenBracket ∷ plain_number ∷ punctuation signs.Colon ∷
     plain_number ∷ punctuation signs.CloseBracket ∷ []) t m rest x free behind)
 
-pub f_perhaps_key_range : (l : Limits) (t : Placed) (ts rest : List Placed) →
-    perhaps_key_range_form l (t ∷ ts) rest → Accepts l t ts rest (perhaps_key_range_on t.lexeme)
-f_perhaps_key_range l t ts rest (inl (over, same)) =
-    skipped l t ts rest (perhaps_key_range_on t.lexeme) over same
-f_perhaps_key_range l t ts rest (inr (m, (p, e), behind)) =
-    by_token (λ x us. Accepts l t us rest (perhaps_key_range_on x)) e
-    (none_opens l, no_arm l, behind)
-
-pub f_perhaps_second_key : (l : Limits) (t : Placed) (ts rest : List Placed) →
-    perhaps_second_key_form l (t ∷ ts) rest → Accepts l t ts rest (perhaps_second_key_on t.lexeme)
-f_perhaps_second_key l t ts rest (inl (over, same)) =
-    skipped l t ts rest (perhaps_second_key_on t.lexeme) over same
-f_perhaps_second_key l t ts rest (inr (m, (p, e), behind)) =
-    by_token (λ x us. Accepts l t us rest (perhaps_second_key_on x)) e
-    (none_opens l, no_arm l, behind)
-
-pub f_end_of_map : (l : Limits) (t : Placed) (ts rest : List Placed) →
-    end_of_map_form l (t ∷ ts) rest → Accepts l t ts rest (end_of_map_on t.lexeme)
+pub f_end_of_map : StepsBy end_of_map_on end_of_map_form
 f_end_of_map l t ts rest (m, (p, e), behind) =
-    by_token (λ x us. Accepts l t us rest (end_of_map_on x)) e (none_opens l, no_arm l, behind)
+    by_row l t rest end_of_map_on e (none_opens l, no_arm l, behind)
 
-pub f_rows : (l : Limits) (t : Placed) (ts rest : List Placed) → rows_form l (t ∷ ts) rest →
-    Accepts l t ts rest (rows_on t.lexeme)
+pub f_rows : StepsBy rows_on rows_form
 f_rows l t ts rest (zero, (m, none, inl ((m0, (p, e), (q0, a0, (q1, a1, (q2, a2, a3))))))) =
-    by_token (λ x us. Accepts l t us rest (rows_on x)) (none ∙ e)
+    by_row l t rest rows_on (none ∙ e)
     (none_opens l, no_arm l, (q0, a0, (q1, a1, (q2, a2, (rest, a3, refl)))))
 f_rows l t ts rest (zero, (m, none, inr (p, e))) =
-    by_token (λ x us. Accepts l t us rest (rows_on x)) (none ∙ e) (none_opens l, no_arm l, refl)
+    by_row l t rest rows_on (none ∙ e) (none_opens l, no_arm l, refl)
 f_rows l t ts rest (
   suc
       k,
   (m, (m1, (m0, (v, (p, e)), (q0, a0, (q1, a1, (q2, a2, a3)))), others), final),
 ) =
-    by_token (λ x us. Accepts l t us rest (rows_on x)) e (
+    by_row l t rest rows_on e (
       none_opens l,
       no_arm
           l,
       (q0, a0, (q1, a1, (q2, a2, (m1, a3, (rest, (k, (m, others, final)), refl))))),
     )
 
-pub f_perhaps_maps : (l : Limits) (t : Placed) (ts rest : List Placed) →
-    perhaps_maps_form l (t ∷ ts) rest → Accepts l t ts rest (perhaps_maps_on t.lexeme)
+pub f_perhaps_maps : StepsBy perhaps_maps_on perhaps_maps_form
 f_perhaps_maps l t ts rest (zero, (m, none, (over, same))) =
     skipped l t ts rest (perhaps_maps_on t.lexeme)
     (subst (Next (λ x. IsOver (perhaps_maps_on x))) (sym none) over) (none ∙ same)
 f_perhaps_maps l t ts rest (suc k, (m, (m1, (m0, (p, e), (q0, a0, (q1, a1, a2))), others), final)) =
-    by_token (λ x us. Accepts l t us rest (perhaps_maps_on x)) e (
+    by_row l t rest perhaps_maps_on e (
       none_opens l,
       no_arm
           l,
       (q0, a0, (q1, a1, (m1, a2, (rest, (k, (m, others, final)), refl)))),
     )
 
-pub f_parameter_type : (l : Limits) (t : Placed) (ts rest : List Placed) →
-    parameter_type_form l (t ∷ ts) rest → Accepts l t ts rest (parameter_type_on t.lexeme)
+pub f_parameter_type : StepsBy parameter_type_on parameter_type_form
 f_parameter_type l t ts rest (inl (over, same)) =
     skipped l t ts rest (parameter_type_on t.lexeme) over same
 f_parameter_type l t ts rest (inr (inl (m, (p, e), behind))) =
-    by_token (λ x us. Accepts l t us rest (parameter_type_on x)) e (none_opens l, no_arm l, behind)
+    by_row l t rest parameter_type_on e (none_opens l, no_arm l, behind)
 f_parameter_type l t ts rest (inr (inr (m, (p, e), behind))) =
-    by_token (λ x us. Accepts l t us rest (parameter_type_on x)) e (none_opens l, no_arm l, behind)
+    by_row l t rest parameter_type_on e (none_opens l, no_arm l, behind)
 
-pub f_header_parameter : (l : Limits) (t : Placed) (ts rest : List Placed) →
-    header_parameter_form l (t ∷ ts) rest → Accepts l t ts rest (header_parameter_on t.lexeme)
+pub f_header_parameter : StepsBy header_parameter_on header_parameter_form
 f_header_parameter l t ts rest (m, (p, e), behind) =
-    by_token (λ x us. Accepts l t us rest (header_parameter_on x)) e
-    (none_opens l, no_arm l, behind)
+    by_row l t rest header_parameter_on e (none_opens l, no_arm l, behind)
 
-pub f_later_header_parameter : (l : Limits) (t : Placed) (ts rest : List Placed) →
-    later_header_parameter_form l (t ∷ ts) rest →
-    Accepts l t ts rest (later_header_parameter_on t.lexeme)
+pub f_later_header_parameter : StepsBy later_header_parameter_on later_header_parameter_form
 f_later_header_parameter l t ts rest (inl (m, (p, e), behind)) =
-    by_token (λ x us. Accepts l t us rest (later_header_parameter_on x)) e
-    (none_opens l, no_arm l, behind)
+    by_row l t rest later_header_parameter_on e (none_opens l, no_arm l, behind)
 f_later_header_parameter l t ts rest (inr (m, (x, (p, (free, e))), behind)) =
-    by_token (λ x us. Accepts l t us rest (later_header_parameter_on x)) e
+    by_row l t rest later_header_parameter_on e
     (unrefused l (punctuation signs.Equals ∷ expression 0 ∷ []) t m rest x free behind)
 
-pub f_more_header_parameters : (l : Limits) (t : Placed) (ts rest : List Placed) →
-    more_header_parameters_form l (t ∷ ts) rest →
-    Accepts l t ts rest (more_header_parameters_on t.lexeme)
-f_more_header_parameters l t ts rest (zero, (m, none, (p, e))) =
-    by_token (λ x us. Accepts l t us rest (more_header_parameters_on x)) (none ∙ e)
-    (none_opens l, no_arm l, refl)
-f_more_header_parameters l t ts rest (suc k, (m, (m1, (m0, (p, e), a0), others), final)) =
-    by_token (λ x us. Accepts l t us rest (more_header_parameters_on x)) e
-    (none_opens l, no_arm l, (m1, a0, (rest, (k, (m, others, final)), refl)))
+pub f_more_header_parameters : StepsBy more_header_parameters_on more_header_parameters_form
+f_more_header_parameters l t ts rest is =
+    f_commas more_header_parameters_on later_header_parameter more_header_parameters
+    signs.CloseParenthesis l t ts rest refl refl (λ us is. is) is
 
-pub f_perhaps_header_parameters : (l : Limits) (t : Placed) (ts rest : List Placed) →
-    perhaps_header_parameters_form l (t ∷ ts) rest →
-    Accepts l t ts rest (perhaps_header_parameters_on t.lexeme)
-f_perhaps_header_parameters l t ts rest (inl (over, same)) =
-    skipped l t ts rest (perhaps_header_parameters_on t.lexeme) over same
-f_perhaps_header_parameters l t ts rest (inr (m, (p, e), behind)) =
-    by_token (λ x us. Accepts l t us rest (perhaps_header_parameters_on x)) e
-    (none_opens l, no_arm l, behind)
-
-pub f_perhaps_wire : (l : Limits) (t : Placed) (ts rest : List Placed) →
-    perhaps_wire_form l (t ∷ ts) rest → Accepts l t ts rest (perhaps_wire_on t.lexeme)
-f_perhaps_wire l t ts rest (inl (over, same)) =
-    skipped l t ts rest (perhaps_wire_on t.lexeme) over same
-f_perhaps_wire l t ts rest (inr (m, (p, e), behind)) =
-    by_token (λ x us. Accepts l t us rest (perhaps_wire_on x)) e (none_opens l, no_arm l, behind)
-
-pub f_perhaps_wire_or_reg : (l : Limits) (t : Placed) (ts rest : List Placed) →
-    perhaps_wire_or_reg_form l (t ∷ ts) rest → Accepts l t ts rest (perhaps_wire_or_reg_on t.lexeme)
+pub f_perhaps_wire_or_reg : StepsBy perhaps_wire_or_reg_on perhaps_wire_or_reg_form
 f_perhaps_wire_or_reg l t ts rest (inl (over, same)) =
     skipped l t ts rest (perhaps_wire_or_reg_on t.lexeme) over same
 f_perhaps_wire_or_reg l t ts rest (inr (inl (m, (p, e), behind))) =
-    by_token (λ x us. Accepts l t us rest (perhaps_wire_or_reg_on x)) e
-    (none_opens l, no_arm l, behind)
+    by_row l t rest perhaps_wire_or_reg_on e (none_opens l, no_arm l, behind)
 f_perhaps_wire_or_reg l t ts rest (inr (inr (m, (p, e), behind))) =
-    by_token (λ x us. Accepts l t us rest (perhaps_wire_or_reg_on x)) e
-    (none_opens l, no_arm l, behind)
+    by_row l t rest perhaps_wire_or_reg_on e (none_opens l, no_arm l, behind)
 
-pub f_perhaps_signed : (l : Limits) (t : Placed) (ts rest : List Placed) →
-    perhaps_signed_form l (t ∷ ts) rest → Accepts l t ts rest (perhaps_signed_on t.lexeme)
-f_perhaps_signed l t ts rest (inl (over, same)) =
-    skipped l t ts rest (perhaps_signed_on t.lexeme) over same
-f_perhaps_signed l t ts rest (inr (m, (p, e), behind)) =
-    by_token (λ x us. Accepts l t us rest (perhaps_signed_on x)) e (none_opens l, no_arm l, behind)
-
-pub f_perhaps_range : (l : Limits) (t : Placed) (ts rest : List Placed) →
-    perhaps_range_form l (t ∷ ts) rest → Accepts l t ts rest (perhaps_range_on t.lexeme)
-f_perhaps_range l t ts rest (inl (over, same)) =
-    skipped l t ts rest (perhaps_range_on t.lexeme) over same
-f_perhaps_range l t ts rest (inr (m, (p, e), behind)) =
-    by_token (λ x us. Accepts l t us rest (perhaps_range_on x)) e (none_opens l, no_arm l, behind)
-
-pub f_perhaps_second_name : (l : Limits) (t : Placed) (ts rest : List Placed) →
-    perhaps_second_name_form l (t ∷ ts) rest → Accepts l t ts rest (perhaps_second_name_on t.lexeme)
-f_perhaps_second_name l t ts rest (inl (over, same)) =
-    skipped l t ts rest (perhaps_second_name_on t.lexeme) over same
-f_perhaps_second_name l t ts rest (inr (m, (p, e), behind)) =
-    by_token (λ x us. Accepts l t us rest (perhaps_second_name_on x)) e
-    (none_opens l, no_arm l, behind)
-
-pub f_label_end : (l : Limits) (t : Placed) (ts rest : List Placed) →
-    label_end_form l (t ∷ ts) rest → Accepts l t ts rest (label_end_on t.lexeme)
+pub f_label_end : StepsBy label_end_on label_end_form
 f_label_end l t ts rest (inl (m, (p, e), behind)) =
-    by_token (λ x us. Accepts l t us rest (label_end_on x)) e (none_opens l, no_arm l, behind)
+    by_row l t rest label_end_on e (none_opens l, no_arm l, behind)
 f_label_end l t ts rest (inr (m, (p, e), behind)) =
-    by_token (λ x us. Accepts l t us rest (label_end_on x)) e (none_opens l, no_arm l, behind)
+    by_row l t rest label_end_on e (none_opens l, no_arm l, behind)
 
-pub f_perhaps_label : (l : Limits) (t : Placed) (ts rest : List Placed) →
-    perhaps_label_form l (t ∷ ts) rest → Accepts l t ts rest (perhaps_label_on t.lexeme)
-f_perhaps_label l t ts rest (inl (over, same)) =
-    skipped l t ts rest (perhaps_label_on t.lexeme) over same
-f_perhaps_label l t ts rest (inr (m, (p, e), behind)) =
-    by_token (λ x us. Accepts l t us rest (perhaps_label_on x)) e (none_opens l, no_arm l, behind)
-
-pub f_later_port : (l : Limits) (t : Placed) (ts rest : List Placed) →
-    later_port_form l (t ∷ ts) rest → Accepts l t ts rest (later_port_on t.lexeme)
+pub f_later_port : StepsBy later_port_on later_port_form
 f_later_port l t ts rest (inl (m, (p, e), behind)) =
-    by_token (λ x us. Accepts l t us rest (later_port_on x)) e (none_opens l, no_arm l, behind)
+    by_row l t rest later_port_on e (none_opens l, no_arm l, behind)
 f_later_port l t ts rest (inr (inl (m, (p, e), behind))) =
-    by_token (λ x us. Accepts l t us rest (later_port_on x)) e (none_opens l, no_arm l, behind)
+    by_row l t rest later_port_on e (none_opens l, no_arm l, behind)
 f_later_port l t ts rest (inr (inr (m, (x, (p, (free, e))), behind))) =
-    by_token (λ x us. Accepts l t us rest (later_port_on x)) e
-    (unrefused l [] t m rest x free behind)
+    by_row l t rest later_port_on e (unrefused l [] t m rest x free behind)
 
-pub f_more_ports : (l : Limits) (t : Placed) (ts rest : List Placed) →
-    more_ports_form l (t ∷ ts) rest → Accepts l t ts rest (more_ports_on t.lexeme)
-f_more_ports l t ts rest (zero, (m, none, (p, e))) =
-    by_token (λ x us. Accepts l t us rest (more_ports_on x)) (none ∙ e)
-    (none_opens l, no_arm l, refl)
-f_more_ports l t ts rest (suc k, (m, (m1, (m0, (p, e), a0), others), final)) =
-    by_token (λ x us. Accepts l t us rest (more_ports_on x)) e
-    (none_opens l, no_arm l, (m1, a0, (rest, (k, (m, others, final)), refl)))
+pub f_more_ports : StepsBy more_ports_on more_ports_form
+f_more_ports l t ts rest is =
+    f_commas more_ports_on later_port more_ports signs.CloseParenthesis l t ts rest
+    refl refl (λ us is. is) is
 
-pub f_ports : (l : Limits) (t : Placed) (ts rest : List Placed) → ports_form l (t ∷ ts) rest →
-    Accepts l t ts rest (ports_on t.lexeme)
+pub f_ports : StepsBy ports_on ports_form
 f_ports l t ts rest (inl (m, (p, e), behind)) =
-    by_token (λ x us. Accepts l t us rest (ports_on x)) e (none_opens l, no_arm l, behind)
+    by_row l t rest ports_on e (none_opens l, no_arm l, behind)
 f_ports l t ts rest (inr (inl (m, (p, e), behind))) =
-    by_token (λ x us. Accepts l t us rest (ports_on x)) e (none_opens l, no_arm l, behind)
+    by_row l t rest ports_on e (none_opens l, no_arm l, behind)
 f_ports l t ts rest (inr (inr (m, (p, e), behind))) =
-    by_token (λ x us. Accepts l t us rest (ports_on x)) e (none_opens l, no_arm l, behind)
-
-pub f_perhaps_ports : (l : Limits) (t : Placed) (ts rest : List Placed) →
-    perhaps_ports_form l (t ∷ ts) rest → Accepts l t ts rest (perhaps_ports_on t.lexeme)
-f_perhaps_ports l t ts rest (inl (over, same)) =
-    skipped l t ts rest (perhaps_ports_on t.lexeme) over same
-f_perhaps_ports l t ts rest (inr (m, (p, e), behind)) =
-    by_token (λ x us. Accepts l t us rest (perhaps_ports_on x)) e (none_opens l, no_arm l, behind)
+    by_row l t rest ports_on e (none_opens l, no_arm l, behind)

@@ -1,5 +1,5 @@
 -- A whole text of the grammar is what its symbols stand for.
-use Rattle.std.proofs.Common.{ℕ, zero, suc, List, [], ◌∷◌, Option, inl, inr, refl, sym, subst}
+use Rattle.std.proofs.Common.{List, [], ◌∷◌, Option, inl, inr, refl, sym, subst}
 use Rattle.sv_token.specs.declared.keywords.WordKind.TheVariants as words
 use Rattle.sv_token.specs.declared.signs.SignKind.TheVariants as signs
 use Rattle.sv_token.specs.Lexemes.{Lexeme, word, sign, Placed}
@@ -10,9 +10,9 @@ use Rattle.sv_ast.specs.GrammarModules.{IsModule, IsLattice, IsMap, IsText}
 use Rattle.sv_parse_machine.specs.ModuleTable.{perhaps_lattice_on, perhaps_maps_on}
 use Rattle.sv_parse_machine.specs.ModuleTable.{perhaps_header_parameters_on, perhaps_ports_on}
 use Rattle.sv_parse_machine.proofs.ExpressionForms.{Next}
-use Rattle.sv_parse_machine.proofs.OuterForms.{IsOver, times, one_module_form}
-use Rattle.sv_parse_machine.proofs.TextForm.{modules_form, text_form}
-use Rattle.sv_parse_machine.proofs.ListTrees.{next_sign, next_word}
+use Rattle.sv_parse_machine.proofs.OuterForms.{IsOver, one_module_form}
+use Rattle.sv_parse_machine.proofs.TextForm.{text_form}
+use Rattle.sv_parse_machine.proofs.ListTrees.{next_sign, next_word, f_each, b_each}
 use Rattle.sv_parse_machine.proofs.HeaderTrees.{f_perhaps_header_parameters, b_perhaps_header_parameters}
 use Rattle.sv_parse_machine.proofs.HeaderTrees.{HeaderPorts, f_perhaps_ports, b_perhaps_ports}
 use Rattle.sv_parse_machine.proofs.LatticeTrees.{f_perhaps_lattice, b_perhaps_lattice}
@@ -80,24 +80,6 @@ unfolding IsModule
 next_module P l t ts rest passes (m4, (m, starts, header), body) =
     next_word P words.Module ts m passes starts
 
-f_modules : (l : Limits) (ms : List ModuleTree) (ts rest : List Placed) →
-    each (IsModule l) ms ts rest → modules_form l ts rest
-f_modules l [] ts rest same = (zero, same)
-f_modules l (t ∷ ms) ts rest (m, is, others) =
-    let further = f_modules l ms m rest others in
-    (suc further.0, (m, f_module l t ts m is, further.1))
-
-abbrev Modules : Limits → List Placed → List Placed → Type 0
-Modules l ts rest = (ms : List ModuleTree) × each (IsModule l) ms ts rest
-
-b_modules : (l : Limits) (k : ℕ) (ts rest : List Placed) → times (one_module_form l) k ts rest →
-    Modules l ts rest
-b_modules l zero ts rest same = ([], same)
-b_modules l (suc k) ts rest (m, is, others) =
-    let this = b_module l ts m is in
-    let further = b_modules l k m rest others in
-    (this.0 ∷ further.0, (m, this.1, further.1))
-
 -- ---- texts
 
 text_has_form : (l : Limits) (ms : List ModuleTree) (lattice : Option LatticeTree)
@@ -118,7 +100,7 @@ text_has_form l (t ∷ ms) lattice maps ts (m1, is, (m2, are, (m3, first, others
       (m3, f_module l t m2 m3 first, refl),
     ),
   ),
-  f_modules l ms m3 [] others,
+  f_each (IsModule l) (one_module_form l) (f_module l) ms m3 [] others,
 )
 
 pub form_of_text : (l : Limits) (t : TextTree) (ts : List Placed) → IsText l t ts → text_form l ts
@@ -131,7 +113,7 @@ text_of_form l ts (m, (m1, lattice, (m2, maps, (m3, first, same))), (k, others))
     let lattice = b_perhaps_lattice l ts m1 lattice in
     let maps = b_perhaps_maps l m1 m2 maps in
     let this = b_module l m2 m3 first in
-    let further = b_modules l k m [] others in (
+    let further = b_each (IsModule l) (one_module_form l) (b_module l) k m [] others in (
       record { lattice = lattice.0; maps = maps.0; modules = this.0 ∷ further.0 },
       (
         m1,

@@ -4,7 +4,7 @@ use Rattle.std.proofs.Common.{subst}
 use Rattle.sv_num.specs.declared.faults.Place.{Place}
 use Rattle.sv_token.specs.declared.keywords.WordKind.TheVariants as words
 use Rattle.sv_token.specs.declared.signs.SignKind.TheVariants as signs
-use Rattle.sv_token.specs.Lexemes.{Lexeme, word, sign, Placed}
+use Rattle.sv_token.specs.Lexemes.{Lexeme, word, identifier, sign, Placed}
 use Rattle.sv_ast.specs.Tree.{ExpressionTree, SpanTree, LabelTree, point_label, table_label}
 use Rattle.sv_ast.specs.Tree.{DeclarationTree, ParameterTree}
 use Rattle.sv_ast.specs.GrammarForms.{Form, ◌⨾◌, nothing, perhaps, flag, name_at, a_sign, a_name}
@@ -23,7 +23,7 @@ use Rattle.sv_parse_machine.proofs.ListTrees.{next_sign, next_name, next_flag}
 
 -- ---- signs
 
-pub f_signed : (l : Limits) (b : Bool) (ts rest : List Placed) → flag words.Signed b ts rest
+f_signed : (l : Limits) (b : Bool) (ts rest : List Placed) → flag words.Signed b ts rest
     → Next (λ x. IsOver (perhaps_signed_on x)) rest
     → perhaps_signed_form l ts rest
 f_signed l true ts rest is next = inr (rest, is, refl)
@@ -80,14 +80,14 @@ b_some_range l ts rest (m, opens, (m2, high, (m3, colon, (m1, low, (m4, close, s
       (m, opens, (m1, (m2, first.1, (m3, colon, second.1)), close)),
     )
 
-pub next_range : (P : Lexeme → Type 0) (l : Limits) (s : Option SpanTree) (ts mid : List Placed)
+next_range : (P : Lexeme → Type 0) (l : Limits) (s : Option SpanTree) (ts mid : List Placed)
     → P (sign signs.OpenBracket) → Next P mid
     → perhaps (IsRange l) s ts mid → Next P ts
 next_range P l None ts mid passes behind same = subst (Next P) (sym same) behind
 next_range P l (Some s) ts mid passes behind (m, opens, inside) =
     next_sign P signs.OpenBracket ts m passes opens
 
-pub f_range : (l : Limits) (s : Option SpanTree) (ts rest : List Placed)
+f_range : (l : Limits) (s : Option SpanTree) (ts rest : List Placed)
     → perhaps (IsRange l) s ts rest
     → Next (λ x. IsOver (perhaps_range_on x)) rest → perhaps_range_form l ts rest
 f_range l None ts rest same next =
@@ -191,28 +191,36 @@ b_label l ts rest (inr (m, opens, (m1, (x, (p, name)), (m2, behind, same)))) =
 
 -- ---- types
 
+-- sign and range, where a label or a name stands behind them
+pub f_signed_range : (l : Limits) (signed : Bool) (span : Option SpanTree) (Q : Form)
+    (ts m m1 rest : List Placed) → flag words.Signed signed ts m → perhaps (IsRange l) span m m1
+    → ((P : Lexeme → Type 0) → P (sign signs.OpenBrace) → ((x : List ℕ) → P (identifier x))
+    → Next P m1) → Q m1 rest
+    → (perhaps_signed_form l ⨾ perhaps_range_form l ⨾ Q) ts rest
+f_signed_range l signed span Q ts m m1 rest first second next behind = (
+  m,
+  f_signed l signed ts m first
+      (next_range (λ x. IsOver (perhaps_signed_on x)) l span m m1 tt
+      (next (λ x. IsOver (perhaps_signed_on x)) tt (λ x. tt)) second),
+  (
+    m1,
+    f_range l span m m1 second (next (λ x. IsOver (perhaps_range_on x)) tt (λ x. tt)),
+    behind,
+  ),
+)
+
 pub f_typed : (l : Limits) (d : DeclarationTree) (Q : Form) (ts mid rest : List Placed)
     → IsTyped l d ts mid → (some_name ⨾ Q) mid rest
     → (perhaps_signed_form l ⨾ perhaps_range_form l ⨾ perhaps_label_form l ⨾ some_name ⨾ Q) ts rest
-f_typed l d Q ts mid rest (m, signed, (m1, range, label)) (m2, name, behind) = (
-  m,
-  f_signed l d.signed ts m signed
-      (next_range (λ x. IsOver (perhaps_signed_on x)) l d.span m m1 tt
-      (next_label (λ x. IsOver (perhaps_signed_on x)) d.label m1 mid tt
-      (next_name (λ x. IsOver (perhaps_signed_on x)) mid m2 (λ x. tt) name) label) range),
-  (
-    m1,
-    f_range l d.span m m1 range
-        (next_label (λ x. IsOver (perhaps_range_on x)) d.label m1 mid tt
-        (next_name (λ x. IsOver (perhaps_range_on x)) mid m2 (λ x. tt) name) label),
-    (
+f_typed l d Q ts mid rest (m, signed, (m1, range, label)) (m2, name, behind) =
+    f_signed_range l d.signed d.span (perhaps_label_form l ⨾ some_name ⨾ Q) ts m m1 rest signed
+    range
+    (λ P opens names. next_label P d.label m1 mid opens (next_name P mid m2 names name) label) (
       mid,
       f_label l d.label m1 mid label (next_name (λ x. IsOver (perhaps_label_on x)) mid m2 (λ x.
           tt) name),
       (m2, name, behind),
-    ),
-  ),
-)
+    )
 
 -- the first token of sign, range and label, or of what stands behind
 pub next_typed : (P : Lexeme → Type 0) (l : Limits) (d : DeclarationTree) (ts mid : List Placed)

@@ -1,18 +1,16 @@
 -- How an arm of a case begins.
 use Rattle.std.proofs.Common.{◌≡◌, ℕ, suc, zero, ◌+◌, ◌-◌, ◌<◌, ◌≤◌, max, Bool, true, false, ◌&&◌}
-use Rattle.std.proofs.Common.{◌||◌, List, [], ◌∷◌, ◌++◌, length, Option, Some, None, refl, sym, ap}
+use Rattle.std.proofs.Common.{◌||◌, List, [], ◌∷◌, ◌++◌, length, refl, sym, ap}
 use Rattle.std.proofs.Common.{◌∙◌, subst, arith}
 use Rattle.std.proofs.lemmas.Bool.{false≢true}
-use Rattle.sv_num.specs.declared.operators.UnOp.{UnOp}
 use Rattle.sv_token.specs.declared.keywords.WordKind.TheVariants as words
 use Rattle.sv_token.specs.declared.signs.SignKind.TheVariants as signs
 use Rattle.sv_token.specs.declared.tokens.Token.{Token}
-use Rattle.sv_token.specs.Lexemes.{Lexeme, word, identifier, sign, Placed, placed_tokens}
-use Rattle.sv_token.specs.Words.{is_refused_word}
+use Rattle.sv_token.specs.Lexemes.{Lexeme, word, Placed, placed_tokens}
 use Rattle.sv_num.specs.declared.faults.Place.{Place}
 use Rattle.sv_token.specs.declared.keywords.WordKind.{WordKind}
 use Rattle.sv_ast.specs.Tree.{ExpressionTree}
-use Rattle.sv_ast.specs.GrammarForms.{◌⨾◌, unary_operator, a_word, a_sign, word_at, commas}
+use Rattle.sv_ast.specs.GrammarForms.{◌⨾◌, a_word, a_sign, word_at, commas}
 use Rattle.sv_ast.specs.GrammarExpressions.{is_within, IsExpression}
 use Rattle.sv_ast.specs.GrammarStatements.{IsNext, is_default}
 use Rattle.sv_ast.specs.GrammarRules.{all_limits}
@@ -21,12 +19,13 @@ use Rattle.sv_parse_expr.specs.Expectations.{HaltsAs}
 use Rattle.sv_parse_machine.specs.Symbols.{operand, tail, Outer, punctuation, expression, statement, arms}
 use Rattle.sv_parse_machine.specs.Symbols.{more_choices, inner, outer, State, InnerReaction, takes_inner}
 use Rattle.sv_parse_machine.specs.Symbols.{over_inner, stuck_inner}
-use Rattle.sv_parse_machine.specs.ExpressionTable.{name_operand, prefix_operand, operand_on}
+use Rattle.sv_parse_machine.specs.ExpressionTable.{operand_on}
 use Rattle.sv_parse_machine.specs.ExpressionTable.{as_expression, expression_on}
 use Rattle.sv_parse_machine.specs.Machine.{outer_on, Step, within_limits, inside_on, outside_on}
 use Rattle.sv_parse_machine.specs.Machine.{tokens_of, after_inner, after_outer, step, go_on, run}
 use Rattle.sv_parse_machine.specs.Reads.{Reads, IsNot, NextIsNotWord, NextIsNotSign}
-use Rattle.sv_parse_machine.proofs.ReadSteps.{reads_then, begins_expression, as_many}
+use Rattle.sv_parse_machine.proofs.ReadSteps.{NotOver, operand_not_over, reads_then}
+use Rattle.sv_parse_machine.proofs.ReadSteps.{beyond, begins_expression, as_many}
 use Rattle.sv_parse_machine.proofs.ReadRows.{word_taken}
 use Rattle.sv_parse_machine.proofs.SkippedRows.{begins_arms}
 use Rattle.sv_parse_machine.proofs.ReadLists.{ends_more_choices}
@@ -68,26 +67,6 @@ arm_begins n (suc k) default ts few comes none =
     (begins_arms n (suc k) default ts few (comes (omega arith)) none)
 
 -- ---- an arm too many
-
-abbrev NotOver : InnerReaction → Type 0
-NotOver over_inner = ⊥
-NotOver r = Unit {0}
-
-name_not_over : (n : ℕ) (b : Bool) → NotOver (name_operand n b)
-name_not_over n true = tt
-name_not_over n false = tt
-
-prefix_not_over : (n : ℕ) (u : Option UnOp) → NotOver (prefix_operand n u)
-prefix_not_over n None = tt
-prefix_not_over n (Some op) = tt
-
-operand_not_over : (n : ℕ) (x : Lexeme) → NotOver (operand_on n x)
-operand_not_over n (identifier y) = name_not_over n (is_refused_word y)
-operand_not_over n (sign (signs.Operator o)) = prefix_not_over n (unary_operator o)
-operand_not_over n x = tt
-
-beyond : (n most : ℕ) → most < n → is_within (Some most) n ≡ false
-beyond n most more = grind arith
 
 fails_alike : (deep b c : Bool) (s t : State) → b ≡ false → c ≡ false →
     within_limits deep b s ≡ within_limits deep c t

@@ -21,7 +21,7 @@ use Rattle.sv_flat.specs.Design.{branch, ProcessForm, FlatDesign}
 use Rattle.sv_flat.specs.Processes.{signals_that}
 use Rattle.sv_flat.specs.Soundness.{well_formed, piece_fits, statement_sound}
 use Rattle.sv_flat.specs.Values.{signal_width}
-use Rattle.sv_flat.proofs.BlockFacts.{can_is_assigned}
+use Rattle.sv_flat.proofs.SameRuns.{can_is_assigned}
 use Rattle.sv_flat.proofs.AdmittedFacts.{none_in, and_true, assigned_is_signal}
 use Rattle.sv_flat.proofs.Depths.{first_of, second_of, from_all}
 use Rattle.sv_flat.proofs.LeastSets.{either_way, or_cases, range_has, some_from, from_some}

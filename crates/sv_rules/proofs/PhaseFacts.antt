@@ -15,7 +15,7 @@ use Rattle.sv_flat.specs.Breaches.{Breach, breach}
 use Rattle.sv_flat.specs.Assigned.{assigns}
 use Rattle.sv_flat.specs.Blocks.{is_out_of_phase, phase_breach}
 use Rattle.sv_flat.specs.Design.{SignalForm, TypedTree, FlatStatement}
-use Rattle.sv_flat.specs.Readings.{BitSet, ReadForm, Reading, reads, some_bit_read}
+use Rattle.sv_flat.specs.Readings.{BitSet, ReadForm, Reading, reading_of, reads, some_bit_read}
 use Rattle.sv_flat.specs.Values.{signal_width}
 use Rattle.sv_flat.proofs.LeastSets.{some_from, from_some, range_has, those_below}
 use Rattle.sv_flat.proofs.Depths.{first_of, second_of}
@@ -99,10 +99,6 @@ module _ (signals : List SignalForm) (targets : Bits) (body : FlatStatement) (re
       n_is b ∙ sym (same r.signal b))))
 
 -- ---- reads one after the other
-
-abbrev pub reading_of : (serves : ℕ → Bool) → (assigned follows : BitSet) → ReadForm → Reading
-reading_of serves assigned follows r =
-    record { name = r; serves = serves; assigned = assigned; follows = follows }
 
 module _ (signals : List SignalForm) (body : FlatStatement) where
   pub wrong_reads-append : (xs ys : List Reading) →

@@ -15,8 +15,8 @@ use Rattle.sv_flat.specs.Soundness.{is_one_to, is_signal, is_part_of, piece_fits
 use Rattle.sv_flat.specs.Soundness.{well_formed}
 use Rattle.sv_flat.specs.Soundness.{kind_sound, process_sound, map_sound, label_sound, signal_sound}
 use Rattle.sv_flat.specs.Soundness.{invariant_sound, sound}
-pub use Rattle.sv_flat.proofs.NumberedRuns.{no_piece}
 use Rattle.sv_flat.proofs.Rows.{row_chain-hidden}
+use Rattle.sv_flat.proofs.NumberedRuns.{chain_at}
 use Rattle.sv_flat.specs.Views.{flat_statement, flat_statements, chain_of, piece_form, process_form}
 use Rattle.sv_flat.specs.Views.{process_kind, design_of}
 use Rattle.std.proofs.lemmas.List.Elements.{Contains-get_or}
@@ -32,11 +32,7 @@ pub next_statement : (stmts : List FStmt) (i : ℕ) (stmt : FStmt) → i < lengt
     → stmt ≡ get_or stmts i stmt
     → chain_of (flat_statements (drop i stmts)) ≡
     after (flat_statement stmt) (chain_of (flat_statements (drop (i + 1) stmts)))
-next_statement stmts i stmt inside is =
-    ap (λ ss. chain_of (flat_statements ss)) (drop-cons stmts i stmt inside)
-    ∙ ap (λ s. after (flat_statement s) (chain_of (flat_statements (drop (suc i) stmts)))) (sym is)
-    ∙ ap (λ k. after (flat_statement stmt) (chain_of (flat_statements (drop k stmts))))
-    (sym (add-one i))
+next_statement stmts i stmt inside is = chain_at stmts i stmt inside is
 
 -- a block is the chain of the statements of its vector
 pub block_is : (stmt : FStmt) (stmts : Vec FStmt Global) (items : List FStmt) → stmt ≡ Block stmts

@@ -1,7 +1,7 @@
 -- Texts that `sim` writes of three inverters, by computation.
 use Rattle.std.proofs.Common.{◌≡◌, ℕ, false, ◌^◌, ◌<◌, List, [], ◌∷◌}
-use Rattle.std.proofs.Common.{Some, None, codes, refl, subst, arith}
-use Rattle.std.specs.Prelude.{All, IsFalse, ◌==◌}
+use Rattle.std.proofs.Common.{Some, None, codes, refl}
+use Rattle.std.specs.Prelude.{All, ◌==◌}
 use Rattle.std.specs.Fmt.{digits}
 use Rattle.std.proofs.lemmas.Bool.{eqb-true, eq-eqb, false≢true}
 use Rattle.std.proofs.lemmas.List.Elements.{All-from_recursion}
@@ -13,12 +13,12 @@ use Rattle.sv_flat.specs.ByNumber.{by_number}
 use Rattle.sv_flat.specs.Design.{TypedTree, typed, unary}
 use Rattle.sv_flat.specs.Design.{continuous, FlatDesign}
 use Rattle.sv_flat.specs.FlatSystem.{flat_system}
-use Rattle.sv_flat.specs.Schedules.{IsRoundCount, is_quiet, after_rounds, after_tick, tick_order}
+use Rattle.sv_flat.specs.Schedules.{IsRoundCount, after_rounds, after_tick, tick_order}
 use Rattle.sv_flat.specs.Schedules.{starting, with_inputs}
 use Rattle.sv_flat.specs.SignalLists.{system_signals, inputs, registers}
 use Rattle.sv_flat.specs.Values.{signal_width}
 use Rattle.sv_flat.proofs.Forms.{at, declares, sets, named, process}
-use Rattle.sv_flat.proofs.Forms.{over_two_points}
+use Rattle.sv_flat.proofs.Forms.{over_two_points, one_is_enough, two_are_enough}
 use Rattle.sv_flat.specs.Given.{given}
 use Rattle.sv_texts.specs.declared.stimuli.StimKind.TheVariants.{Value}
 use Rattle.sv_trace.specs.Forms.{name_in}
@@ -94,16 +94,10 @@ went_on = with_inputs inverters (given (inputs inverters) (1 ∷ []))
     (after_tick inverters (tick_order inverters 0) (after_rounds inverters 10 1 begun))
 
 one_round : IsRoundCount inverters 10 begun 1
-one_round =
-    record { some = omega arith; quiet = refl; before = λ k a b. absurd (omega (arith, a, b)) }
+one_round = one_is_enough inverters 10 begun refl
 
 two_rounds : IsRoundCount inverters 11 went_on 2
-two_rounds = record {
-  some = omega arith;
-  quiet = refl;
-  before = λ k a b. let is : 1 ≡ k = omega (arith, a, b) in
-      subst (λ k. IsFalse (is_quiet inverters (after_rounds inverters 11 k went_on))) is refl;
-}
+two_rounds = two_are_enough inverters 11 went_on refl refl
 
 -- what is read of these bytes
 abbrev read_by : List ℕ → LinesRead

@@ -31,14 +31,11 @@ flows true b = b
 abbrev pub is_input : Wire → Bool
 is_input mode = true
 is_input secret = true
-is_input copy = false
-is_input kept = false
+is_input _ = false
 
 abbrev pub is_register : Wire → Bool
-is_register mode = false
-is_register secret = false
-is_register copy = false
 is_register kept = true
+is_register _ = false
 
 abbrev pub label : Wire → (Wire → ℕ) → Bool
 label mode e = false
@@ -73,21 +70,10 @@ only x y at = ⊎_elim (λ e. e) (λ none. absurd (Contains-nil y none)) (Contai
 
 same_is : (s t : Wire) → IsTrue (same s t) → s ≡ t
 same_is mode mode h = refl
-same_is mode secret h = absurd (false≢true h)
-same_is mode copy h = absurd (false≢true h)
-same_is mode kept h = absurd (false≢true h)
-same_is secret mode h = absurd (false≢true h)
 same_is secret secret h = refl
-same_is secret copy h = absurd (false≢true h)
-same_is secret kept h = absurd (false≢true h)
-same_is copy mode h = absurd (false≢true h)
-same_is copy secret h = absurd (false≢true h)
 same_is copy copy h = refl
-same_is copy kept h = absurd (false≢true h)
-same_is kept mode h = absurd (false≢true h)
-same_is kept secret h = absurd (false≢true h)
-same_is kept copy h = absurd (false≢true h)
 same_is kept kept h = refl
+same_is _ _ h = absurd (false≢true h)
 
 is_same : (s : Wire) → same s s ≡ true
 is_same mode = refl

@@ -1,4 +1,5 @@
 pub mod Lists
+pub mod Fronts
 pub mod OneCycle
 pub mod Noninterference
 pub mod Runs

@@ -40,17 +40,11 @@ same s t = eqb (place s) (place t)
 
 abbrev is_input : Net → Bool
 is_input given = true
-is_input first = false
-is_input second = false
-is_input last = false
-is_input held = false
+is_input _ = false
 
 abbrev is_register : Net → Bool
-is_register given = false
-is_register first = false
-is_register second = false
-is_register last = false
 is_register held = true
+is_register _ = false
 
 -- `always @* begin first = given; second = first; end`
 abbrev both : (Net → ℕ) → (Net → ℕ)
@@ -74,10 +68,7 @@ chain = record {
 
 abbrev start : Environment Net
 start given = 1
-start first = 0
-start second = 0
-start last = 0
-start held = 0
+start _ = 0
 
 -- by computation: after one round the last signal has not its value yet, after two it has
 one_round : after_runs (runs_at chain (0 ∷ 1 ∷ [])) start last ≡ 0
@@ -152,11 +143,10 @@ abbrev ending_block : Block Net
 ending_block = record { targets = last ∷ []; run = ending }
 
 abbrev depth : Net → ℕ
-depth given = 0
 depth first = 1
 depth second = 2
 depth last = 3
-depth held = 0
+depth _ = 0
 
 both_leaves : (e : Environment Net) (s : Net) → (Contains (first ∷ second ∷ []) s → ⊥) →
     both e s ≡ e s

@@ -4,7 +4,7 @@ use Rattle.std.proofs.Common.{get_or, refl, sym, ap, subst, arith}
 use Rattle.std.specs.Prelude.{codes, if◌then◌else◌}
 use Rattle.std.proofs.lemmas.Bool.{ne_eqb}
 use Rattle.sv_token.specs.Bytes.{begin_with, is_blank, is_digit, begins_name}
-use Rattle.sv_token.specs.Fronts.{gap, unsupported}
+use Rattle.sv_token.specs.Fronts.{Front, gap, unsupported}
 use Rattle.sv_token.specs.Gaps.{rest_of_line, block_comment_at, directive_at}
 use Rattle.sv_token.specs.Numerals.{number_at, unsized_number_at}
 use Rattle.sv_token.specs.Signs.{sign_at}
@@ -31,45 +31,39 @@ unfolding front_at
 block_front [] some blank line block = absurd (omega arith)
 block_front (b ∷ bs) some blank line block = rw (blank, line, block) refl
 
+-- by the first byte alone
+first_front : (code : ℕ) (front : List ℕ → Front) (bytes : List ℕ)
+    → ((bs : List ℕ) → front_at code bs ≡ front bs) → get_or bytes 0 0 ≡ code
+    → front_at (get_or bytes 0 0) (drop 1 bytes) ≡ front (drop 1 bytes)
+first_front code front bytes row is =
+    subst (λ (d : ℕ). front_at d (drop 1 bytes) ≡ front (drop 1 bytes)) (sym is)
+    (row (drop 1 bytes))
+
 pub directive_front : (bytes : List ℕ) → 0 < length bytes → get_or bytes 0 0 ≡ 96 →
     front_at (get_or bytes 0 0) (drop 1 bytes) ≡ directive_at (drop 1 bytes)
 unfolding front_at
-directive_front [] some is = absurd (omega arith)
-directive_front (b ∷ bs) some is =
-    let P : ℕ → Type 0 = λ d. front_at d bs ≡ directive_at bs in
-    subst P (sym is) refl
+directive_front bytes some is = first_front 96 directive_at bytes (λ bs. refl) is
 
 pub escaped_front : (bytes : List ℕ) → 0 < length bytes → get_or bytes 0 0 ≡ 92 →
     front_at (get_or bytes 0 0) (drop 1 bytes) ≡ unsupported (codes "escaped-name")
 unfolding front_at
-escaped_front [] some is = absurd (omega arith)
-escaped_front (b ∷ bs) some is =
-    let P : ℕ → Type 0 = λ d. front_at d bs ≡ unsupported (codes "escaped-name") in
-    subst P (sym is) refl
+escaped_front bytes some is =
+    first_front 92 (λ bs. unsupported (codes "escaped-name")) bytes (λ bs. refl) is
 
 pub text_front : (bytes : List ℕ) → 0 < length bytes → get_or bytes 0 0 ≡ 34 →
     front_at (get_or bytes 0 0) (drop 1 bytes) ≡ unsupported (codes "string")
 unfolding front_at
-text_front [] some is = absurd (omega arith)
-text_front (b ∷ bs) some is =
-    let P : ℕ → Type 0 = λ d. front_at d bs ≡ unsupported (codes "string") in
-    subst P (sym is) refl
+text_front bytes some is = first_front 34 (λ bs. unsupported (codes "string")) bytes (λ bs. refl) is
 
 pub system_front : (bytes : List ℕ) → 0 < length bytes → get_or bytes 0 0 ≡ 36 →
     front_at (get_or bytes 0 0) (drop 1 bytes) ≡ system_name_at (drop 1 bytes)
 unfolding front_at
-system_front [] some is = absurd (omega arith)
-system_front (b ∷ bs) some is =
-    let P : ℕ → Type 0 = λ d. front_at d bs ≡ system_name_at bs in
-    subst P (sym is) refl
+system_front bytes some is = first_front 36 system_name_at bytes (λ bs. refl) is
 
 pub unsized_front : (bytes : List ℕ) → 0 < length bytes → get_or bytes 0 0 ≡ 39 →
     front_at (get_or bytes 0 0) (drop 1 bytes) ≡ unsized_number_at (drop 1 bytes)
 unfolding front_at
-unsized_front [] some is = absurd (omega arith)
-unsized_front (b ∷ bs) some is =
-    let P : ℕ → Type 0 = λ d. front_at d bs ≡ unsized_number_at bs in
-    subst P (sym is) refl
+unsized_front bytes some is = first_front 39 unsized_number_at bytes (λ bs. refl) is
 
 -- one byte that does not begin the bytes
 not_first : (code b : ℕ) (bs : List ℕ) → (b ≡ code → ⊥) → begin_with (code ∷ []) (b ∷ bs) ≡ false

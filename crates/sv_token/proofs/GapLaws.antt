@@ -1,5 +1,5 @@
 -- Comments and directives.
-use Rattle.std.proofs.Common.{◌≡◌, ℕ, zero, suc, ◌+◌, ◌<◌, ◌≤◌, Bool, true, false, List, [], ◌∷◌}
+use Rattle.std.proofs.Common.{◌≡◌, ℕ, zero, suc, ◌+◌, ◌-◌, ◌<◌, ◌≤◌, Bool, true, false, List, [], ◌∷◌}
 use Rattle.std.proofs.Common.{take, drop, length, get_or, Option, Some, None, refl, sym, ap, subst}
 use Rattle.std.proofs.Common.{◌∙◌, arith, ⊎_elim, length-drop, drop_of_length-le}
 use Rattle.std.specs.Prelude.{codes, option_map, if◌then◌else◌}
@@ -7,7 +7,7 @@ use Rattle.std.specs.List.{prefix_len, list_any}
 use Rattle.std.specs.Option.{option_map_or}
 use Rattle.std.specs.Str.{bytes_eq}
 use Rattle.std.proofs.lemmas.Bool.{cases_Bool, cond-true, cond-false}
-use Rattle.std.proofs.lemmas.List.{length-take}
+use Rattle.std.proofs.lemmas.List.{length-take, take_rest}
 use Rattle.std.proofs.lemmas.Slice.Eq.{bytes_eq-Decides}
 use Rattle.std.proofs.Math.Seq.{drop-cons}
 use Rattle.std.proofs.Math.Numerals.{add-one}
@@ -112,3 +112,14 @@ pub directive_is : (bytes rest : List ℕ) (n : ℕ) (t v : Bool) → rest ≡ d
 unfolding directive_at
 directive_is bytes rest n t v behind is skipped next =
     ap directive_at (sym behind) ∙ rw (skipped, next, is) refl
+
+-- where its line is not skipped
+pub directive_other : (bytes : List ℕ) (n : ℕ) (t v : Bool) →
+    n ≡ prefix_len continues_name (take (length bytes - 1) (drop 1 bytes)) →
+    t ≡ list_any (bytes_eq (take n (take (length bytes - 1) (drop 1 bytes)))) skipped_directives →
+    v ≡ next_is begins_name (take (length bytes - 1) (drop 1 bytes)) → t ≡ false →
+    directive_at (drop 1 bytes) ≡ (if v then unsupported (codes "directive") else bad_byte)
+directive_other bytes n t v is skipped next other =
+    let same = directive_is bytes (take (length bytes - 1) (drop 1 bytes)) n t v
+    (take_rest bytes 1) is skipped next in
+    rw other at same

@@ -2,20 +2,21 @@
 use Rattle.std.proofs.Common.{◌≡◌, ℕ, suc, ◌+◌, ◌-◌, ◌<◌, ◌≤◌, List, [], ◌∷◌, ◌++◌, take, drop}
 use Rattle.std.proofs.Common.{length, get_or, refl, sym, ap, subst, ◌∙◌, arith}
 use Rattle.std.proofs.Math.Seq.{take-add}
-use Rattle.std.proofs.lemmas.List.{drop-drop, drop_more, drop_all, length-drop}
+use Rattle.std.proofs.lemmas.List.{drop-drop, drop_more, drop_all, length-drop, take_rest}
 use Rattle.std.proofs.lemmas.List.Sums.{fold-append}
 use Rattle.sv_num.specs.declared.faults.Place.{Place}
 use Rattle.sv_num.specs.declared.faults.Fault.{Fault}
 use Rattle.sv_num.specs.declared.faults.Fault.TheVariants.{Rule, OutOfMemory}
 use Rattle.sv_num.specs.Faults.{Refuses}
 use Rattle.sv_token.specs.declared.fronts.Front.{Front as CodeFront}
+use Rattle.sv_token.specs.declared.fronts.Front.TheVariants as code_front
 use Rattle.sv_token.specs.Faults.{IsFaultOf}
 use Rattle.sv_token.specs.Views.{front_of}
 use Rattle.sv_token.proofs.WithinLaws.{IsWithin, front_within}
 use Rattle.sv_token.specs.declared.tokens.Token.{Token}
 use Rattle.sv_token.specs.declared.tokens.TokenKind.{TokenKind}
 use Rattle.sv_token.specs.declared.tokens.TokenKind.TheVariants as token_kind
-use Rattle.sv_token.specs.Fronts.{gap, token, broken}
+use Rattle.sv_token.specs.Fronts.{Front, gap, token, broken}
 use Rattle.sv_token.specs.Lexed.{Lexed, before, lexed_from, lexed}
 use Rattle.sv_token.specs.Lexemes.{Lexeme, Placed, lexeme_of, placed_of, placed_tokens, identifier}
 use Rattle.sv_token.specs.Spans.{IsAtSpan, AreInOrder}
@@ -184,44 +185,55 @@ in_order from (t ∷ ts) stop is = (is.0, is.1, in_order t.«end» ts stop is.2)
 pub start_read : (bytes : List ℕ) → IsRead bytes [] 0 first_place
 start_read bytes = refl
 
--- what the code finds at a position
-pub front_here : (bytes : List ℕ) (position : ℕ) (rest : List ℕ) (f : CodeFront) →
-    rest ≡ drop position bytes → position < length bytes →
-    front_of rest f ≡ front_at (get_or rest 0 0) (drop 1 rest) →
-    front_at (get_or bytes position 0) (drop (position + 1) bytes) ≡
-    front_of (drop position bytes) f
-front_here bytes position rest f same h is =
-    let P : List ℕ → Type 0 = λ r. front_of r f ≡ front_at (get_or r 0 0) (drop 1 r) in
-    sym (subst P same is
+-- what stands at a position
+abbrev pub Stands : List ℕ → ℕ → Front → Type 0
+Stands bytes position f = front_at (get_or bytes position 0) (drop (position + 1) bytes) ≡ f
+
+-- what the code finds at the front of the bytes, and at a position among them
+abbrev pub FoundIn : List ℕ → CodeFront → Type 0
+FoundIn rest f = front_of rest f ≡ front_at (get_or rest 0 0) (drop 1 rest)
+
+abbrev pub FoundAt : List ℕ → ℕ → CodeFront → Type 0
+FoundAt bytes position f = FoundIn (take (length bytes - position) (drop position bytes)) f
+
+pub front_here : (bytes : List ℕ) (position : ℕ) (f : CodeFront) → position < length bytes →
+    FoundAt bytes position f → Stands bytes position (front_of (drop position bytes) f)
+front_here bytes position f h is =
+    sym (subst (λ (r : List ℕ). FoundIn r f) (take_rest bytes position) is
     ∙ ap (λ (r : List ℕ). front_at (get_or r 0 0) (drop 1 r)) (split bytes position h))
 
-pub gap_fits : (bytes : List ℕ) (position n : ℕ) → position < length bytes →
-    front_at (get_or bytes position 0) (drop (position + 1) bytes) ≡ gap n →
-    position + n < length bytes
-gap_fits bytes position n h is =
+front_fits : (bytes : List ℕ) (position n : ℕ) (f : Front) →
+    (IsWithin (length (drop (position + 1) bytes)) f → n ≤ length (drop (position + 1) bytes)) →
+    position < length bytes → Stands bytes position f → position + n < length bytes
+front_fits bytes position n f count h is =
     let within : n ≤ length (drop (position + 1) bytes) =
-    subst (IsWithin (length (drop (position + 1) bytes))) is
-    (front_within (get_or bytes position 0) (drop (position + 1) bytes)) in
+    count (subst (IsWithin (length (drop (position + 1) bytes))) is
+    (front_within (get_or bytes position 0) (drop (position + 1) bytes))) in
     omega (arith, within, length-drop (position + 1) bytes)
 
-pub token_fits : (bytes : List ℕ) (position : ℕ) (lexeme : Lexeme) (n : ℕ) →
-    position < length bytes →
-    front_at (get_or bytes position 0) (drop (position + 1) bytes) ≡ token lexeme n →
-    position + n < length bytes
-token_fits bytes position lexeme n h is =
-    let within : n ≤ length (drop (position + 1) bytes) =
-    subst (IsWithin (length (drop (position + 1) bytes))) is
-    (front_within (get_or bytes position 0) (drop (position + 1) bytes)) in
-    omega (arith, within, length-drop (position + 1) bytes)
+-- a gap of the code stands there, and ends within the bytes
+pub gap_here : (bytes : List ℕ) (position : ℕ) (f : CodeFront) (n : ℕ) →
+    position < length bytes → FoundAt bytes position f → f ≡ code_front.Gap n →
+    Stands bytes position (gap n) × (position + n < length bytes)
+gap_here bytes position f n h is found =
+    let stands : Stands bytes position (gap n) =
+    subst (λ (g : CodeFront). Stands bytes position (front_of (drop position bytes) g)) found
+    (front_here bytes position f h is) in
+    (stands, front_fits bytes position n (gap n) (λ within. within) h stands)
 
--- a token of the code stands there
-pub token_here : (bytes : List ℕ) (position : ℕ) (kind : TokenKind) (n : ℕ) →
-    front_at (get_or bytes position 0) (drop (position + 1) bytes) ≡
-    token (lexeme_of (drop position bytes) kind 0 (n + 1)) n →
-    front_at (get_or bytes position 0) (drop (position + 1) bytes) ≡
-    token (lexeme_of bytes kind position (position + n + 1)) n
-token_here bytes position kind n is =
-    is ∙ ap (λ (l : Lexeme). token l n) (same_lexeme bytes kind position n)
+-- and so does a token
+pub token_here : (bytes : List ℕ) (position : ℕ) (f : CodeFront) (kind : TokenKind) (n : ℕ) →
+    position < length bytes → FoundAt bytes position f → f ≡ code_front.Token kind n →
+    Stands bytes position (token (lexeme_of bytes kind position (position + n + 1)) n)
+    × (position + n < length bytes)
+token_here bytes position f kind n h is found =
+    let first : Stands bytes position (token (lexeme_of (drop position bytes) kind 0 (n + 1)) n) =
+    subst (λ (g : CodeFront). Stands bytes position (front_of (drop position bytes) g)) found
+    (front_here bytes position f h is) in
+    let whole : Lexeme = lexeme_of bytes kind position (position + n + 1) in
+    let stands : Stands bytes position (token whole n) =
+    first ∙ ap (λ (l : Lexeme). token l n) (same_lexeme bytes kind position n) in
+    (stands, front_fits bytes position n (token whole n) (λ within. within) h stands)
 
 pub fault_is : (bytes : List ℕ) (fault : Fault) (number : ℕ) (place : Place)
     (names : List (List ℕ)) →

@@ -8,7 +8,7 @@ use Rattle.std.specs.Prelude.{nat_lt, nat_le, nat_eq, option_map, unwrap_or, if�
 use Rattle.std.specs.Prelude.{take_while}
 use Rattle.std.specs.Option.{option_map_or}
 use Rattle.std.proofs.lemmas.List.{take-append-drop, take_all, length-take, length-take-le}
-use Rattle.std.proofs.lemmas.List.{length-drop, drop-drop}
+use Rattle.std.proofs.lemmas.List.{length-drop, drop-drop, take_rest}
 use Rattle.std.proofs.lemmas.Bool.{cond-true, cond-false, ne_eqb, eq-eqb, lt-ltb, lt-leb, le-leb}
 use Rattle.std.proofs.lemmas.Bool.{and_from}
 use Rattle.std.proofs.lemmas.List.Folds.{length-prefix_len}
@@ -165,7 +165,7 @@ pub decimal_spoiled : (value more : ℕ) (rest : List ℕ) → begins_fraction r
     decimal_front value more rest ≡ bad_number
 decimal_spoiled value more rest whole spoiled = rw (whole, spoiled) refl
 
-pub decimal_large : (value more : ℕ) (rest : List ℕ) → begins_fraction rest ≡ false →
+decimal_large : (value more : ℕ) (rest : List ℕ) → begins_fraction rest ≡ false →
     2 ^ 32 ≤ value →
     decimal_front value more rest ≡ bad_number
 decimal_large value more rest whole large =
@@ -176,6 +176,16 @@ decimal_large value more rest whole large =
         else token (numeral (plain_literal value)) more) ≡ bad_number
     step true = refl
     step false = refl
+
+-- a plain decimal of the code that is no fraction and too large
+pub too_large : (bytes : List ℕ) (n : ℕ) (t : Bool) → 1 ≤ n → n ≤ length bytes →
+    t ≡ begins_fraction (take (length bytes - n) (drop n bytes)) → t ≡ false →
+    2 ^ 32 ≤ value_in 10 (take n bytes) →
+    decimal_at (get_or bytes 0 0) (take (n - 1) (drop 1 bytes)) (drop n bytes) ≡ bad_number
+too_large bytes n t some within is whole large =
+    decimal_is bytes n some within
+    ∙ decimal_large (value_in 10 (take n bytes)) (n - 1) (drop n bytes)
+    (ap begins_fraction (sym (take_rest bytes n)) ∙ sym is ∙ whole) large
 
 -- the value of a literal that has none
 pub no_value : (size : Option ℕ) (base : ℕ) (digits : List ℕ) → are_digits_in base digits ≡ false →
@@ -316,7 +326,7 @@ number_none bytes n some is none =
     option_map_or (based_at (drop 1 bytes) (Some (value_in 10 (take n bytes)))) o
     (decimal_at (get_or bytes 0 0) (take (n - 1) (drop 1 bytes)) (drop n bytes))) (sym none)
 
-pub number_some : (bytes : List ℕ) (n : ℕ) (head : CodeHead) → 0 < length bytes →
+number_some : (bytes : List ℕ) (n : ℕ) (head : CodeHead) → 0 < length bytes →
     n ≡ 1 + prefix_len continues_decimal (drop 1 bytes) →
     Some (head_behind (drop n bytes) 1 head) ≡ quoted_head_at (drop n bytes) →
     number_at (get_or bytes 0 0) (drop 1 bytes) ≡
@@ -327,6 +337,20 @@ number_some bytes n head some is found =
     option_map_or (based_at (drop 1 bytes) (Some (value_in 10 (take n bytes)))) o
     (decimal_at (get_or bytes 0 0) (take (n - 1) (drop 1 bytes)) (drop n bytes))) (sym found)
     ∙ ap (based_at (drop 1 bytes) (Some (value_in 10 (take n bytes)))) (head_moved bytes n head)
+
+-- as the code finds its length and the head
+pub number_sized : (bytes : List ℕ) (n : ℕ) (head : CodeHead) → 0 < length bytes →
+    n ≡ prefix_len continues_decimal (take (length bytes - 1) (drop 1 bytes)) →
+    Some (head_behind (take (length bytes - (1 + n)) (drop (1 + n) bytes)) 1 head) ≡
+    quoted_head_at (take (length bytes - (1 + n)) (drop (1 + n) bytes)) →
+    number_at (get_or bytes 0 0) (drop 1 bytes) ≡
+    based_at (drop 1 bytes) (Some (value_in 10 (take (1 + n) bytes)))
+    (head_behind bytes ((1 + n) + 1) head)
+number_sized bytes n head some is found =
+    number_some bytes (1 + n) head some
+    (ap (λ (k : ℕ). 1 + k) (is ∙ ap (prefix_len continues_decimal) (take_rest bytes 1)))
+    (subst (λ (bs : List ℕ). Some (head_behind bs 1 head) ≡ quoted_head_at bs)
+    (take_rest bytes (1 + n)) found)
 
 -- the digits that the code takes are those of the definition
 pub digits_are : (rest others : List ℕ) (n : ℕ) → rest ≡ others →

@@ -12,7 +12,6 @@ pub mod OperandEnds
 pub mod Named
 pub mod MRows
 pub mod Breaches
-pub mod FlatRows
 pub mod Wholes
 pub mod Folds
 pub mod Arms

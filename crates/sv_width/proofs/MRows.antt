@@ -1,5 +1,5 @@
 -- A vector of measured expressions, which stands in one as a row, has the plain forms of its items.
-use Rattle.std.proofs.Common.{◌≡◌, ℕ, Bool, List, [], ◌∷◌, ◌++◌, refl, sym, ap, subst, ◌∙◌}
+use Rattle.std.proofs.Common.{◌≡◌, ℕ, Bool, List, refl, sym, ap, subst, ◌∙◌}
 use Rattle.std.specs.declared.alloc.Global.{Global}
 use Rattle.std.specs.declared.vec.Vec.{Vec}
 use Rattle.sv_num.specs.declared.faults.Fault.{Fault}
@@ -9,7 +9,7 @@ use Rattle.sv_width.specs.declared.measured.Measured.{more_of-Measured, items-th
 use Rattle.sv_width.specs.declared.measured.Measured.{items_hidden-the_row-Measured-0}
 use Rattle.sv_width.specs.declared.measured.Measured.TheBlock.{hidden-the_row-Measured-0}
 use Rattle.sv_width.specs.Answers.{IsBreach}
-use Rattle.sv_width.specs.Measured.{MeasuredTree, MeasuredTrees, no_parts, more_parts}
+use Rattle.sv_width.specs.Measured.{MeasuredTrees, more_parts}
 use Rattle.sv_width.specs.Pushed.{divisors_of, divisors_in}
 use Rattle.sv_width.specs.Views.{measured_tree, measured_trees, row_parts, parts_of}
 
@@ -45,22 +45,3 @@ parts_refused e whole n s v es f is inside listed h =
     subst (λ (x : Measured). IsBreach (divisors_of (measured_tree x) n s).end f) (sym is)
     (subst (λ (w : Steps). IsBreach w.end f) (sym inside)
     (subst (λ (ts : MeasuredTrees). IsBreach (divisors_in ts).end f) (row_at v es listed) h))
-
--- some parts before others
-abbrev pub before : List MeasuredTree → MeasuredTrees → MeasuredTrees
-before [] rest = rest
-before (t ∷ ts) rest = more_parts t (before ts rest)
-
-pub before_push : (ts : List MeasuredTree) (t : MeasuredTree) (rest : MeasuredTrees) →
-    before (ts ++ t ∷ []) rest ≡ before ts (more_parts t rest)
-before_push [] t rest = refl
-before_push (u ∷ ts) t rest = ap (more_parts u) (before_push ts t rest)
-
-pub before_end : (ts : List MeasuredTree) → before ts no_parts ≡ parts_of ts
-before_end [] = refl
-before_end (t ∷ ts) = ap (more_parts t) (before_end ts)
-
-pub trees_push : (xs : List Measured) (x : Measured) →
-    measured_trees (xs ++ x ∷ []) ≡ measured_trees xs ++ measured_tree x ∷ []
-trees_push [] x = refl
-trees_push (y ∷ xs) x = ap (λ ts. measured_tree y ∷ ts) (trees_push xs x)

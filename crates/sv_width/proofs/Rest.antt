@@ -1,8 +1,9 @@
 -- The parts of a join or replication, one after another.
-use Rattle.std.proofs.Common.{◌≡◌, ℕ, zero, suc, ◌+◌, ◌<◌, ◌≤◌, List, [], ◌∷◌, length}
-use Rattle.std.proofs.Common.{get_or, drop, refl, sym, ap, ◌∙◌, add-one, drop-cons, arith}
+use Rattle.std.proofs.Common.{◌≡◌, ℕ, ◌+◌, ◌<◌, ◌≤◌, List, length, get_or, drop, sym, ap, ◌∙◌}
+use Rattle.std.proofs.lemmas.List.{at_drop_all}
 use Rattle.std.specs.declared.alloc.Global.{Global}
 use Rattle.std.specs.declared.vec.Vec.{Vec}
+use Rattle.sv_system.proofs.Fronts.{left_more}
 use Rattle.sv_ast.specs.declared.expressions.Expr.{Expr}
 use Rattle.sv_ast.specs.declared.expressions.Expr.TheBlock.{hidden-the_row-Expr-0}
 use Rattle.sv_ast.specs.Tree.{more_expressions, no_expressions}
@@ -20,15 +21,9 @@ pub parts_split : (xs : List Expr) (i : ℕ) (x : Expr) → i < length xs → x 
     → parts_of (expression_trees (drop i xs)) ≡
     more_expressions (expression_tree x) (parts_of (expression_trees (drop (i + 1) xs)))
 parts_split xs i x within is =
-    ap (λ es. parts_of (expression_trees es)) (drop-cons xs i x within)
-    ∙ ap (λ (e : Expr). more_expressions (expression_tree e)
-    (parts_of (expression_trees (drop (suc i) xs)))) (sym is)
-    ∙ ap (λ j. more_expressions (expression_tree x) (parts_of (expression_trees (drop j xs))))
-    (sym (add-one i))
+    ap (λ (es : List Expr). parts_of (expression_trees es)) (left_more xs i x within is)
 
 pub parts_done : (xs : List Expr) (i : ℕ) → length xs ≤ i →
     parts_of (expression_trees (drop i xs)) ≡ no_expressions
-parts_done [] zero h = refl
-parts_done [] (suc i) h = refl
-parts_done (x ∷ xs) zero h = absurd (omega arith)
-parts_done (x ∷ xs) (suc i) h = parts_done xs i (omega arith)
+parts_done xs i past =
+    at_drop_all (λ (es : List Expr). parts_of (expression_trees es)) xs i past

@@ -74,23 +74,24 @@ module _ (names : Names) (p : Place) (n : ℕ) (s : Bool) where
       (right_length (class_of op) n (length_of names.scope a) (length_of names.scope b))
       (right_signed (class_of op) s (signed_of names.scope a) (signed_of names.scope b))))
 
-  pub typed_division : (op : BinOp) (a b : ExpressionTree) → is_division op ≡ true
-      → typed_of names (binary op p a b) n s ≡ divided_form op a b
-  unfolding typed_of typed_parts
-  typed_division op a b h =
-      subst (λ (x : Bool). elim x as (λ y. TypedTree) [
+  typed_by_kind : (op : BinOp) (a b : ExpressionTree) (d : Bool) → is_division op ≡ d
+      → typed_of names (binary op p a b) n s ≡ elim d as (λ y. TypedTree) [
         | true ↦ divided_form op a b
         | false ↦ operated_form op a b
-      ] ≡ divided_form op a b) (sym h) refl
+      ]
+  unfolding typed_of typed_parts
+  typed_by_kind op a b d h = ap (λ (x : Bool). elim x as (λ y. TypedTree) [
+    | true ↦ divided_form op a b
+    | false ↦ operated_form op a b
+  ]) h
+
+  pub typed_division : (op : BinOp) (a b : ExpressionTree) → is_division op ≡ true
+      → typed_of names (binary op p a b) n s ≡ divided_form op a b
+  typed_division op a b h = typed_by_kind op a b true h
 
   pub typed_binary : (op : BinOp) (a b : ExpressionTree) → is_division op ≡ false
       → typed_of names (binary op p a b) n s ≡ operated_form op a b
-  unfolding typed_of typed_parts
-  typed_binary op a b h =
-      subst (λ (x : Bool). elim x as (λ y. TypedTree) [
-        | true ↦ divided_form op a b
-        | false ↦ operated_form op a b
-      ] ≡ operated_form op a b) (sym h) refl
+  typed_binary op a b h = typed_by_kind op a b false h
 
 abbrev HasType : TypedTree → ℕ → Bool → Type 0
 HasType t n s = (expression_width t ≡ n) × (expression_signed t ≡ s)

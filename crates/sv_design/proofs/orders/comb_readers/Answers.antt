@@ -1,12 +1,11 @@
-use Rattle.std.proofs.Common.{◌≡◌, ◌<◌, ◌&&◌, length, get_or, sym, ap, subst, ◌∙◌}
+use Rattle.std.proofs.Common.{◌<◌, ◌&&◌, sym, ap, subst, ◌∙◌}
 use Rattle.std.specs.Prelude.{Contains, filter}
 use Rattle.sv_flat.specs.Sets.{holds}
 use Rattle.sv_flat.proofs.Depths.{first_of}
 use Rattle.sv_flat.proofs.LeastSets.{holds-from_Contains, Contains-from_filter}
-use Rattle.sv_graph.specs.Graphs.{size, row}
 use Rattle.sv_graph.specs.Marks.{is_marked}
 use Rattle.sv_design.specs.Numbers.{numbers}
-use Rattle.sv_graph.proofs.GraphFacts.{row_is}
+use Rattle.sv_graph.proofs.GraphFacts.{row_reached}
 use Rattle.sv_design.proofs.ReaderFacts.{marked_within, reader_more}
 use Rattle.sv_design.proofs.orders.comb_readers.Goals as goal
 
@@ -14,13 +13,9 @@ pub combs_among-requires : goal.combs_among-requires
 combs_among-requires c = λ k at.
     let reads = c.args.reads.now in
     let reader = c.loop-reader.reader in
-    let v = c.row-item.result in
-    let items = c.deref-row-items.ensures.value in
-    let inside : reader < size reads =
-    subst (λ rows. reader < length rows) items c.loop-reader-test.true in
-    let is : numbers c.deref.result.now ≡ row reads reader =
-    ap numbers c.deref.ensures.value
-    ∙ row_is reads reader v inside (subst (λ rows. v ≡ get_or rows reader v) items c.row-item.is) in
+    let is = row_reached reads c.deref-row-items.result.now reader c.row-item.result
+    c.deref.result.now c.deref-row-items.ensures.value c.loop-reader-test.true c.row-item.is
+    c.deref.ensures.value in
     subst (λ n. k < n) (sym c.requires.size)
     (c.requires.whole reader k (ap (λ r. holds r k) (sym is)
     ∙ holds-from_Contains (numbers c.deref.result.now) k at))
@@ -40,14 +35,9 @@ loop-reader-preserved c =
     let combs = c.args.combs.now in
     let reads = c.args.reads.now in
     let reader = c.loop-reader.reader in
-    let v = c.row-item.result in
-    let items = c.deref-row-items.ensures.value in
-    let inside : reader < size reads =
-    subst (λ rows. reader < length rows) items c.loop-reader-test.true in
-    let is : numbers c.deref.result.now ≡ row reads reader =
-    ap numbers c.deref.ensures.value
-    ∙ row_is reads reader v inside
-    (subst (λ rows. v ≡ get_or rows reader v) items c.row-item.is) in (
+    let is = row_reached reads c.deref-row-items.result.now reader c.row-item.result
+    c.deref.result.now c.deref-row-items.ensures.value c.loop-reader-test.true c.row-item.is
+    c.deref.ensures.value in (
       c.in_ok-add_sources.ensures.size ∙ c.loop-reader.invariant.0,
       reader_more combs reads c.loop-reader.readers c.add_sources.new.self
           (numbers c.deref-in-loop-reader.result.now) reader c.loop-reader.invariant.1

@@ -1,35 +1,39 @@
-use Rattle.std.proofs.Common.{◌≡◌, ◌<◌, ◌&&◌, ◌==◌, ◌++◌, [], ◌∷◌, cond, false, length, get_or, sym}
-use Rattle.std.proofs.Common.{ap, ap₂, subst, ◌∙◌, arith}
+use Rattle.std.proofs.Common.{◌≡◌, ◌<◌, ◌&&◌, ◌==◌, ◌++◌, ℕ, List, [], ◌∷◌, Vec, Global, cond}
+use Rattle.std.proofs.Common.{false, length, sym, ap, ap₂, subst, ◌∙◌, arith}
 use Rattle.std.specs.Prelude.{filter}
 use Rattle.std.specs.List.{range_with_len}
 use Rattle.std.proofs.lemmas.List.{get_or_default}
-use Rattle.sv_graph.specs.Graphs.{size, row}
+use Rattle.sv_flat.specs.Design.{FlatDesign}
+use Rattle.sv_flat.specs.declared.signals.SigId.{SigId}
+use Rattle.sv_graph.specs.Graphs.{size}
 use Rattle.sv_graph.specs.Marks.{is_marked}
-use Rattle.sv_design.specs.Numbers.{numbers}
-use Rattle.sv_design.specs.Orders.{comb_count}
+use Rattle.sv_design.specs.declared.orders.Reads.{Reads}
+use Rattle.sv_design.specs.Orders.{AreReads, comb_count}
 use Rattle.sv_graph.proofs.ListFacts.{filter_more}
-use Rattle.sv_graph.proofs.GraphFacts.{row_is}
+use Rattle.sv_graph.proofs.GraphFacts.{row_reached}
 use Rattle.sv_design.proofs.QueueFacts.{reads_size, counts_more}
 use Rattle.sv_design.proofs.orders.first_queue.Goals as goal
 
+-- a row is that of a signal
+place_below : (design : FlatDesign) (reads : Reads) → AreReads design reads
+    → (rows : List (Vec SigId Global)) (s : ℕ) → rows ≡ reads.reads.rows.items → s < length rows
+    → s < length design.signals
+place_below design reads are rows s same inside =
+    subst (λ n. s < n) (reads_size design reads are)
+    (subst (λ (rs : List (Vec SigId Global)). s < length rs) same inside)
+
 pub index-requires : goal.index-requires
 index-requires c =
-    let are = c.requires.1 in
-    let reads = c.args.reads.now in
-    let inside : c.loop-s.s < size reads.reads =
-    subst (λ rows. c.loop-s.s < length rows) c.deref-row-items.ensures.value c.loop-s-test.true in
-    let count = reads_size c.requires.0 reads are in
-    let same = are.combs_are.0 in
+    let below = place_below c.requires.0 c.args.reads.now c.requires.1
+    c.deref-row-items.result.now c.loop-s.s c.deref-row-items.ensures.value c.loop-s-test.true in
+    let same = (c.requires.1).combs_are.0 in
     omega arith
 
 pub overflow_cast-s : goal.overflow_cast-s
 overflow_cast-s c =
-    let are = c.requires.1 in
-    let reads = c.args.reads.now in
-    let inside : c.loop-s.s < size reads.reads =
-    subst (λ rows. c.loop-s.s < length rows) c.deref-row-items.ensures.value c.loop-s-test.true in
-    let count = reads_size c.requires.0 reads are in
-    let few = are.few in
+    let below = place_below c.requires.0 c.args.reads.now c.requires.1
+    c.deref-row-items.result.now c.loop-s.s c.deref-row-items.ensures.value c.loop-s-test.true in
+    let few = (c.requires.1).few in
     omega arith
 
 pub loop-s-preserved : goal.loop-s-preserved
@@ -38,18 +42,16 @@ loop-s-preserved c =
     let reads = c.args.reads.now in
     let combs = reads.combs.items in
     let s = c.loop-s.s in
-    let v = c.row-item.result in
-    let items = c.deref-row-items.ensures.value in
-    let inside : s < size reads.reads =
-    subst (λ rows. s < length rows) items c.loop-s-test.true in
-    let is : numbers c.deref-in-loop-s.result.now ≡ row reads.reads s =
-    ap numbers c.deref-in-loop-s.ensures.value
-    ∙ row_is reads.reads s v inside (subst (λ rows. v ≡ get_or rows s v) items c.row-item.is) in
+    let rows = c.deref-row-items.result.now in
+    let below = place_below c.requires.0 reads are rows s c.deref-row-items.ensures.value
+    c.loop-s-test.true in
+    let is = row_reached reads.reads rows s c.row-item.result c.deref-in-loop-s.result.now
+    c.deref-row-items.ensures.value c.loop-s-test.true c.row-item.is
+    c.deref-in-loop-s.ensures.value in
     let count : c.comb_count_among-count.result ≡ comb_count reads s =
     c.comb_count_among-count.ensures
     ∙ ap₂ (λ cs r. length (filter (is_marked cs) r)) c.deref.ensures.value is in
-    let within : s < length combs =
-    subst (λ n. s < n) (reads_size c.requires.0 reads are ∙ sym (are.combs_are.0)) inside in
+    let within : s < length combs = subst (λ n. s < n) (sym (are.combs_are.0)) below in
     let marked : c.index.result.now ≡ is_marked combs s =
     c.index.ensures ∙ get_or_default combs s c.index.result.now false within in
     let counts = counts_more c.loop-s.counts.items c.push.new.self.items s

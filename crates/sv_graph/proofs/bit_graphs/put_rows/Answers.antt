@@ -2,29 +2,22 @@ use Rattle.std.proofs.Common.{List, ◌<◌, ◌+◌, ◌||◌, ℕ, length, get
 use Rattle.std.specs.List.{list_any}
 use Rattle.std.specs.Prelude.{Contains}
 use Rattle.std.proofs.lemmas.List.{get_or_default}
-use Rattle.std.proofs.lemmas.List.Elements.{Contains-get_or}
-use Rattle.sv_system.proofs.Lists.{Contains-map}
 use Rattle.sv_flat.specs.declared.signals.SigId.{SigId}
 use Rattle.sv_graph.specs.BitGraphs.{in_row, size, has_edge}
 use Rattle.sv_graph.specs.Numbers.{numbers}
 use Rattle.sv_graph.proofs.BitRows.{row_at}
 use Rattle.sv_graph.proofs.MarkFacts.{or_three}
 use Rattle.sv_graph.proofs.ListFacts.{any_more}
+use Rattle.sv_graph.proofs.SignalLists.{no_signal, number_among}
 use Rattle.sv_graph.proofs.bit_graphs.put_rows.Goals as goal
-
-no_signal : SigId
-no_signal = record { 0 = 0 }
 
 -- the signal is one of those asked for
 known : (signals : List SigId) (i n : ℕ) → i < length signals
     → ((m : ℕ) → Contains (numbers signals) m → m < n) → (get_or signals i no_signal).0 < n
 known signals i n inside all =
-    let signal = get_or signals i no_signal in
-    all signal.0 (Contains-map (λ (s : SigId). s.0) signals signal
-    (Contains-get_or signals i no_signal inside))
+    all (get_or signals i no_signal).0 (number_among signals i inside)
 
 pub index-requires : goal.index-requires
-unfolding no_signal
 index-requires c =
     let graph = c.args.graph.now in
     let signals = c.args.signals.now in
@@ -33,7 +26,6 @@ index-requires c =
     (known signals i (size graph) c.loop-signal-test.true c.requires.signals)
 
 pub put_row-requires : goal.put_row-requires
-unfolding no_signal
 put_row-requires c =
     let graph = c.args.graph.now in
     let signals = c.args.signals.now in
@@ -45,7 +37,6 @@ put_row-requires c =
     ∙ sym (c.loop-signal.invariant.0 ∙ c.requires.size)
 
 pub loop-signal-preserved : goal.loop-signal-preserved
-unfolding no_signal
 loop-signal-preserved c =
     let graph = c.args.graph.now in
     let signals = c.args.signals.now in

@@ -1,20 +1,16 @@
 use Rattle.std.proofs.Common.{◌≡◌, ◌<◌, ℕ, Bool, false, ◌&&◌, nat_le, get_or, refl, sym, subst}
 use Rattle.std.proofs.Common.{arith}
-use Rattle.std.proofs.lemmas.List.Elements.{Contains-get_or}
 use Rattle.std.proofs.lemmas.List.{take_all}
 use Rattle.std.proofs.Math.ListN.{length-map}
-use Rattle.sv_system.proofs.Lists.{Contains-map, Contains-nil}
-use Rattle.sv_flat.specs.declared.signals.SigId.{SigId}
+use Rattle.sv_system.proofs.Lists.{Contains-nil}
 use Rattle.sv_graph.specs.declared.graphs.Graph.{Graph}
 use Rattle.sv_graph.specs.declared.searches.Visit.{Visit}
 use Rattle.sv_graph.specs.Graphs.{size, has_edge}
 use Rattle.sv_graph.specs.Numbers.{numbers}
 use Rattle.sv_graph.specs.Searches.{SearchesBy}
 use Rattle.sv_graph.proofs.SearchFacts.{Begins, begin_more, search_end, not_full}
+use Rattle.sv_graph.proofs.SignalLists.{no_signal, number_among}
 use Rattle.sv_graph.proofs.searches.search_from.Goals as goal
-
-no_signal : SigId
-no_signal = record { 0 = 0 }
 
 abbrev edges : Graph → (least : ℕ) → ℕ → ℕ → Bool
 edges graph least a b = has_edge graph a b && nat_le least b
@@ -28,18 +24,14 @@ loop-start-init c = λ brings. (
 )
 
 pub visit-requires : goal.visit-requires
-unfolding no_signal
 visit-requires c =
     let starts = c.args.starts.now in
     let x = get_or starts c.loop-start.start-index no_signal in
-    let member = Contains-map (λ (s : SigId).
-    s.0) starts x (Contains-get_or starts c.loop-start.start-index no_signal
-    c.loop-start-test.true) in
+    let member = number_among starts c.loop-start.start-index c.loop-start-test.true in
     subst (λ n. x.0 < n) (sym (c.loop-start.invariant (λ a b. false)).0.size)
     (c.requires.starts x.0 member)
 
 pub loop-start-preserved : goal.loop-start-preserved
-unfolding no_signal
 loop-start-preserved c = λ brings.
     begin_more c.args.graph.now brings c.args.starts.now c.loop-start.search c.visit.new.self
     c.loop-start.start-index no_signal

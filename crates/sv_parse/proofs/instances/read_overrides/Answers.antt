@@ -6,7 +6,7 @@ use Rattle.std.proofs.Common.{[], ◌∷◌, refl}
 use Rattle.sv_parse_machine.specs.Symbols.{punctuation, overrides, perhaps_overrides}
 use Rattle.sv_parse_machine.proofs.ReadSteps.{reads_then}
 use Rattle.sv_parse_machine.proofs.ReadRows.{sign_taken}
-use Rattle.sv_parse_machine.proofs.SkippedRows.{skips_perhaps_overrides}
+use Rattle.sv_parse_machine.proofs.SkippedRows.{skips_symbol}
 use Rattle.sv_parse_expr.proofs.Halting.{passed, stops_then}
 use Rattle.sv_token.specs.declared.signs.SignKind.TheVariants as signs
 use Rattle.sv_parse.proofs.DeclarationRuns.{and_read, and_stop, front_stop}
@@ -61,4 +61,4 @@ returns-in-Some-clause-reads c =
 
 pub returns-clause-reads : goal.returns-clause-reads
 returns-clause-reads c =
-    (skips_perhaps_overrides _ (c.in_default.ensures.none c.args.input.bytes.now))
+    (skips_symbol perhaps_overrides tt _ (c.in_default.ensures.none c.args.input.bytes.now))

@@ -3,7 +3,7 @@ use Rattle.std.proofs.Common.{[], ◌∷◌, refl}
 use Rattle.sv_parse_machine.specs.Symbols.{outer, plain_number, perhaps_second_key}
 use Rattle.sv_parse_machine.proofs.ReadSteps.{reads_then}
 use Rattle.sv_parse_machine.proofs.ReadRows.{sign_taken}
-use Rattle.sv_parse_machine.proofs.SkippedRows.{skips_perhaps_second_key}
+use Rattle.sv_parse_machine.proofs.SkippedRows.{skips_symbol}
 use Rattle.sv_parse_expr.proofs.Halting.{passed, stops_then}
 use Rattle.sv_token.specs.declared.signs.SignKind.TheVariants as signs
 use Rattle.sv_parse.proofs.label_maps.read_second_key.Goals as goal
@@ -34,4 +34,4 @@ returns-in_ok-value-in-Some-clause-reads c = λ bytes.
 
 pub returns-in-None-clause-reads : goal.returns-in-None-clause-reads
 returns-in-None-clause-reads c = λ bytes.
-    (skips_perhaps_second_key _ (c.in-None.ensures.none bytes))
+    (skips_symbol perhaps_second_key tt _ (c.in-None.ensures.none bytes))

@@ -4,7 +4,7 @@ use Rattle.std.proofs.Common.{[], ◌∷◌, refl}
 use Rattle.sv_parse_machine.specs.Symbols.{outer, punctuation, plain_number, perhaps_key_range}
 use Rattle.sv_parse_machine.proofs.ReadSteps.{reads_then}
 use Rattle.sv_parse_machine.proofs.ReadRows.{sign_taken}
-use Rattle.sv_parse_machine.proofs.SkippedRows.{skips_perhaps_key_range}
+use Rattle.sv_parse_machine.proofs.SkippedRows.{skips_symbol}
 use Rattle.sv_parse_expr.proofs.Halting.{passed, stops_then}
 use Rattle.sv_parse.proofs.ReadingItems.{key_range_is}
 use Rattle.sv_token.specs.declared.signs.SignKind.TheVariants as signs
@@ -40,4 +40,4 @@ returns-in_ok-range-in-Some-clause-reads c = λ bytes.
 
 pub returns-in-None-clause-reads : goal.returns-in-None-clause-reads
 returns-in-None-clause-reads c = λ bytes.
-    (skips_perhaps_key_range _ (c.in-None.ensures.none bytes))
+    (skips_symbol perhaps_key_range tt _ (c.in-None.ensures.none bytes))

@@ -1,4 +1,5 @@
-use Rattle.sv_parse_machine.proofs.SkippedRows.{skips_perhaps_lattice}
+use Rattle.sv_parse_machine.specs.Symbols.{perhaps_lattice}
+use Rattle.sv_parse_machine.proofs.SkippedRows.{skips_symbol}
 use Rattle.sv_parse_expr.proofs.Halting.{passed}
 use Rattle.sv_parse.proofs.ReadingSymbols.{word_is_next}
 use Rattle.sv_token.specs.declared.keywords.WordKind.TheVariants as words
@@ -17,4 +18,4 @@ returns-in_ok-lattice-in-Some-clause-reads c =
 
 pub returns-in-None-clause-reads : goal.returns-in-None-clause-reads
 returns-in-None-clause-reads c =
-    (skips_perhaps_lattice _ (c.in-None.ensures.none c.args.input.bytes.now))
+    (skips_symbol perhaps_lattice tt _ (c.in-None.ensures.none c.args.input.bytes.now))

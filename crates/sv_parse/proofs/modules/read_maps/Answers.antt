@@ -1,7 +1,7 @@
 use Rattle.std.proofs.Common.{[], ◌∷◌}
 use Rattle.sv_parse_machine.specs.Symbols.{outer, perhaps_maps}
 use Rattle.sv_parse_machine.proofs.ReadSteps.{reads_then}
-use Rattle.sv_parse_machine.proofs.SkippedRows.{skips_perhaps_maps}
+use Rattle.sv_parse_machine.proofs.SkippedRows.{skips_symbol}
 use Rattle.sv_parse_expr.proofs.Halting.{passed, stops_then}
 use Rattle.sv_parse.proofs.ReadingSymbols.{word_is_next}
 use Rattle.sv_parse.proofs.ReadingItems.{each_end, pushed_each}
@@ -17,7 +17,7 @@ pub returns-clause-reads : goal.returns-clause-reads
 returns-clause-reads c =
     reads_then (outer perhaps_maps ∷ []) (outer perhaps_maps ∷ []) [] _ _ _
     c.loop-maps.invariant.reads
-    (skips_perhaps_maps _ (c.in_default.ensures.none c.args.input.bytes.now))
+    (skips_symbol perhaps_maps tt _ (c.in_default.ensures.none c.args.input.bytes.now))
 
 pub returns-in_err-map-clause-halts : goal.returns-in_err-map-clause-halts
 returns-in_err-map-clause-halts c =

@@ -2,7 +2,8 @@ use Rattle.std.proofs.Common.{[], ◌∷◌, refl}
 use Rattle.sv_parse_machine.specs.Symbols.{outer, punctuation}
 use Rattle.sv_parse_machine.specs.Symbols.{header_parameter, more_header_parameters}
 use Rattle.sv_parse_machine.proofs.ReadSteps.{reads_then}
-use Rattle.sv_parse_machine.proofs.SkippedRows.{skips_perhaps_header_parameters}
+use Rattle.sv_parse_machine.specs.Symbols.{perhaps_header_parameters}
+use Rattle.sv_parse_machine.proofs.SkippedRows.{skips_symbol}
 use Rattle.sv_parse_expr.proofs.Halting.{passed, stops_then}
 use Rattle.sv_token.specs.declared.signs.SignKind.TheVariants as signs
 use Rattle.std.proofs.Common.{inr}
@@ -46,7 +47,7 @@ returns-in_ok-rest-in-Some-2-clause-reads c =
 
 pub returns-in-None-clause-reads : goal.returns-in-None-clause-reads
 returns-in-None-clause-reads c =
-    (skips_perhaps_header_parameters _ (c.in-None.ensures.none c.args.input.bytes.now))
+    (skips_symbol perhaps_header_parameters tt _ (c.in-None.ensures.none c.args.input.bytes.now))
 
 pub returns-in_ok-rest-in-Some-2-clause-is : goal.returns-in_ok-rest-in-Some-2-clause-is
 returns-in_ok-rest-in-Some-2-clause-is c =

@@ -2,7 +2,7 @@ use Rattle.std.proofs.Common.{[], ◌∷◌, refl}
 use Rattle.sv_parse_machine.specs.Symbols.{outer, perhaps_ports, ports}
 use Rattle.sv_parse_machine.proofs.ReadSteps.{reads_then}
 use Rattle.sv_parse_machine.proofs.ReadRows.{sign_taken}
-use Rattle.sv_parse_machine.proofs.SkippedRows.{skips_perhaps_ports}
+use Rattle.sv_parse_machine.proofs.SkippedRows.{skips_symbol}
 use Rattle.sv_parse_expr.proofs.Halting.{passed, stops_then}
 use Rattle.sv_parse.proofs.ReadingItems.{port_list_is}
 use Rattle.sv_token.specs.declared.signs.SignKind.TheVariants as signs
@@ -25,7 +25,7 @@ returns-in_ok-ports-in-Some-clause-reads c =
 
 pub returns-in-None-clause-reads : goal.returns-in-None-clause-reads
 returns-in-None-clause-reads c =
-    (skips_perhaps_ports _ (c.in-None.ensures.none c.args.input.bytes.now))
+    (skips_symbol perhaps_ports tt _ (c.in-None.ensures.none c.args.input.bytes.now))
 
 pub returns-in_ok-ports-in-Some-clause-is : goal.returns-in_ok-ports-in-Some-clause-is
 returns-in_ok-ports-in-Some-clause-is c =

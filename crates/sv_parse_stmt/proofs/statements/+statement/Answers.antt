@@ -14,7 +14,7 @@ use Rattle.sv_parse_machine.specs.Symbols.{outer, statement, statements, perhaps
 use Rattle.sv_parse_machine.specs.Symbols.{arms}
 use Rattle.sv_parse_machine.proofs.ReadSteps.{reads_then}
 use Rattle.sv_parse_machine.proofs.ReadRows.{word_taken}
-use Rattle.sv_parse_machine.proofs.SkippedRows.{skips_perhaps_else}
+use Rattle.sv_parse_machine.proofs.SkippedRows.{skips_symbol}
 use Rattle.sv_parse_expr.proofs.Halting.{passed, stops_then}
 use Rattle.sv_parse_expr.proofs.ReadingRuns.{then_read, then_stop}
 use Rattle.sv_parse_stmt.proofs.SymbolsAlike.{one_statement, word_is_there}
@@ -153,7 +153,8 @@ read_conditional-returns-in_default-clause-reads t c =
     (if_first c.args.levels _ _ _ _ _ c.in_ok-inside.ensures.is c.in_ok-inside.ensures.within
     (word_is _ _ _ _ (c.in_ok-place.ensures.is c.args.input.bytes.now)) c.in_ok-cond.ensures.reads
     c.in_ok-yes.ensures.reads)
-    (skips_perhaps_else c.in_ok-inside.inside _ (c.in_default.ensures.none c.args.input.bytes.now))
+    (skips_symbol (perhaps_else c.in_ok-inside.inside) tt _
+    (c.in_default.ensures.none c.args.input.bytes.now))
 
 pub read_conditional-returns-in_err-no-clause-halts :
     goal.read_conditional-returns-in_err-no-clause-halts

@@ -4,7 +4,7 @@ use Rattle.sv_token.specs.declared.signs.SignKind.TheVariants as signs
 use Rattle.sv_parse_machine.specs.Symbols.{outer, expression, perhaps_bits, bits_end}
 use Rattle.sv_parse_machine.proofs.ReadSteps.{reads_then}
 use Rattle.sv_parse_machine.proofs.ReadRows.{sign_taken}
-use Rattle.sv_parse_machine.proofs.SkippedRows.{skips_perhaps_bits}
+use Rattle.sv_parse_machine.proofs.SkippedRows.{skips_symbol}
 use Rattle.sv_parse_expr.proofs.Halting.{passed, stops_then}
 use Rattle.sv_parse_expr.proofs.ReadingRuns.{then_stop}
 use Rattle.sv_parse_stmt.proofs.SymbolsAlike.{bits_begun}
@@ -42,7 +42,7 @@ returns-clause-is c =
 
 pub returns-in_default-clause-reads : goal.returns-in_default-clause-reads
 returns-in_default-clause-reads c =
-    skips_perhaps_bits c.args.levels _ (c.in_default.ensures.none c.args.input.bytes.now)
+    skips_symbol (perhaps_bits c.args.levels) tt _ (c.in_default.ensures.none c.args.input.bytes.now)
 
 pub returns-in_err-first-clause-halts : goal.returns-in_err-first-clause-halts
 returns-in_err-first-clause-halts c =

@@ -4,7 +4,7 @@ use Rattle.sv_flat.specs.ByNumber.{signal_forms}
 use Rattle.sv_flat.specs.Design.{TypedTree, typed, read}
 use Rattle.sv_flat.specs.Values.{signal_of, signal_width}
 use Rattle.sv_flat.specs.Views.{signal_form, piece_form, typed_tree}
-use Rattle.sv_rules.proofs.Sound.{no_piece}
+use Rattle.sv_flat.proofs.NumberedRuns.{no_piece}
 use Rattle.sv_obl.specs.Views.{piece_forms}
 use Rattle.sv_obl.specs.Wanted.{with_piece_put, put_value}
 use Rattle.sv_paths.proofs.ExchangeFacts.{words_at}

@@ -2,11 +2,11 @@ use Rattle.std.proofs.Common.{◌≡◌, ◌<◌, length, map, get_or, refl, ap,
 use Rattle.std.proofs.Math.ListN.{length-map}
 use Rattle.std.proofs.lemmas.List.{at_drop_all}
 use Rattle.sv_flat.specs.ByNumber.{signal_forms}
-use Rattle.sv_flat.specs.Readings.{reads, readings_of}
+use Rattle.sv_flat.specs.Readings.{reads, reading_of, readings_of}
 use Rattle.sv_flat.specs.Views.{design_of, signal_form, typed_tree}
 use Rattle.sv_rules.specs.ReadForms.{read_forms}
 use Rattle.sv_rules.specs.Surroundings.{in_surrounding}
-use Rattle.sv_rules.proofs.PhaseFacts.{no_read, name_is_signal, name_more, reads_end, reading_of}
+use Rattle.sv_rules.proofs.PhaseFacts.{no_read, name_is_signal, name_more, reads_end}
 use Rattle.sv_rules.proofs.blocks.wrong_in.Goals as goal
 
 pub is_wrong-wrong-requires-clause-known : goal.is_wrong-wrong-requires-clause-known

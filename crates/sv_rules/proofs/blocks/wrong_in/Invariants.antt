@@ -1,9 +1,9 @@
 use Rattle.std.proofs.Common.{ℕ, Bool, drop, map}
-use Rattle.sv_flat.specs.Readings.{readings_of}
+use Rattle.sv_flat.specs.Readings.{reading_of, readings_of}
 use Rattle.sv_flat.specs.Views.{design_of, typed_tree}
 use Rattle.sv_rules.specs.ReadForms.{read_forms}
 use Rattle.sv_rules.specs.Surroundings.{in_surrounding}
-use Rattle.sv_rules.proofs.PhaseFacts.{ReadsSoFar, reading_of}
+use Rattle.sv_rules.proofs.PhaseFacts.{ReadsSoFar}
 use Rattle.sv_rules.proofs.blocks.wrong_in.Given as goal
 
 -- the names so far, and those that are left

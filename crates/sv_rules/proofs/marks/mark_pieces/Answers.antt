@@ -3,7 +3,8 @@ use Rattle.std.proofs.lemmas.List.{at_drop_all}
 use Rattle.sv_rules.specs.Pieces.{piece_forms}
 use Rattle.sv_rules.specs.DriverTables.{assigned_in}
 use Rattle.sv_graph.proofs.MarkFacts.{marks_more, marks_end}
-use Rattle.sv_rules.proofs.Sound.{no_piece, piece_at, targets_first, targets_rest}
+use Rattle.sv_flat.proofs.NumberedRuns.{no_piece}
+use Rattle.sv_rules.proofs.Sound.{piece_at, targets_first, targets_rest}
 use Rattle.sv_rules.proofs.marks.mark_pieces.Goals as goal
 
 pub loop-piece-init : goal.loop-piece-init

@@ -5,7 +5,8 @@ use Rattle.sv_flat.specs.Views.{piece_form}
 use Rattle.sv_graph.specs.BitSets.{in_bits}
 use Rattle.sv_rules.specs.Pieces.{piece_forms}
 use Rattle.sv_rules.proofs.PieceFacts.{ordered_first, ordered_rest, piece_added}
-use Rattle.sv_rules.proofs.Sound.{no_piece, piece_at}
+use Rattle.sv_flat.proofs.NumberedRuns.{no_piece}
+use Rattle.sv_rules.proofs.Sound.{piece_at}
 use Rattle.sv_rules.proofs.pieces.add_pieces.Goals as goal
 
 pub mask-requires-clause-ordered : goal.mask-requires-clause-ordered

@@ -1,99 +1,58 @@
 use Rattle.std.proofs.Common.{◌+◌, arith}
-use Rattle.std.proofs.lemmas.List.{take_rest}
 use Rattle.std.proofs.lemmas.List.Elements.{All-push}
 use Rattle.sv_token.specs.Lexemes.{lexeme_of, placed_tokens}
 use Rattle.sv_token.specs.Spans.{IsAtSpan, IsAtPlace}
 use Rattle.sv_token.specs.Views.{rule_number, rule_names}
-use Rattle.sv_token.proofs.LexLaws.{front_here, gap_fits, token_fits, token_here, read_gap}
+use Rattle.sv_token.proofs.LexLaws.{front_here, gap_here, token_here, read_gap}
 use Rattle.sv_token.proofs.LexLaws.{read_token, read_break, read_all, at_span, placed_push}
 use Rattle.sv_token.proofs.LexLaws.{order_push, order_later, in_order, fault_is, place_later}
 use Rattle.sv_token.proofs.lexer.lex.Goals as goal
 
 pub behind-here-requires-clause-within : goal.behind-here-requires-clause-within
 behind-here-requires-clause-within c =
-    let is = front_here c.args.bytes.now c.loop-here.here.position _ c.front_at.result
-    (take_rest c.args.bytes.now c.loop-here.here.position) c.loop-here-test.true
-    c.front_at.ensures in
-    let gap_is = rw c.in-Gap.is at is in
-    let fits = gap_fits c.args.bytes.now c.loop-here.here.position c.in-Gap.more
-    c.loop-here-test.true gap_is in
-    omega (arith, fits)
+    let here = gap_here c.args.bytes.now c.loop-here.here.position c.front_at.result c.in-Gap.more
+    c.loop-here-test.true c.front_at.ensures c.in-Gap.is in
+    omega (arith, here.1)
 
 pub behind-next-requires-clause-within : goal.behind-next-requires-clause-within
 behind-next-requires-clause-within c =
-    let is = front_here c.args.bytes.now c.loop-here.here.position _ c.front_at.result
-    (take_rest c.args.bytes.now c.loop-here.here.position) c.loop-here-test.true
-    c.front_at.ensures in
-    let found = rw c.in-Token.is at is in
-    let token_is = token_here c.args.bytes.now c.loop-here.here.position c.in-Token.kind
-    c.in-Token.more found in
-    let fits = token_fits c.args.bytes.now c.loop-here.here.position
-    (lexeme_of c.args.bytes.now c.in-Token.kind c.loop-here.here.position
-    (c.loop-here.here.position + c.in-Token.more + 1)) c.in-Token.more c.loop-here-test.true
-    token_is in
-    omega (arith, fits)
+    let here = token_here c.args.bytes.now c.loop-here.here.position c.front_at.result
+    c.in-Token.kind c.in-Token.more c.loop-here-test.true c.front_at.ensures c.in-Token.is in
+    omega (arith, here.1)
 
 pub behind-here-requires-clause-line : goal.behind-here-requires-clause-line
 behind-here-requires-clause-line c =
-    let is = front_here c.args.bytes.now c.loop-here.here.position _ c.front_at.result
-    (take_rest c.args.bytes.now c.loop-here.here.position) c.loop-here-test.true
-    c.front_at.ensures in
-    let gap_is = rw c.in-Gap.is at is in
-    let fits = gap_fits c.args.bytes.now c.loop-here.here.position c.in-Gap.more
-    c.loop-here-test.true gap_is in
-    omega (arith, fits, c.loop-here.invariant.line)
+    let here = gap_here c.args.bytes.now c.loop-here.here.position c.front_at.result c.in-Gap.more
+    c.loop-here-test.true c.front_at.ensures c.in-Gap.is in
+    omega (arith, here.1, c.loop-here.invariant.line)
 
 pub behind-next-requires-clause-line : goal.behind-next-requires-clause-line
 behind-next-requires-clause-line c =
-    let is = front_here c.args.bytes.now c.loop-here.here.position _ c.front_at.result
-    (take_rest c.args.bytes.now c.loop-here.here.position) c.loop-here-test.true
-    c.front_at.ensures in
-    let found = rw c.in-Token.is at is in
-    let token_is = token_here c.args.bytes.now c.loop-here.here.position c.in-Token.kind
-    c.in-Token.more found in
-    let fits = token_fits c.args.bytes.now c.loop-here.here.position
-    (lexeme_of c.args.bytes.now c.in-Token.kind c.loop-here.here.position
-    (c.loop-here.here.position + c.in-Token.more + 1)) c.in-Token.more c.loop-here-test.true
-    token_is in
-    omega (arith, fits, c.loop-here.invariant.line)
+    let here = token_here c.args.bytes.now c.loop-here.here.position c.front_at.result
+    c.in-Token.kind c.in-Token.more c.loop-here-test.true c.front_at.ensures c.in-Token.is in
+    omega (arith, here.1, c.loop-here.invariant.line)
 
 pub behind-here-requires-clause-column : goal.behind-here-requires-clause-column
 behind-here-requires-clause-column c =
-    let is = front_here c.args.bytes.now c.loop-here.here.position _ c.front_at.result
-    (take_rest c.args.bytes.now c.loop-here.here.position) c.loop-here-test.true
-    c.front_at.ensures in
-    let gap_is = rw c.in-Gap.is at is in
-    let fits = gap_fits c.args.bytes.now c.loop-here.here.position c.in-Gap.more
-    c.loop-here-test.true gap_is in
-    omega (arith, fits, c.loop-here.invariant.column)
+    let here = gap_here c.args.bytes.now c.loop-here.here.position c.front_at.result c.in-Gap.more
+    c.loop-here-test.true c.front_at.ensures c.in-Gap.is in
+    omega (arith, here.1, c.loop-here.invariant.column)
 
 pub behind-next-requires-clause-column : goal.behind-next-requires-clause-column
 behind-next-requires-clause-column c =
-    let is = front_here c.args.bytes.now c.loop-here.here.position _ c.front_at.result
-    (take_rest c.args.bytes.now c.loop-here.here.position) c.loop-here-test.true
-    c.front_at.ensures in
-    let found = rw c.in-Token.is at is in
-    let token_is = token_here c.args.bytes.now c.loop-here.here.position c.in-Token.kind
-    c.in-Token.more found in
-    let fits = token_fits c.args.bytes.now c.loop-here.here.position
-    (lexeme_of c.args.bytes.now c.in-Token.kind c.loop-here.here.position
-    (c.loop-here.here.position + c.in-Token.more + 1)) c.in-Token.more c.loop-here-test.true
-    token_is in
-    omega (arith, fits, c.loop-here.invariant.column)
+    let here = token_here c.args.bytes.now c.loop-here.here.position c.front_at.result
+    c.in-Token.kind c.in-Token.more c.loop-here-test.true c.front_at.ensures c.in-Token.is in
+    omega (arith, here.1, c.loop-here.invariant.column)
 
 pub loop-here-preserved-in-Gap : goal.loop-here-preserved-in-Gap
 loop-here-preserved-in-Gap c =
-    let is = front_here c.args.bytes.now c.loop-here.here.position _ c.front_at.result
-    (take_rest c.args.bytes.now c.loop-here.here.position) c.loop-here-test.true
-    c.front_at.ensures in
-    let gap_is = rw c.in-Gap.is at is in
-    let fits = gap_fits c.args.bytes.now c.loop-here.here.position c.in-Gap.more
-    c.loop-here-test.true gap_is in
+    let here = gap_here c.args.bytes.now c.loop-here.here.position c.front_at.result c.in-Gap.more
+    c.loop-here-test.true c.front_at.ensures c.in-Gap.is in
     let next = read_gap c.args.bytes.now (placed_tokens c.args.bytes.now c.loop-here.tokens.items)
-    c.loop-here.here.position c.loop-here.here.place c.in-Gap.more c.loop-here-test.true gap_is
+    c.loop-here.here.position c.loop-here.here.place c.in-Gap.more c.loop-here-test.true here.0
     c.loop-here.invariant.read in
     record {
-      within = omega (arith, fits, c.behind-here.ensures.position);
+      within = omega (arith, here.1, c.behind-here.ensures.position);
       line =
           omega (
             arith,
@@ -123,25 +82,17 @@ loop-here-preserved-in-Gap c =
 
 pub loop-here-preserved : goal.loop-here-preserved
 loop-here-preserved c =
-    let is = front_here c.args.bytes.now c.loop-here.here.position _ c.front_at.result
-    (take_rest c.args.bytes.now c.loop-here.here.position) c.loop-here-test.true
-    c.front_at.ensures in
-    let found = rw c.in-Token.is at is in
-    let token_is = token_here c.args.bytes.now c.loop-here.here.position c.in-Token.kind
-    c.in-Token.more found in
-    let fits = token_fits c.args.bytes.now c.loop-here.here.position
-    (lexeme_of c.args.bytes.now c.in-Token.kind c.loop-here.here.position
-    (c.loop-here.here.position + c.in-Token.more + 1)) c.in-Token.more c.loop-here-test.true
-    token_is in
+    let here = token_here c.args.bytes.now c.loop-here.here.position c.front_at.result
+    c.in-Token.kind c.in-Token.more c.loop-here-test.true c.front_at.ensures c.in-Token.is in
     let next = read_token c.args.bytes.now (placed_tokens c.args.bytes.now c.loop-here.tokens.items)
     c.loop-here.here.position c.loop-here.here.place
     (lexeme_of c.args.bytes.now c.in-Token.kind c.loop-here.here.position
     (c.loop-here.here.position + c.in-Token.more + 1)) c.in-Token.more c.loop-here-test.true
-    token_is c.loop-here.invariant.read in
+    here.0 c.loop-here.invariant.read in
     let spanned = at_span c.args.bytes.now c.in-Token.kind c.loop-here.here.position c.in-Token.more
-    c.loop-here.here.place c.loop-here-test.true token_is in
+    c.loop-here.here.place c.loop-here-test.true here.0 in
     record {
-      within = omega (arith, fits, c.behind-next.ensures.position);
+      within = omega (arith, here.1, c.behind-next.ensures.position);
       line =
           omega (
             arith,
@@ -183,9 +134,8 @@ loop-here-preserved c =
 
 pub returns-in-Broken-clause-refusal : goal.returns-in-Broken-clause-refusal
 returns-in-Broken-clause-refusal c =
-    let is = front_here c.args.bytes.now c.loop-here.here.position _ c.front_at.result
-    (take_rest c.args.bytes.now c.loop-here.here.position) c.loop-here-test.true
-    c.front_at.ensures in
+    let is = front_here c.args.bytes.now c.loop-here.here.position c.front_at.result
+    c.loop-here-test.true c.front_at.ensures in
     let broken_is = rw c.in-Broken.is at is in
     let breaks = read_break c.args.bytes.now
     (placed_tokens c.args.bytes.now c.loop-here.tokens.items) c.loop-here.here.position

@@ -2,7 +2,9 @@ use Rattle.std.proofs.Common.{rules, ◌≡◌, ℕ, ◌+◌, Bool, true, false,
 use Rattle.std.proofs.Common.{sym, ap, subst, ◌∙◌}
 use Rattle.std.specs.Prelude.{◌&&◌, IsTrue, Result}
 use Rattle.std.proofs.lemmas.Bool.{and_parts}
+use Rattle.std.proofs.lemmas.List.{map_push}
 use Rattle.std.proofs.lemmas.Result.{err_from_is_err_and}
+use Rattle.sv_system.proofs.Fronts.{before, before_push, before_end}
 use Rattle.sv_num.specs.declared.faults.Fault.{Fault}
 use Rattle.sv_num.specs.declared.faults.Place.{Place}
 use Rattle.sv_num.specs.declared.vectors.Bits.{Bits}
@@ -27,7 +29,7 @@ use Rattle.sv_width.specs.Answers.{IsBreach}
 use Rattle.sv_width.specs.Scopes.{Known, names_of}
 use Rattle.sv_width.specs.Settings.{names_in, reach_names, is_constant}
 use Rattle.sv_width.specs.Measured as measured
-use Rattle.sv_width.specs.Measured.{MeasuredTree, MeasuredTrees, more_parts, own_form, measured_of}
+use Rattle.sv_width.specs.Measured.{MeasuredTree, more_parts, own_form, measured_of}
 use Rattle.sv_width.specs.Measured.{measured_parts}
 use Rattle.sv_width.specs.Outcomes.{binary_own, replication_steps, IsMeasure}
 use Rattle.sv_width.specs.Pushed.{divisors_of}
@@ -47,7 +49,6 @@ use Rattle.sv_width.proofs.Measures.{breach_first, breach_after, passes_on, bit_
 use Rattle.sv_width.proofs.Measures.{part_refused}
 use Rattle.sv_width.proofs.Ends.{some_width, replication_shape, expression_lengths, list_lengths}
 use Rattle.sv_width.proofs.Ends.{setting_lengths, setting_known, own_divisors_at, value_at_own}
-use Rattle.sv_width.proofs.MRows.{before, before_push, before_end, trees_push}
 use Rattle.sv_width.proofs.measuring.+measuring.Goals as goal
 
 breach_at : (names : Names) (c : Bool) (e d : Expr) (f : Fault) → e ≡ d
@@ -622,25 +623,25 @@ measured_parts-loop-expr-preserved t c = record {
       es).end) (parts_split c.args.exprs.now c.loop-expr.expr-index c.expr-item.result
       c.loop-expr-test.true c.expr-item.is)) ∙ c.loop-expr.invariant.asks;
   gives =
-      ap (λ ms. before (measured_trees ms)
+      ap (λ ms. before more_parts (measured_trees ms)
       (measured_parts (reach_names c.args.reach.now)
       (parts_of (expression_trees (drop (c.loop-expr.expr-index + 1) c.args.exprs.now)))))
       c.in_ok-push.ensures.items
-      ∙ ap (λ ts. before ts
+      ∙ ap (λ ts. before more_parts ts
       (measured_parts (reach_names c.args.reach.now)
       (parts_of (expression_trees (drop (c.loop-expr.expr-index + 1) c.args.exprs.now)))))
-      (trees_push c.loop-expr.operands.items c.in_ok-measured.field-0)
-      ∙ before_push (measured_trees c.loop-expr.operands.items)
+      (map_push measured_tree c.loop-expr.operands.items c.in_ok-measured.field-0)
+      ∙ before_push more_parts (measured_trees c.loop-expr.operands.items)
       (measured_tree c.in_ok-measured.field-0)
       (measured_parts (reach_names c.args.reach.now)
       (parts_of (expression_trees (drop (c.loop-expr.expr-index + 1) c.args.exprs.now))))
       ∙ ap (λ (x : MeasuredTree).
-      before (measured_trees c.loop-expr.operands.items)
+      before more_parts (measured_trees c.loop-expr.operands.items)
       (more_parts x (measured_parts (reach_names c.args.reach.now)
       (parts_of (expression_trees (drop (c.loop-expr.expr-index + 1) c.args.exprs.now))))))
       c.in_ok-measured.ensures.found.1
       ∙ sym (ap (λ (es : ExpressionTrees).
-      before (measured_trees c.loop-expr.operands.items)
+      before more_parts (measured_trees c.loop-expr.operands.items)
       (measured_parts (reach_names c.args.reach.now) es))
       (parts_split c.args.exprs.now c.loop-expr.expr-index c.expr-item.result
       c.loop-expr-test.true c.expr-item.is))
@@ -654,9 +655,10 @@ measured_parts-returns-clause-found t c =
       sym c.loop-expr.invariant.asks ∙ ap (λ (es : ExpressionTrees).
           (asked_parts (reach_names c.args.reach.now) (is_constant c.args.reach.now.setting)
           es).end) none,
-      sym (before_end (measured_trees c.loop-expr.operands.items))
+      sym (before_end more_parts measured_row (λ t ts. refl)
+          (measured_trees c.loop-expr.operands.items))
           ∙ sym (ap (λ (es : ExpressionTrees).
-          before (measured_trees c.loop-expr.operands.items)
+          before more_parts (measured_trees c.loop-expr.operands.items)
           (measured_parts (reach_names c.args.reach.now) es)) none)
           ∙ c.loop-expr.invariant.gives,
     )

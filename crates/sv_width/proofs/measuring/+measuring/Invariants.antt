@@ -1,13 +1,13 @@
 use Rattle.std.proofs.Common.{◌≡◌, ◌+◌, ◌*◌, max, drop}
 use Rattle.sv_ast.specs.declared.expressions.Expr.{size-Expr}
 use Rattle.std.specs.Prelude.{IsTrue}
+use Rattle.sv_system.proofs.Fronts.{before}
 use Rattle.sv_ast.specs.Shape.{are_shaped_parts}
 use Rattle.sv_ast.specs.Views.{expression_trees, parts_of}
 use Rattle.sv_elab_rules.specs.ExpressionSteps.{asked_parts}
-use Rattle.sv_width.specs.Measured.{measured_parts}
+use Rattle.sv_width.specs.Measured.{measured_parts, more_parts}
 use Rattle.sv_width.specs.Settings.{reach_names, is_constant}
 use Rattle.sv_width.specs.Views.{measured_trees}
-use Rattle.sv_width.proofs.MRows.{before}
 use Rattle.sv_width.proofs.measuring.+measuring.Given as goal
 
 -- Each call goes down the expression, or it leaves it as it is and goes on to a function below it.
@@ -65,7 +65,7 @@ invariant-measured_parts-loop-expr l = record {
       (parts_of (expression_trees (drop l.expr-index l.exprs)))).end
       ≡ (asked_parts (reach_names l.reach) (is_constant l.reach.setting)
       (parts_of (expression_trees l.exprs))).end;
-  gives : before (measured_trees l.operands.items)
+  gives : before more_parts (measured_trees l.operands.items)
       (measured_parts (reach_names l.reach)
       (parts_of (expression_trees (drop l.expr-index l.exprs))))
       ≡ measured_parts (reach_names l.reach) (parts_of (expression_trees l.exprs));

@@ -1,18 +1,19 @@
-use Rattle.std.proofs.Common.{◌+◌, drop, refl, sym, ap, ◌∙◌}
+use Rattle.std.proofs.Common.{◌+◌, List, drop, refl, sym, ap, ◌∙◌}
+use Rattle.std.proofs.lemmas.List.{map_push, at_drop_all}
 use Rattle.std.proofs.lemmas.Result.{err_from_is_err_and}
+use Rattle.sv_system.proofs.Fronts.{left_more, before, before_push, before_end}
 use Rattle.sv_flat.specs.Design as flat
-use Rattle.sv_flat.specs.Design.{TypedTree, TypedTrees, typed}
-use Rattle.sv_flat.specs.Views.{typed_tree, typed_trees, row_parts as flat_parts}
+use Rattle.sv_flat.specs.Design.{TypedTree, typed}
+use Rattle.sv_flat.specs.Views.{typed_tree, typed_trees, parts_of as typed_row}
+use Rattle.sv_flat.specs.Views.{row_parts as flat_parts}
 use Rattle.sv_flat.specs.declared.expressions.FNode.TheBlock.{hidden-the_row-FExpr-0}
 use Rattle.sv_flat.proofs.Rows.{row_parts-hidden as flat_row-hidden}
 use Rattle.sv_width.specs.declared.measured.Measured.{Measured}
-use Rattle.sv_width.specs.Measured.{MeasuredTrees, own_form}
+use Rattle.sv_width.specs.Measured.{own_form}
 use Rattle.sv_width.specs.Pushed.{divisors_of, divisors_in, node_of, nodes_in}
 use Rattle.sv_width.specs.Views.{measured_tree, measured_trees, parts_of}
 use Rattle.sv_width.proofs.MRows.{row_at, parts_refused}
 use Rattle.sv_width.proofs.Measures.{passes_on}
-use Rattle.sv_width.proofs.FlatRows.{typed_before, typed_push, typed_end, forms_push}
-use Rattle.sv_width.proofs.FlatRows.{measured_split, measured_done}
 use Rattle.sv_width.proofs.typing.+typing.Goals as goal
 
 pub node-returns-in_err-pushed_parts-in-Join-clause-broken :
@@ -88,23 +89,23 @@ pushed_parts-loop-part-preserved t c = record {
       (divisors_of (measured_tree c.part-item.result)
       (own_form (measured_tree c.part-item.result)).width x).end) c.own_type.ensures.signed)
       ∙ c.in_ok-pushed.ensures.found.0) refl)
-      ∙ sym (ap (λ (es : MeasuredTrees).
-      (divisors_in es).end)
-      (measured_split c.args.parts.now c.loop-part.part-index c.part-item.result
+      ∙ sym (ap (λ (es : List Measured). (divisors_in (parts_of (measured_trees es))).end)
+      (left_more c.args.parts.now c.loop-part.part-index c.part-item.result
       c.loop-part-test.true c.part-item.is)) ∙ c.loop-part.invariant.asks;
   gives =
-      ap (λ fs. typed_before (typed_trees fs)
+      ap (λ fs. before flat.more_parts (typed_trees fs)
       (nodes_in (parts_of (measured_trees (drop (c.loop-part.part-index + 1) c.args.parts.now)))))
       c.in_ok-push.ensures.items
-      ∙ ap (λ ts. typed_before ts
+      ∙ ap (λ ts. before flat.more_parts ts
       (nodes_in (parts_of (measured_trees
       (drop (c.loop-part.part-index + 1) c.args.parts.now)))))
-      (forms_push c.loop-part.typed.items c.in_ok-pushed.field-0)
-      ∙ typed_push (typed_trees c.loop-part.typed.items) (typed_tree c.in_ok-pushed.field-0)
+      (map_push typed_tree c.loop-part.typed.items c.in_ok-pushed.field-0)
+      ∙ before_push flat.more_parts (typed_trees c.loop-part.typed.items)
+      (typed_tree c.in_ok-pushed.field-0)
       (nodes_in (parts_of (measured_trees
       (drop (c.loop-part.part-index + 1) c.args.parts.now))))
       ∙ ap (λ (x : TypedTree).
-      typed_before (typed_trees c.loop-part.typed.items)
+      before flat.more_parts (typed_trees c.loop-part.typed.items)
       (flat.more_parts x (nodes_in
       (parts_of (measured_trees (drop (c.loop-part.part-index + 1) c.args.parts.now))))))
       (c.in_ok-pushed.ensures.found.1
@@ -114,9 +115,10 @@ pushed_parts-loop-part-preserved t c = record {
       ∙ ap (λ x. typed (own_form (measured_tree c.part-item.result)).width x
       (node_of (measured_tree c.part-item.result)
       (own_form (measured_tree c.part-item.result)).width x)) c.own_type.ensures.signed)
-      ∙ sym (ap (λ (es : MeasuredTrees).
-      typed_before (typed_trees c.loop-part.typed.items) (nodes_in es))
-      (measured_split c.args.parts.now c.loop-part.part-index c.part-item.result
+      ∙ sym (ap (λ (es : List Measured).
+      before flat.more_parts (typed_trees c.loop-part.typed.items)
+      (nodes_in (parts_of (measured_trees es))))
+      (left_more c.args.parts.now c.loop-part.part-index c.part-item.result
       c.loop-part-test.true c.part-item.is))
       ∙ c.loop-part.invariant.gives;
 }
@@ -124,8 +126,10 @@ pushed_parts-loop-part-preserved t c = record {
 pub pushed_parts-returns-clause-found : goal.pushed_parts-returns-clause-found
 unfolding node_of nodes_in
 pushed_parts-returns-clause-found t c =
-    sym (typed_end (typed_trees c.loop-part.typed.items))
-    ∙ sym (ap (λ (es : MeasuredTrees).
-    typed_before (typed_trees c.loop-part.typed.items) (nodes_in es))
-    (measured_done c.args.parts.now c.loop-part.part-index c.loop-part-test.false))
+    sym (before_end flat.more_parts typed_row (λ t ts. refl)
+    (typed_trees c.loop-part.typed.items))
+    ∙ sym (at_drop_all (λ (es : List Measured).
+    before flat.more_parts (typed_trees c.loop-part.typed.items)
+    (nodes_in (parts_of (measured_trees es))))
+    c.args.parts.now c.loop-part.part-index c.loop-part-test.false)
     ∙ c.loop-part.invariant.gives

@@ -1,29 +1,21 @@
 use Rattle.std.proofs.Common.{◌≡◌, ◌<◌, ◌++◌, ◌∷◌, [], cond, get_or, take, sym, subst, ◌∙◌}
 use Rattle.std.proofs.lemmas.List.{map_more}
-use Rattle.std.proofs.lemmas.List.Elements.{Contains-get_or}
-use Rattle.sv_system.proofs.Lists.{Contains-map}
 use Rattle.sv_flat.specs.Sets.{holds}
 use Rattle.sv_flat.specs.declared.signals.SigId.{SigId}
 use Rattle.sv_graph.specs.Graphs.{row}
 use Rattle.sv_graph.specs.Numbers.{numbers}
 use Rattle.sv_graph.proofs.GraphFacts.{source_more}
+use Rattle.sv_graph.proofs.SignalLists.{no_signal, number_among}
 use Rattle.sv_graph.proofs.graphs.Graph.add_sources.Goals as goal
 
-no_signal : SigId
-no_signal = record { 0 = 0 }
-
 pub add_once-requires : goal.add_once-requires
-unfolding no_signal
 add_once-requires c =
     let sources = c.args.sources.now in
     let from = get_or sources c.loop-from.from-index no_signal in
     subst (λ n. from.0 < n) (sym c.loop-from.invariant.0)
-    (c.requires from.0 (Contains-map (λ (s : SigId).
-    s.0) sources from (Contains-get_or sources c.loop-from.from-index no_signal
-    c.loop-from-test.true)))
+    (c.requires from.0 (number_among sources c.loop-from.from-index c.loop-from-test.true))
 
 pub loop-from-preserved : goal.loop-from-preserved
-unfolding no_signal
 loop-from-preserved c =
     let sources = c.args.sources.now in
     let i = c.loop-from.from-index in

@@ -1,11 +1,8 @@
 use Rattle.std.proofs.Common.{◌≡◌, ◌<◌, length, get_or, drop, sym, ap, subst, ◌∙◌, arith}
-use Rattle.std.proofs.lemmas.List.Elements.{Contains-get_or}
 use Rattle.std.proofs.lemmas.List.{at_drop_all, get_or-map}
 use Rattle.std.proofs.Math.ListN.{length-map}
-use Rattle.sv_system.proofs.Lists.{Contains-map}
 use Rattle.sv_flat.proofs.LeastSets.{holds-from_Contains}
 use Rattle.sv_flat.specs.Sets.{holds}
-use Rattle.sv_flat.specs.declared.signals.SigId.{SigId}
 use Rattle.sv_graph.specs.declared.searches.Search.{Search}
 use Rattle.sv_graph.specs.declared.searches.Visit.{Visit}
 use Rattle.sv_graph.specs.Graphs.{size, row}
@@ -13,10 +10,8 @@ use Rattle.sv_graph.specs.Numbers.{numbers}
 use Rattle.sv_graph.specs.Searches.{found_by}
 use Rattle.sv_graph.proofs.GraphFacts.{row_is}
 use Rattle.sv_graph.proofs.SearchFacts.{visit_size, expand_more, expand_end}
+use Rattle.sv_graph.proofs.SignalLists.{no_signal, number_among}
 use Rattle.sv_graph.proofs.searches.Search.expand.Goals as goal
-
-no_signal : SigId
-no_signal = record { 0 = 0 }
 
 -- the signal of the visit at a place
 signal_at : (search : Search) (place : _) (visit : Visit) → place < length (found_by search)
@@ -36,7 +31,6 @@ index-requires-2 c =
     omega arith
 
 pub visit-requires : goal.visit-requires
-unfolding no_signal
 visit-requires c =
     let here = signal_at c.args.self.now c.args.place c.index.result.now c.requires.place
     c.index.ensures in
@@ -48,15 +42,12 @@ visit-requires c =
     ∙ row_is c.args.graph.now c.index.result.now.signal.0 c.index-2.result.now inside
     c.index-2.ensures in
     let x = get_or signals c.loop-next.next-index no_signal in
-    let member = Contains-map (λ (s : SigId).
-    s.0) signals x (Contains-get_or signals c.loop-next.next-index no_signal
-    c.loop-next-test.true) in
+    let member = number_among signals c.loop-next.next-index c.loop-next-test.true in
     subst (λ n. x.0 < n) (sym c.loop-next.invariant.0)
     (c.requires.whole c.index.result.now.signal.0 x.0 (ap (λ r. holds r x.0) (sym is)
     ∙ holds-from_Contains (numbers signals) x.0 member))
 
 pub loop-next-preserved : goal.loop-next-preserved
-unfolding no_signal
 loop-next-preserved c =
     let here = signal_at c.args.self.now c.args.place c.index.result.now c.requires.place
     c.index.ensures in
@@ -82,7 +73,6 @@ loop-next-preserved c =
     )
 
 pub returns : goal.returns
-unfolding no_signal
 returns c = λ brings starts bring within before.
     let here = signal_at c.args.self.now c.args.place c.index.result.now c.requires.place
     c.index.ensures in

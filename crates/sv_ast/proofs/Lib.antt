@@ -14,7 +14,7 @@ pub mod GrammarOneExpression
 pub mod GrammarOneBefore
 pub mod GrammarLaws
 mod MadeAlike
-mod SyntaxLaws
+pub mod SyntaxLaws
 mod GrammarExamples
 mod GrammarTexts
 mod GrammarRefusals

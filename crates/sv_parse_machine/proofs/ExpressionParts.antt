@@ -1,6 +1,6 @@
 -- A written expression is an operand and what follows one: operators with their operands nest in
 -- one way, and then a choice may come.
-use Rattle.std.proofs.Common.{◌≡◌, ℕ, Bool, true, false, ◌&&◌, List, [], ◌∷◌, ◌++◌, inl, inr, refl}
+use Rattle.std.proofs.Common.{◌≡◌, ℕ, Bool, true, false, List, [], ◌∷◌, ◌++◌, inl, inr, refl}
 use Rattle.std.proofs.Common.{sym, subst, arith}
 use Rattle.std.specs.Prelude.{IsTrue, cond, nat_le, nat_lt}
 use Rattle.std.proofs.lemmas.Bool.{and_parts, and_from}

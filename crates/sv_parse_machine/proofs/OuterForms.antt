@@ -6,8 +6,8 @@ use Rattle.sv_token.specs.declared.signs.SignKind.{SignKind}
 use Rattle.sv_token.specs.declared.signs.SignKind.TheVariants as signs
 use Rattle.sv_token.specs.Lexemes.{Lexeme, Literal, Placed}
 use Rattle.sv_ast.specs.Tree.{StatementTree, ArmTrees}
-use Rattle.sv_ast.specs.GrammarForms.{Form, ◌⨾◌, ◌or◌, nothing, never, a_word, a_sign, a_number}
-use Rattle.sv_ast.specs.GrammarForms.{a_name, somewhere, binary_at}
+use Rattle.sv_ast.specs.GrammarForms.{Form, ◌⨾◌, ◌or◌, nothing, never, each, a_word, a_sign}
+use Rattle.sv_ast.specs.GrammarForms.{a_number, a_name, somewhere, binary_at}
 use Rattle.sv_ast.specs.GrammarExpressions.{Limits, is_within, read_tokens}
 use Rattle.sv_ast.specs.GrammarStatements.{IsStatement, AreArms}
 use Rattle.sv_parse_machine.specs.Symbols.{Outer, punctuation, plain_name, plain_number, expression}

@@ -75,10 +75,10 @@ outer_step y below t ts r e =
 fails_at : (y : Symbol) (t : Placed) (ts : List Placed) (f : Failure)
     → ((below : State) → step all_limits (length ts) (y ∷ below) t.lexeme ≡ fails_as f)
     → Halts (y ∷ []) (t ∷ ts) f (length (t ∷ ts))
-fails_at y t ts f fails = record {
+fails_at y t ts f stops = record {
   rest = t ∷ ts;
   many = refl;
-  runs = λ below. stepped (y ∷ below) t ts (fails_as f) (fails below);
+  runs = λ below. stepped (y ∷ below) t ts (fails_as f) (stops below);
 }
 
 pub takes_token : (y : Outer) (ys : List Outer) (t : Placed) (ts : List Placed) →

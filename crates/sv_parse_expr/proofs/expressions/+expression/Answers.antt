@@ -46,6 +46,14 @@ read_bounds-returns-clause-is t c = (
   ),
 )
 
+-- what holds of a number in any text holds of it in this one
+pub read_operand-returns-in-Number-clause-is : goal.read_operand-returns-in-Number-clause-is
+read_operand-returns-in-Number-clause-is t c = c.read_literal.ensures.is c.args.input.bytes.now
+
+pub read_operand-returns-in-Number-clause-reads : goal.read_operand-returns-in-Number-clause-reads
+read_operand-returns-in-Number-clause-reads t c =
+    c.read_literal.ensures.reads c.args.input.bytes.now
+
 pub read_group-returns-clause-is : goal.read_group-returns-clause-is
 read_group-returns-clause-is t c =
     group_is c.args.room.levels _ _ _ _ _ _ c.in_ok-inside.ensures.levels

@@ -332,6 +332,17 @@ read_arms-loop-after-preserved t c =
 
 -- ---- `;`
 
+-- what holds of a `;` in any text holds of it in this one
+pub read_statement-returns-in-Sign-Semicolon-clause-is :
+    goal.read_statement-returns-in-Sign-Semicolon-clause-is
+read_statement-returns-in-Sign-Semicolon-clause-is t c =
+    c.read_null.ensures.is c.args.input.bytes.now c.args.levels
+
+pub read_statement-returns-in-Sign-Semicolon-clause-reads :
+    goal.read_statement-returns-in-Sign-Semicolon-clause-reads
+read_statement-returns-in-Sign-Semicolon-clause-reads t c =
+    c.read_null.ensures.reads c.args.input.bytes.now c.args.levels
+
 pub read_statement-returns-in-Sign-Semicolon-clause-halts :
     goal.read_statement-returns-in-Sign-Semicolon-clause-halts
 read_statement-returns-in-Sign-Semicolon-clause-halts t c =

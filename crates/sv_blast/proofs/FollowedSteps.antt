@@ -31,6 +31,7 @@ use Rattle.sv_circuits.proofs.PartValues.{replaced_is, replaced_length}
 use Rattle.sv_encoding.specs.Expressions.{Words, expression_word, is_true_bit}
 use Rattle.sv_encoding.specs.Bodies.{with_word, assigns_some, with_piece_word, assigned_words}
 use Rattle.sv_encoding.specs.Bodies.{chosen_words, branch_words, words_after}
+use Rattle.sv_encoding_laws.proofs.BodyWords.{folded_leaves}
 use Rattle.sv_blast.specs.FollowedWords.{AllStand, words_at, choices}
 use Rattle.sv_blast.proofs.CopyChoices.{put_other, stand_put}
 

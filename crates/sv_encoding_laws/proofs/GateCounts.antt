@@ -151,7 +151,7 @@ equal_count a b old e =
     chain_count and_gate and_count 1
     (map (λ (bits : ℤ × ℤ). negation (xor_gate bits.0 bits.1)) (zip a b))
     (zip_takes (λ x y. negation (xor_gate x y)) xor_count a b) true_literal old
-    ∙ omega (arith, zip_size (λ x y. negation (xor_gate x y)) a b e)
+    ∙ omega (arith, zip_length (λ x y. negation (xor_gate x y)) a b e)
 
 -- ---- sums
 

@@ -1,7 +1,7 @@
 -- A target by its number in the design, and the process that drives it, whose body is held with
 -- its earlier reads wanted where it has some.
 use Rattle.std.proofs.Common.{◌≡◌, ℕ, zero, suc, ◌<◌, List, [], ◌∷◌, length, get_or}
-use Rattle.std.proofs.Common.{Option, Some, None, sym, ap, subst, ◌∙◌, arith, lt-ltb}
+use Rattle.std.proofs.Common.{Option, Some, None, sym, ap, subst, ◌∙◌, arith}
 use Rattle.std.specs.Prelude.{IsTrue, Contains, IfSome, option_copied}
 use Rattle.std.specs.Borrow.{Bor}
 use Rattle.std.specs.List.{AllZip}
@@ -13,7 +13,7 @@ use Rattle.sv_flat.specs.Clocks.{processes_of}
 use Rattle.sv_flat.specs.Design.{SignalForm, ProcessForm, FlatDesign}
 use Rattle.sv_flat.specs.SignalLists.{driver_of}
 use Rattle.sv_flat.specs.Soundness.{is_signal}
-use Rattle.sv_flat.specs.Views.{design_of, signal_form}
+use Rattle.sv_flat.specs.Views.{design_of}
 use Rattle.sv_flat.specs.declared.designs.Flat.{Flat}
 use Rattle.sv_system.proofs.Lists.{Contains-nil, Contains-filter}
 use Rattle.sv_flat.proofs.Members.{only}
@@ -52,10 +52,8 @@ pub none_for : (flat : Flat) → IsDesign (design_of flat) → (s : ℕ) → s <
     → driver_of (design_of flat) s ≡ None → IsMarkedFor (design_of flat) s None
 none_for flat is s known none q q_at own =
     let design = design_of flat in
-    let is_known = lt-ltb s (length design.signals)
-    (subst (λ n. s < n) (sym (length_mapped signal_form flat.signals.items)) known) in
     absurd (Contains-nil q (subst (λ ps. Contains ps q)
-    (no_driver design is.is_sound is.is_admitted s is_known none)
+    (no_driver design is.is_sound is.is_admitted s (signal_known flat s known) none)
     (Contains-filter (λ (y : ProcessForm). assigns y.body s) (processes_of design) q q_at own)))
 
 module _ (flat : Flat) (is : IsDesign (design_of flat)) (s : ℕ)

@@ -54,5 +54,6 @@ module _ (flat : Flat) (is : IsDesign (design_of flat)) (s : ℕ)
         ∙ indexed s
         ∙ ap (λ (body : FlatStatement). in_sequence (sliced s body) nothing)
         (sym (ap first_body
-        (one_driver_at design is.is_sound is.is_admitted s is_known k process driven).2
+        (one_driver_at design is.is_sound is.is_admitted s (signal_known flat s known) k process
+        driven).2
         ∙ ap (λ (p : ProcessForm). p.body) there))

@@ -124,6 +124,7 @@ module _ (facts : List TypedTree) (design : FlatDesign) (checked : IsChecked des
   -- and nothing else is
   use_cases : (e : Environment ℕ) (s t : ℕ) → Contains (uses e s) t →
       (k : Taken e s) × Contains (reads_of design k.path) t
+  unfolding taken
   use_cases e s t at =
       let one = from_flat_map (λ p.
       flat_map (reads_of design) (held_paths e s p)) (drivers (processes_of design) s) t at in

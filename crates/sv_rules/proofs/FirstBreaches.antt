@@ -1,7 +1,7 @@
 -- The first breach of a rule is the first of the design, where no rule before it is broken.
 use Rattle.std.proofs.Common.{◌≡◌, ◌⊎◌, inl, inr, ⊎_elim, ℕ, ◌<◌, Bool, ◌==◌, ◌&&◌, not, nat_lt}
 use Rattle.std.proofs.Common.{ltb-true, List, [], ◌∷◌, ◌++◌, length, map, refl, sym, ap, ap₂, subst}
-use Rattle.std.proofs.Common.{arith, Some, None, Option}
+use Rattle.std.proofs.Common.{arith, Some, None, Option, ◌+◌}
 use Rattle.std.specs.Prelude.{IsTrue, IsFalse, IfSome, Contains, filter, option_map}
 use Rattle.std.specs.Prelude.{unwrap_or}
 use Rattle.std.specs.List.{list_all, filter_map, cons_option}
@@ -372,20 +372,20 @@ module _ (design : FlatDesign) (is_sound : IsTrue (sound design)) where
   first_assign None h = tt
   first_assign (Some f) h = to_assigns (breach_of 601 f) (omega arith) h
 
-  pub first_clock : (assign : Option Found) → FindsFirst 601 (wrong_assigns design) assign
-      → assign ≡ None → (found : Option Found) → FindsFirst 602 (clock_faults design) found
+  pub first_clock : (wrong : Option Found) → FindsFirst 601 (wrong_assigns design) wrong
+      → wrong ≡ None → (found : Option Found) → FindsFirst 602 (clock_faults design) found
       → FindsFirstOf 602 found
-  first_clock assign assign_is no_assign None h = tt
-  first_clock assign assign_is no_assign (Some f) h = to_clocks (breach_of 602 f) (omega arith)
+  first_clock wrong wrong_is no_wrong None h = tt
+  first_clock wrong wrong_is no_wrong (Some f) h = to_clocks (breach_of 602 f) (omega arith)
       (after_none (wrong_assigns design) (clock_faults design) (breach_of 602 f)
-      (found_none 601 (wrong_assigns design) assign assign_is no_assign) h)
+      (found_none 601 (wrong_assigns design) wrong wrong_is no_wrong) h)
 
   -- nothing was found that breaks the rules of assignments and clocks
-  module _ (assign clock : Option Found)
-      (assign_is : FindsFirst 601 (wrong_assigns design) assign) (no_assign : assign ≡ None)
+  module _ (wrong clock : Option Found)
+      (wrong_is : FindsFirst 601 (wrong_assigns design) wrong) (no_wrong : wrong ≡ None)
       (clock_is : FindsFirst 602 (clock_faults design) clock) (no_clock : clock ≡ None) where
     none_assigned : wrong_assigns design ≡ []
-    none_assigned = found_none 601 (wrong_assigns design) assign assign_is no_assign
+    none_assigned = found_none 601 (wrong_assigns design) wrong wrong_is no_wrong
 
     none_clocked : clock_faults design ≡ []
     none_clocked = found_none 602 (clock_faults design) clock clock_is no_clock

@@ -147,11 +147,11 @@ shaped_parameters m h = (shaped_parts m h).0
 
 pub shaped_ports : (m : ModuleTree) → is_shaped_module m ≡ true
     → list_all is_shaped_declaration m.ports ≡ true
-shaped_ports m h = (shaped_parts m h).1.0
+shaped_ports m h = (shaped_parts m h).1
 
 pub shaped_items : (m : ModuleTree) → is_shaped_module m ≡ true →
     list_all is_shaped_item m.items ≡ true
-shaped_items m h = (shaped_parts m h).1.1
+shaped_items m h = (shaped_parts m h).2
 
 -- where the header breaks a rule, the whole does
 pub header_broken : (base least : ℕ) (s : Site) (t : WalkStep)

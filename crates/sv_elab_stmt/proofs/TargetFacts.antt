@@ -282,10 +282,10 @@ module _ (names : Names) (lengths : HaveLengths names.scope) where
   parts_have (t ∷ ts) (p ∷ ps) h =
       let split = parts_split names t ts p ps h in
       let width : span_of p.high p.low ≡ target_width names.scope t =
-      ap (λ (x : PieceForm). span_of x.high x.low) split.1.0
+      ap (λ (x : PieceForm). span_of x.high x.low) split.1
       ∙ (target_range names lengths t split.0).2 in
       ap (λ k. k + parts_width ps) width
-      ∙ ap (λ k. target_width names.scope t + k) (parts_have ts ps split.1.1)
+      ∙ ap (λ k. target_width names.scope t + k) (parts_have ts ps split.2)
 
   pub parts_placed : (ts : List TargetTree) (ps : List TargetPart) → AreParts names ts ps →
       placed ps ≡ pieces_of names ts
@@ -303,11 +303,11 @@ module _ (names : Names) (lengths : HaveLengths names.scope) where
         high = x.high;
         low = x.low;
         from = parts_width ps;
-      }) split.1.0
-      ∙ ap (λ k. target_piece names k t) (parts_have ts ps split.1.1) in
+      }) split.1
+      ∙ ap (λ k. target_piece names k t) (parts_have ts ps split.2) in
       ap (λ x. x ∷ placed ps) first
       ∙ ap (λ xs. target_piece names (targets_width names.scope ts) t ∷ xs)
-      (parts_placed ts ps split.1.1)
+      (parts_placed ts ps split.2)
 
 -- ---- the whole assignment
 

@@ -20,8 +20,8 @@ onto front made = (made.0, front ++ made.1)
 -- what is made with one more in front, behind what is in hand, is made behind both
 pub step_behind : {X Y : Type 0} (front : List X) (item : Y → X) (rest : Formula → Formula × List X)
     (made : Formula × Y) (later : Formula) (y : Y) → made ≡ (later, y) →
-    ((rest made.0).0, front ++ item made.1 ∷ (rest made.0).1)
-    ≡ ((rest later).0, (front ++ item y ∷ []) ++ (rest later).1)
+    ◌≡◌ {A = Formula × List X} ((rest made.0).0, front ++ item made.1 ∷ (rest made.0).1)
+    ((rest later).0, (front ++ item y ∷ []) ++ (rest later).1)
 step_behind {X} {Y} front item rest made later y e =
     ap (λ (z : Formula × Y). ((rest z.0).0, front ++ item z.1 ∷ (rest z.0).1)) e
     ∙ ap (λ z. ((rest later).0, z)) (sym (append_assoc front (item y ∷ []) (rest later).1))

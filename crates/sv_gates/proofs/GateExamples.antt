@@ -31,14 +31,20 @@ abbrev with_gate : List (List ℤ) → Formula
 with_gate clauses = record { variables = 4; clauses = (pos 1 ∷ []) ∷ clauses }
 
 -- 4 is 2 and 3
-and_of_two : and_gate (pos 2) (pos 3) two_inputs ≡ (with_gate ((pos 2 ∷ negsuc 3 ∷ [])
-    ∷ (pos 3 ∷ negsuc 3 ∷ []) ∷ (negsuc 1 ∷ negsuc 2 ∷ pos 4 ∷ []) ∷ []), pos 4)
+and_of_two : and_gate (pos 2) (pos 3) two_inputs ≡ (
+  with_gate ((pos 2 ∷ negsuc 3 ∷ [])
+      ∷ (pos 3 ∷ negsuc 3 ∷ []) ∷ (negsuc 1 ∷ negsuc 2 ∷ pos 4 ∷ []) ∷ []),
+  pos 4,
+)
 unfolding put ascending with_clause
 and_of_two = refl
 
 -- -4 is 2 or 3: 4 is the AND of -2 and -3
-or_of_two : or_gate (pos 2) (pos 3) two_inputs ≡ (with_gate ((negsuc 1 ∷ negsuc 3 ∷ [])
-    ∷ (negsuc 2 ∷ negsuc 3 ∷ []) ∷ (pos 2 ∷ pos 3 ∷ pos 4 ∷ []) ∷ []), negsuc 3)
+or_of_two : or_gate (pos 2) (pos 3) two_inputs ≡ (
+  with_gate ((negsuc 1 ∷ negsuc 3 ∷ [])
+      ∷ (negsuc 2 ∷ negsuc 3 ∷ []) ∷ (pos 2 ∷ pos 3 ∷ pos 4 ∷ []) ∷ []),
+  negsuc 3,
+)
 unfolding put ascending with_clause
 or_of_two = refl
 

@@ -11,11 +11,11 @@ pub added : {old new : Command} {a : Arg} {line : App} {rule : Rule} → AddsArg
 added adds local is before = adds.shape local ∙ ap₂ with_rule before is
 
 -- what a second argument makes of a line that has just been given a first one
-pub added_two : {E : Type 0} {old mid : Command} {a b : Arg} {line : App} {one two : Rule}
-    (r : Result Command E) → app_of old ≡ line
+pub added_two : {E : Type 0} {old mid : Command} {a : Arg} {line : App} {one two : Rule}
+    (b : Arg) (r : Result Command E) → app_of old ≡ line
     → AddsArg old a mid → a.global ≡ false → rule_of a ≡ one
     → b.global ≡ false → rule_of b ≡ two → IfOk r (AddsArg mid b)
     → IfOk r (λ new. app_of new ≡ with_rule (with_rule line one) two)
-added_two r before adds a_local a_is b_local b_is second =
+added_two b r before adds a_local a_is b_local b_is second =
     IfOk-weaker r _ _ (λ new more. added more b_local b_is (added adds a_local a_is before))
     second

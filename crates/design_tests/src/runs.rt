@@ -68,6 +68,13 @@ fn runs_in_any_order(rt: HostRuntime) -> Result<(), Fail> {
     assert!(rt; leaves(alloc, &design, &[0, 1], &[0, 1, 1], false)?);
     assert!(rt; leaves(alloc, &design, &[1, 0], &[0, 0, 1], true)?);
     assert!(rt; leaves_each(alloc, &design)?);
+    Ok(())
+}
+
+#[test]
+fn counts_the_rounds_of_an_order(rt: HostRuntime) -> Result<(), Fail> {
+    let alloc = rt.alloc();
+    let design = design(&rt, alloc, BACKWARDS)?;
     assert!(rt; rounds(alloc, &design, 0)? == 2 && rounds(alloc, &design, 1)? == 1);
     let event = Event::new(alloc, &design)?;
     assert!(rt;

@@ -130,9 +130,7 @@ fn read_listed_item<'a>(alloc: Global, input: Input<'a>) -> Read<'a, Vec<Item>>
         return Err(stuck(Expected::Item, tokens));
     };
     match first.kind {
-        TokenKind::Word(WordKind::Parameter | WordKind::Localparam) => {
-            read_params(alloc, input)
-        }
+        TokenKind::Word(WordKind::Parameter | WordKind::Localparam) => { read_params(alloc, input) }
         TokenKind::Word(WordKind::Wire) => read_wires(alloc, input),
         TokenKind::Word(WordKind::Reg) => read_registers(alloc, input),
         TokenKind::Word(WordKind::Assign) => read_assigned(alloc, input),

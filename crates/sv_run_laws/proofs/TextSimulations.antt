@@ -60,14 +60,20 @@ module _ (text : TextTree) (asked : Option (List ℕ)) (design : FlatDesign)
     at_both (Some level) (Some other) alike = (
       λ is. let new = simulated_over (flat_system design) (text_system text asked) joined
           (name_in design.signals) dotted same_names level other alike is.0 bytes ends printed is.1
-          in
-          (is.0, new.0, subst (λ (read : LinesRead). AreRounds design order read is.0) (sym new.1)
-          is.2),
+          in (
+            is.0,
+            new.0,
+            subst (λ (read : LinesRead). AreRounds design order read is.0) (sym new.1)
+                is.2,
+          ),
       λ is. let new = simulated_back (flat_system design) (text_system text asked) joined
           (name_in design.signals) dotted same_names level other alike is.0 bytes ends printed is.1
-          in
-          (is.0, new.0, subst (λ (read : LinesRead). AreRounds design order read is.0) (sym new.1)
-          is.2),
+          in (
+            is.0,
+            new.0,
+            subst (λ (read : LinesRead). AreRounds design order read is.0) (sym new.1)
+                is.2,
+          ),
     )
     at_both None (Some other) alike = absurd alike
     at_both (Some level) None alike = absurd alike

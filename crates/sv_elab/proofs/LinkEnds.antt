@@ -1,6 +1,6 @@
 -- Where the walk of links ends.
 use Rattle.std.proofs.Common.{◌≡◌, ℕ, Bool, true, false, not, List, [], ◌∷◌, ◌++◌, Option, Some}
-use Rattle.std.proofs.Common.{None, refl, ◌∙◌}
+use Rattle.std.proofs.Common.{None, refl, sym, subst, ◌∙◌}
 use Rattle.std.specs.Prelude.{Ok, Err}
 use Rattle.std.specs.List.{list_any}
 use Rattle.std.specs.Str.{bytes_eq}
@@ -182,10 +182,12 @@ module _ (outer : Names) (ports : Ports) (processes : List ProcessForm) where
       → (links_walk outer ports processes t).end ≡
       (named_links_walk outer ports [] processes ls).end
   unfolding links_walk
-  links_by_name t ls is = ap (λ k. (links_walk outer ports processes k).end) is
+  links_by_name t ls is = subst (λ (k : LinkTrees). (links_walk outer ports processes k).end
+      ≡ (named_links_walk outer ports [] processes ls).end) (sym is) refl
 
   pub links_by_order : (t : LinkTrees) (es : List ExpressionTree) → t ≡ ordered_links es
       → (links_walk outer ports processes t).end ≡
       (ordered_links_walk outer ports ports.master.ports processes es).end
   unfolding links_walk
-  links_by_order t es is = ap (λ k. (links_walk outer ports processes k).end) is
+  links_by_order t es is = subst (λ (k : LinkTrees). (links_walk outer ports processes k).end
+      ≡ (ordered_links_walk outer ports ports.master.ports processes es).end) (sym is) refl

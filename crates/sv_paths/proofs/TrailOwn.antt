@@ -153,6 +153,14 @@ module _ (signals : List SignalForm) where
       part_none w signed (name t) place high low = refl
       part_none w signed (content t e) place high low = refl
 
+      -- the name of what is read, where that is a copy or not
+      abbrev seen : (w : ℕ) (signed : Bool) (t : ℕ) (place : Place) → Bool → Option ℕ
+      seen w signed t place c =
+          own_name (length signals) (typed w signed (for_whole
+          (cond (c && some_of pieces (original signals t))
+          (content (original signals t)
+          (put_value signals pieces way (original signals t) place)) (name t)) place))
+
       pub own_put : (e : TypedTree) →
           own_name n (put_in signals pieces way e) ≡ own_after pieces (own_name n e)
       own_put (typed w signed (read t place)) = by_test (nat_lt t (length signals)) refl
@@ -166,20 +174,15 @@ module _ (signals : List SignalForm) where
           by_some is true = own_wanted (t - length signals) place
           by_some is false = ap (λ b. cond b None (Some (t - length signals))) is
 
-          -- the name, where it is a copy or not
-          abbrev seen : Bool → Option ℕ
-          seen c = own_name (length signals) (typed w signed (for_whole
-              (cond (c && some_of pieces (original signals t))
-              (content (original signals t)
-              (put_value signals pieces way (original signals t) place)) (name t)) place))
-
           by_test : (b : Bool) → nat_lt t (length signals) ≡ b
-              → seen (is_copy signals t)
+              → seen w signed t place (is_copy signals t)
               ≡ own_after pieces (cond b None (Some (t - length signals)))
           by_test true is =
-              ap seen (copy_of_low t is) ∙ ap (λ b. cond b None (Some (t - length signals))) is
+              ap (seen w signed t place) (copy_of_low t is)
+              ∙ ap (λ b. cond b None (Some (t - length signals))) is
           by_test false is =
-              ap seen (copy_of_high t is) ∙ by_some is (some_of pieces (original signals t))
+              ap (seen w signed t place) (copy_of_high t is)
+              ∙ by_some is (some_of pieces (original signals t))
       own_put (typed w signed (held t e)) = own_put e
       own_put (typed w signed (read_bit t place i)) =
           bit_none w signed (pieces_put signals pieces way (indexed_read both t place i)) place

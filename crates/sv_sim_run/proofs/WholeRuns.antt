@@ -40,21 +40,21 @@ passed_on (Err found) fault other same is =
     ap Err (sym same ∙ here)
 
 -- out of memory is no fault of the input or the output
-no_other : {T : Type 0} (other : SimFault) → (faults.OutOfMemory ≡ other → ⊥)
+not_it : {T : Type 0} (other : SimFault) → (faults.OutOfMemory ≡ other → ⊥)
     → (r : Result T SimFault) → IsErrAnd r (λ fault. fault ≡ faults.OutOfMemory)
     → r ≡ Err other → ⊥
-no_other other apart (Ok value) same is = same
-no_other other apart (Err fault) same is =
+not_it other apart (Ok value) same is = same
+not_it other apart (Err fault) same is =
     let here : fault ≡ other = cc in
     apart (sym same ∙ here)
 
 pub not_read : {T : Type 0} (r : Result T SimFault)
     → IsErrAnd r (λ fault. fault ≡ faults.OutOfMemory) → r ≡ Err faults.Read → ⊥
-not_read r same is = no_other faults.Read (λ none. absurd (cc none)) r same is
+not_read r same is = not_it faults.Read (λ none. absurd cc) r same is
 
 pub not_written : {T : Type 0} (r : Result T SimFault)
     → IsErrAnd r (λ fault. fault ≡ faults.OutOfMemory) → r ≡ Err faults.Write → ⊥
-not_written r same is = no_other faults.Write (λ none. absurd (cc none)) r same is
+not_written r same is = not_it faults.Write (λ none. absurd cc) r same is
 
 is_no_error : {T : Type 0} (value : T) (fault : SimFault) → Ok value ≡ Err fault → ⊥
 is_no_error value fault is = absurd (cc)

@@ -15,7 +15,7 @@ import time
 from harness import MOST_SECONDS, TOP, compare, end, in_folders, printed
 
 NOBODY = 65534
-BUILDING = "secv: building, once: every function is proved to meet its contract before the program is made, which takes up to an hour\n"
+BUILDING = "secv: building, once: every function is proved to meet its contract before the program is made, which takes an hour or more\n"
 STOPPED = "secv: the build was stopped; what it has proved is kept\n"
 RELEASED = "secv: this is the program of release/, made from commit {}; 'rt ci' or './secv --build' proves and builds it again\n"
 BROKEN = "secv: release/secv.gz is broken, and not used: it does not hold the bytes that release/ABOUT names\n"

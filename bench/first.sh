@@ -1,8 +1,8 @@
 #!/bin/sh
 # Times the first answer of ./secv to whoever has nothing: on a clone of the last commit, in an empty folder, with the program of release/
 # (asked: at most 2 seconds). With --build it goes on to `./secv --build` there, over a copy of the kit beside which nothing is kept, prints
-# when each crate was proved, in seconds from the start, and the last line says whether the bytes are those of release/. That takes up to an
-# hour on four processors, 8 GB of memory and 13 GB of disk, and measures something where nothing else runs.
+# when each crate was proved, in seconds from the start, and the last line says whether the bytes are those of release/. That takes more
+# than an hour on four processors, 8 GB of memory and 13 GB of disk, and measures something where nothing else runs.
 set -eu
 top=$(CDPATH='' cd -- "$(dirname -- "$0")/.." && pwd -P)
 work=$(mktemp -d)

@@ -15,21 +15,21 @@ import time
 from harness import MOST_SECONDS, TOP, compare, end, in_folders, printed
 
 NOBODY = 65534
-BUILDING = "secv: building, once: every function is proved to meet its contract before the program is made, which takes up to an hour\n"
+BUILDING = "secv: building, once: every function is proved to meet its contract before the program is made, which takes an hour or more\n"
 STOPPED = "secv: the build was stopped; what it has proved is kept\n"
 RELEASED = "secv: this is the program of release/, made from commit {}; 'rt ci' or './secv --build' proves and builds it again\n"
 BROKEN = "secv: release/secv.gz is broken, and not used: it does not hold the bytes that release/ABOUT names\n"
 NO_RUN = "secv: the program of release/ does not run on this machine, and is not used\n"
 NO_TEXT = "secv: this text is the program's, which is not built, and release/ is not of these sources; './secv --build' builds it\n"
-# Keeps each call of it. What it does behind a check is what the file `then` says: nothing, or to wait, or to fail with these lines.
+# Keeps each call of it. What it does at the first of a build is what the file `then` says: nothing, or to wait, or to fail with these lines.
 KIT = r"""#!/bin/sh
 echo "$*" >>"$KIT/calls"
 case $1 in
   version) cat "$KIT/version" ;;
-  all | lib | run)
-    [ "$1" != all ] && [ -e "$KIT/checked" ] || sh -c 'echo $$ >"$KIT/child"; . "$KIT/then"' || exit
-    [ "$1" = all ] && cp BUILD.bazel "$KIT/checked" && exit
-    [ "$1" = lib ] && exit
+  lib | run)
+    [ -e "$KIT/proved" ] || sh -c 'echo $$ >"$KIT/child"; . "$KIT/then"' || exit
+    [ "$1" = run ] || { mkdir -p out/rlib && basename "$PWD" >>"$KIT/proved"; exit; }
+    mv "$KIT/proved" "$KIT/last" 2>/dev/null
     mkdir -p out && printf '#!/bin/sh\necho "made of $(cat "%s/low/src/lib.rt"): $*$(cat)"; exit 3\n' "$(cd .. && pwd)" >out/secv && chmod +x out/secv ;;
 esac
 """
@@ -103,10 +103,10 @@ class Checkout:
             os.remove(path)
         return told
 
-    def below(self):
-        """The libraries that were proved side by side."""
-        with open(os.path.join(self.kit, "checked"), encoding="ascii") as file:
-            return re.findall("//crates/([a-z_]+)", file.read())
+    def proved(self):
+        """The libraries that the last build proved before the program, in their order."""
+        with open(os.path.join(self.kit, "last"), encoding="ascii") as file:
+            return file.read().split()
 
     def logs(self):
         out = os.path.join(self.top, "crates", "secv", "out")
@@ -155,7 +155,7 @@ def builds(at):
     compare("one build of the program", calls[-1:], ["run"])
     # With one job all is one call.
     if calls != ["run"]:
-        compare("the last crates come last", (calls, at.below()), (["all", "lib", "run"], ["low"]))
+        compare("what the program stands on comes first", (calls, at.proved()), (["lib", "lib", "run"], ["low", "sv_cli"]))
     compare("its log", len(at.logs()), 1)
     compare("no second build", (at.run("d"), at.calls()), (("made of one: d\n", "", 3), []))
     for crate, text in (("low", "one"), ("other", "two")):
@@ -223,7 +223,7 @@ def stopped(at):
         build.send_signal(number)
         compare(f"{number.name} while it builds", ended(build), ("", BUILDING + STOPPED, 70))
         compare(f"{number.name} ends the build", goes(child), True)
-        compare(f"{number.name} leaves no crate", os.path.exists(out_of(at, "below")), False)
+        compare(f"{number.name} leaves no lane", os.path.exists(out_of(at, "lanes")), False)
     at.then("")
     compare("it builds then", at.run(), ("made of one: \n", BUILDING, 3))
 
@@ -236,7 +236,7 @@ def fails(at):
         log = os.path.join(at.top, "crates", "secv", "out", at.logs()[-1])
         goal = "".join(OPEN.splitlines(True)[1:3])
         compare("a failed proof", (out, said, status), ("", f"{BUILDING}{goal}secv: the build failed; all of it is in {log}\n", 70))
-        compare("a failed proof leaves no crate", os.path.exists(out_of(at, "below")), False)
+        compare("a failed proof leaves no lane", os.path.exists(out_of(at, "lanes")), False)
     at.then("")
     compare("it builds then", at.run(), ("made of one: \n", BUILDING, 3))
 

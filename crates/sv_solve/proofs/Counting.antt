@@ -19,7 +19,7 @@ use Rattle.sv_solve.proofs.Clauses.{one_sign}
 use Rattle.sv_solve.proofs.Ternary.{AreTernary, number, number-below, same_digits}
 
 -- whether a variable stands among literals, and in which polarity
-pub digit : List ℤ → ℕ → ℕ
+unfoldable pub digit : List ℤ → ℕ → ℕ
 digit clause v = cond (stands (pos v) clause) 0 (cond (stands (neg_ℤ (pos v)) clause) 1 2)
 
 -- literals of some variables, as a number

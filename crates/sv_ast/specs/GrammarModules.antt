@@ -59,7 +59,7 @@ IsAlways l (always_item p clock s) =
     word_at words.Always p ⨾ a_sign signs.At ⨾ IsEvent clock ⨾ IsStatement l 0 s
 IsAlways l _ = never
 
--- the place of an expression: of its operator, its `?` or its first brace, else of its first token
+-- the place of an expression: of its operator, its `?`, its first brace, or else its first token
 abbrev pub place_of : ExpressionTree → Place
 place_of (literal v p) = p
 place_of (named x p) = p

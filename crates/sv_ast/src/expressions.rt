@@ -1,6 +1,7 @@
 // Expressions.
 ghost use Rattle.std.specs.Prelude.{◌≡◌, ◌&&◌, IfOk};
 ghost use Rattle.std.specs.List.{list_all};
+ghost use Rattle.sv_ast.specs.GrammarModules.{place_of};
 ghost use Rattle.sv_ast.specs.Shape.{is_shaped_expression, has_part, are_shaped_parts, is_number};
 ghost use Rattle.sv_ast.specs.Tree.{ExpressionTree};
 ghost use Rattle.sv_ast.specs.Views.{expression_tree, expression_trees, parts_of};
@@ -75,6 +76,26 @@ impl Expr {
                 boxed(count, alloc)?,
                 copies(parts, alloc)?,
             )),
+        }
+    }
+}
+
+impl Expr {
+    /// The place of its operator, its `?`, its first brace, or else its first token (this
+    /// project's profile).
+    pub fn place(&self) -> Place
+        ensures { result ≡ place_of (expression_tree self.now) }
+    {
+        match self {
+            Expr::Number(_, place)
+            | Expr::Name(_, place)
+            | Expr::Bit(_, place, _)
+            | Expr::Part(_, place, _, _)
+            | Expr::Unary(_, place, _)
+            | Expr::Binary(_, place, _, _)
+            | Expr::Choice(place, _, _, _)
+            | Expr::Join(place, _)
+            | Expr::Repeat(place, _, _) => *place,
         }
     }
 }

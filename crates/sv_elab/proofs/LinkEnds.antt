@@ -13,10 +13,11 @@ use Rattle.sv_ast.specs.Instances.{port_named, whole_signal}
 use Rattle.sv_ast.specs.Scopes.{width_of}
 use Rattle.sv_ast.specs.Tree.{ExpressionTree, DeclarationTree, NamedLink, named_links}
 use Rattle.sv_ast.specs.Tree.{LinkTrees, ordered_links}
+use Rattle.sv_ast.specs.GrammarModules.{place_of}
 use Rattle.sv_flat.specs.Design.{TypedTree, port_in, port_out, ProcessForm}
 use Rattle.sv_elab_rules.specs.Walks.{WalkStep, Walk, ask, done, found, ◌>>=◌}
 use Rattle.sv_elab_rules.specs.Rules.{wrong_link, links_over}
-use Rattle.sv_elab_rules.specs.Names.{Names, place_of}
+use Rattle.sv_elab_rules.specs.Names.{Names}
 use Rattle.sv_elab_rules.specs.ExpressionSteps.{expression_walk}
 use Rattle.sv_elab_rules.specs.Links.{Ports, whole_assignment, port_number, port_width, port_value}
 use Rattle.sv_elab_rules.specs.Links.{input_link, output_link, link_walk, optional_link, named_links_walk}

@@ -25,7 +25,7 @@ use std::alloc::{AllocError, Global};
 use sv_ast::{Decl, DeclKind, Expr, Links, Module};
 use sv_flat::{FExpr, FNode, ProcKind, Process, SigId};
 use sv_num::{Fault, Name, OutOfMemory, Place, Rule};
-use sv_width::{Scope, place_of, refusal_naming, typed};
+use sv_width::{Scope, refusal_naming, typed};
 
 /// The ports of an instance: how many signals stand before them, their module, the place of the
 /// first port of each name, and what the header's declarations say of the names.
@@ -139,7 +139,7 @@ fn link_in(
     let width = width_of(ports.scope, &port.name);
     let value = typed(alloc, expr, outer, width)?;
     let signal = ports.signal(&port.name)?;
-    let place = place_of(expr);
+    let place = expr.place();
     Ok(whole_assignment(alloc, place, ProcKind::PortIn, signal, width, value)?)
 }
 
@@ -158,7 +158,7 @@ fn link_out(
     ensures broken { IfErr result (IsBreach (output_link (names_of outer.now) (ports_form ports.now)
         (declaration_tree port.now) (expression_tree expr.now)).end) }
 {
-    let place = place_of(expr);
+    let place = expr.place();
     let known = match whole_signal(outer, expr) {
         Some(known) => known,
         None => return Err(refusal_naming(alloc, Rule::Port, place, &port.name)),
@@ -296,7 +296,7 @@ fn add_ordered(
     for (index, expr) in exprs.iter().enumerate() {
         let port = match ports.master.ports.get(index) {
             Some(port) => port,
-            None => return Err(Fault::broken(Rule::Port, place_of(expr), Vec::new(alloc))),
+            None => return Err(Fault::broken(Rule::Port, expr.place(), Vec::new(alloc))),
         };
         processes.push(link(alloc, outer, ports, port, expr)?)?;
     }

@@ -13,9 +13,10 @@ use Rattle.sv_ast.specs.Instances.{entry, open_parameters}
 use Rattle.sv_ast.specs.declared.modules.Overrides.{Overrides}
 use Rattle.sv_ast.specs.declared.modules.Overrides.TheVariants as overrides
 use Rattle.sv_ast.specs.Views.{expression_trees, named_override, override_trees}
+use Rattle.sv_ast.specs.GrammarModules.{place_of}
 use Rattle.sv_elab_rules.specs.Walks.{WalkStep, Walk, ask, ◌>>=◌}
 use Rattle.sv_elab_rules.specs.Rules.{wrong_override, overrides_over}
-use Rattle.sv_elab_rules.specs.Names.{Names, place_of}
+use Rattle.sv_elab_rules.specs.Names.{Names}
 use Rattle.sv_elab_rules.specs.ExpressionSteps.{constant_walk}
 use Rattle.sv_elab_rules.specs.Overrides.{is_open, named_walk, ordered_walk, overrides_walk}
 use Rattle.sv_elab_rules.proofs.WalkLemmas.{end_after, end_broken}

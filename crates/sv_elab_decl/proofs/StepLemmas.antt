@@ -7,9 +7,10 @@ use Rattle.sv_ast.specs.Scopes.{Number, parameter, signal}
 use Rattle.sv_ast.specs.Tree.{ExpressionTree, SpanTree, DeclarationTree, ParameterTree}
 use Rattle.sv_ast.specs.Values.{constant_of, whole_number}
 use Rattle.sv_ast.specs.Instances.{entry, span_width, in_range}
+use Rattle.sv_ast.specs.GrammarModules.{place_of}
 use Rattle.sv_elab_rules.specs.Walks.{WalkStep, Walk, Steps, ask, done, ◌>>=◌}
 use Rattle.sv_elab_rules.specs.Rules.{twice, too_many, bad_range}
-use Rattle.sv_elab_rules.specs.Names.{Names, is_bound, names_at, place_of}
+use Rattle.sv_elab_rules.specs.Names.{Names, is_bound, names_at}
 use Rattle.sv_elab_rules.specs.ExpressionSteps.{asked, own_divisors, constant_walk}
 use Rattle.sv_elab_rules.specs.Declarations.{Site, Declared, is_range, range_steps, override_of}
 use Rattle.sv_elab_rules.specs.Declarations.{final_walk, parameter_walk, declared_signal, signal_ahead}

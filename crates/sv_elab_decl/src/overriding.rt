@@ -18,7 +18,7 @@ use indexmap::{IndexMap, IndexSet};
 use std::alloc::Global;
 use sv_ast::{Expr, Item, Module, Overrides, Param};
 use sv_num::{Bits, Fault, Name, OutOfMemory, Place, Rule};
-use sv_width::{Scope, constant_in_reach, place_of, refusal, refusal_naming};
+use sv_width::{Scope, constant_in_reach, refusal, refusal_naming};
 
 // The parameters of a header.
 fn header_params<'a>(alloc: Global, params: &'a [Param]) -> Result<Vec<&'a Param>, OutOfMemory>
@@ -150,7 +150,7 @@ fn ordered(
     let mut set = IndexMap::new(alloc);
     for (index, value) in values.iter().enumerate() {
         if index >= free.len() {
-            return Err(refusal(alloc, Rule::Parameter, place_of(value)));
+            return Err(refusal(alloc, Rule::Parameter, value.place()));
         }
         let param = free[index];
         let bits = constant_in_reach(alloc, value, outer)?;

@@ -13,7 +13,7 @@ ghost use Rattle.sv_elab_decl.specs.Ranges.{IsWidthOf, IsWidth, IsRange};
 use std::alloc::Global;
 use sv_ast::Span;
 use sv_num::{Bits, Fault, Rule};
-use sv_width::{Scope, constant, natural, place_of, refusal};
+use sv_width::{Scope, constant, natural, refusal};
 
 // The most bits that a range gives.
 const MOST_BITS: u64 = 64;
@@ -44,7 +44,7 @@ fn range_width(alloc: Global, span: &Span, scope: &Scope) -> Result<u8, Fault>
     let low = constant(alloc, &span.low, scope)?;
     match width_of(high, low) {
         Some(width) => Ok(width),
-        None => Err(refusal(alloc, Rule::BadRange, place_of(&span.high))),
+        None => Err(refusal(alloc, Rule::BadRange, span.high.place())),
     }
 }
 

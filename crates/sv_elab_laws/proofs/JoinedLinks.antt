@@ -18,11 +18,12 @@ use Rattle.sv_ast.specs.Instances.{is_signal, whole_signal}
 use Rattle.sv_ast.specs.ClockPaths.{is_input_kind}
 use Rattle.sv_ast.specs.Parts.{Part, PartSignal, within, PortLink, port_path}
 use Rattle.sv_ast.specs.Parts.{declaration_of, declarations}
+use Rattle.sv_ast.specs.GrammarModules.{place_of}
 use Rattle.sv_flat.specs.Design.{TypedTree, ProcessForm, port_in, port_out}
 use Rattle.sv_flat.specs.Clocks.{whole_name, link_in, link_out}
 use Rattle.sv_elab_rules.specs.Walks.{Walk, ask, found}
 use Rattle.sv_elab_rules.specs.Rules.{unknown_name, wrong_link}
-use Rattle.sv_elab_rules.specs.Names.{Names, is_bound, in_reach, place_of}
+use Rattle.sv_elab_rules.specs.Names.{Names, is_bound, in_reach}
 use Rattle.sv_elab_rules.specs.TypedExpressions.{named_node, typed_of}
 use Rattle.sv_elab_rules.specs.ExpressionSteps.{asked, divisors, typed_walk, expression_walk}
 use Rattle.sv_elab_rules.specs.Links.{port_number, port_width, port_value, whole_assignment}

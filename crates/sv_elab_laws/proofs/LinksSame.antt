@@ -12,12 +12,13 @@ use Rattle.sv_ast.specs.Values.{joined_value, assigned_value}
 use Rattle.sv_ast.specs.Instances.{is_signal, whole_name, whole_signal}
 use Rattle.sv_ast.specs.Runs.{Running, targets_width, run as source_run}
 use Rattle.sv_ast.specs.Processes.{assigns as assigns_whole}
+use Rattle.sv_ast.specs.GrammarModules.{place_of}
 use Rattle.sv_flat.specs.Design.{SignalForm, TypedTree, ProcessKind, continuous, port_in, port_out}
 use Rattle.sv_flat.specs.Design.{ProcessForm}
 use Rattle.sv_flat.specs.Values.{signal_width, value}
 use Rattle.sv_flat.specs.Runs.{Updates, run, run_alone}
 use Rattle.sv_elab_rules.specs.Walks.{found}
-use Rattle.sv_elab_rules.specs.Names.{Names, place_of}
+use Rattle.sv_elab_rules.specs.Names.{Names}
 use Rattle.sv_elab_rules.specs.Rules.{wrong_link}
 use Rattle.sv_elab_rules.specs.ExpressionSteps.{expression_walk}
 use Rattle.sv_elab_rules.specs.Links.{Ports, port_number, port_width, port_value, whole_assignment}

@@ -15,10 +15,11 @@ use Rattle.sv_ast.specs.Tree.{parameter_item, declared}
 use Rattle.sv_ast.specs.Values.{natural, constant_of, whole_number}
 use Rattle.sv_ast.specs.Instances.{entry, span_width, in_range, bindings_after}
 use Rattle.sv_ast.specs.Parts.{declaration_of}
+use Rattle.sv_ast.specs.GrammarModules.{place_of}
 use Rattle.sv_flat.specs.Design.{SignalForm}
 use Rattle.sv_elab_rules.specs.Walks.{done, ask}
 use Rattle.sv_elab_rules.specs.Rules.{twice, bad_range}
-use Rattle.sv_elab_rules.specs.Names.{Names, is_bound, names_at, number_from, place_of}
+use Rattle.sv_elab_rules.specs.Names.{Names, is_bound, names_at, number_from}
 use Rattle.sv_elab_rules.specs.ExpressionSteps.{asked, own_divisors, constant_walk}
 use Rattle.sv_elab_rules.specs.Declarations.{Site, Declared, is_range, range_steps, override_of}
 use Rattle.sv_elab_rules.specs.Declarations.{final_walk, parameter_walk, declared_signal, signal_ahead}

@@ -15,10 +15,11 @@ use Rattle.sv_ast.specs.ClockPaths.{is_input_kind}
 use Rattle.sv_ast.specs.Parts.{Part, PartSignal, declaration_of, PortLink, port_link}
 use Rattle.sv_ast.specs.Parts.{links_to}
 use Rattle.sv_ast.specs.Processes.{linking}
+use Rattle.sv_ast.specs.GrammarModules.{place_of}
 use Rattle.sv_flat.specs.Design.{ProcessForm}
 use Rattle.sv_elab_rules.specs.Walks.{Walk, done, ask, found}
 use Rattle.sv_elab_rules.specs.Rules.{wrong_link}
-use Rattle.sv_elab_rules.specs.Names.{Names, place_of}
+use Rattle.sv_elab_rules.specs.Names.{Names}
 use Rattle.sv_elab_rules.specs.ExpressionSteps.{expression_walk}
 use Rattle.sv_elab_rules.specs.Links.{Ports, port_number, port_width, input_link, output_link, link_walk}
 use Rattle.sv_elab_rules.specs.Links.{optional_link, named_links_walk, ordered_links_walk, links_walk}

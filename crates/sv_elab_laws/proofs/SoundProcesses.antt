@@ -12,6 +12,7 @@ use Rattle.sv_ast.specs.Tree.{if_else, case_of, TargetTree, TextTree}
 use Rattle.sv_ast.specs.Shape.{is_shaped_expression, is_whole_target}
 use Rattle.sv_ast.specs.Parts.{Part, parts, PartSignal, PortLink}
 use Rattle.sv_ast.specs.Processes.{Process, combinational, clocked, linking}
+use Rattle.sv_ast.specs.GrammarModules.{place_of}
 use Rattle.sv_flat.specs.Design.{SignalForm, TypedTree, FlatStatement, assign, ProcessKind}
 use Rattle.sv_flat.specs.Design.{continuous, port_in, port_out, combinational as combinational_kind}
 use Rattle.sv_flat.specs.Design.{clocked as clocked_kind, release, ProcessForm, FlatDesign}
@@ -20,7 +21,7 @@ use Rattle.sv_flat.specs.Soundness.{is_signal as is_number, is_part_of, well_for
 use Rattle.sv_flat.specs.Soundness.{statement_sound, is_one_assignment, kind_sound, process_sound}
 use Rattle.sv_flat.specs.Processes.{is_clocked}
 use Rattle.sv_elab_rules.specs.Walks.{each}
-use Rattle.sv_elab_rules.specs.Names.{Names, place_of}
+use Rattle.sv_elab_rules.specs.Names.{Names}
 use Rattle.sv_elab_rules.specs.ExpressionSteps.{expression_walk}
 use Rattle.sv_elab_rules.specs.Targets.{target_steps, targets_steps, pieces_of, assignment_walk}
 use Rattle.sv_elab_rules.specs.Statements.{statement_walk}

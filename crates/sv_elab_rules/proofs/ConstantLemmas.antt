@@ -7,10 +7,11 @@ use Rattle.sv_ast.specs.Tree.{ExpressionTree, ExpressionTrees, literal, named, b
 use Rattle.sv_ast.specs.Tree.{unary, binary, choice, join, replication, no_expressions}
 use Rattle.sv_ast.specs.Tree.{more_expressions, SpanTree}
 use Rattle.sv_ast.specs.Values.{length_of, joined_length, whole_number, constant_of}
+use Rattle.sv_ast.specs.GrammarModules.{place_of}
 use Rattle.sv_elab_rules.specs.Walks.{Steps, done, ask, ◌>>=◌}
 use Rattle.sv_elab_rules.specs.Rules.{unknown_name, too_wide, bad_select, not_constant, division, bad_count}
 use Rattle.sv_elab_rules.specs.Rules.{bad_range}
-use Rattle.sv_elab_rules.specs.Names.{Names, means_signal, place_of}
+use Rattle.sv_elab_rules.specs.Names.{Names, means_signal}
 use Rattle.sv_elab_rules.specs.TypedExpressions.{names_signal}
 use Rattle.sv_elab_rules.specs.ExpressionSteps.{own_divisors, is_below, is_count, is_part, sized_parts}
 use Rattle.sv_elab_rules.specs.ExpressionSteps.{asked, asked_parts, constant_walk}

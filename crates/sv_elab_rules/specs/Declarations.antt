@@ -14,12 +14,13 @@ use Rattle.sv_ast.specs.Tree.{ExpressionTree, SpanTree, DeclarationTree, Paramet
 use Rattle.sv_ast.specs.Tree.{parameter_item, declared, ModuleTree}
 use Rattle.sv_ast.specs.Values.{whole_number}
 use Rattle.sv_ast.specs.Instances.{entry, is_empty, span_width, in_range}
+use Rattle.sv_ast.specs.GrammarModules.{place_of}
 use Rattle.sv_flat.specs.declared.signals.SigKind.{SigKind}
 use Rattle.sv_flat.specs.declared.signals.SigKind.TheVariants as kinds
 use Rattle.sv_flat.specs.Design.{SignalForm}
 use Rattle.sv_elab_rules.specs.Walks.{Walk, Steps, done, ask, ◌>>=◌}
 use Rattle.sv_elab_rules.specs.Rules.{twice, too_many, bad_range}
-use Rattle.sv_elab_rules.specs.Names.{Names, is_bound, names_at, place_of}
+use Rattle.sv_elab_rules.specs.Names.{Names, is_bound, names_at}
 use Rattle.sv_elab_rules.specs.ExpressionSteps.{is_below, constant_walk}
 
 -- an instance: the names of the instances down to it, the modules that it stands inside of with its

@@ -12,11 +12,12 @@ use Rattle.sv_ast.specs.Tree.{unary, binary, choice, join, replication, no_expre
 use Rattle.sv_ast.specs.Tree.{more_expressions}
 use Rattle.sv_ast.specs.Values.{nowhere, length_of, joined_length, signed_of, value, whole_number}
 use Rattle.sv_ast.specs.Values.{constant_of}
+use Rattle.sv_ast.specs.GrammarModules.{place_of}
 use Rattle.sv_flat.specs.Design.{TypedTree}
 use Rattle.sv_elab_rules.specs.Walks.{Walk, Steps, done, ask, ◌>>=◌}
 use Rattle.sv_elab_rules.specs.Rules.{unknown_name, too_wide, bad_select, not_constant, zero_divisor}
 use Rattle.sv_elab_rules.specs.Rules.{division, unsized_part, bad_count}
-use Rattle.sv_elab_rules.specs.Names.{Names, is_parameter, in_reach, means_signal, place_of}
+use Rattle.sv_elab_rules.specs.Names.{Names, is_parameter, in_reach, means_signal}
 use Rattle.sv_elab_rules.specs.TypedExpressions.{names_signal, left_length, right_length}
 use Rattle.sv_elab_rules.specs.TypedExpressions.{left_signed, right_signed, typed_of}
 

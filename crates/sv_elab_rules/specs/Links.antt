@@ -10,11 +10,12 @@ use Rattle.sv_ast.specs.Scopes.{Scope, width_of}
 use Rattle.sv_ast.specs.Tree.{ExpressionTree, DeclarationTree, NamedLink, LinkTrees, named_links}
 use Rattle.sv_ast.specs.Tree.{ordered_links, ModuleTree}
 use Rattle.sv_ast.specs.Instances.{port_named, whole_signal}
+use Rattle.sv_ast.specs.GrammarModules.{place_of}
 use Rattle.sv_flat.specs.Design.{TypedTree, typed, read, assign, ProcessKind, port_in, port_out}
 use Rattle.sv_flat.specs.Design.{ProcessForm}
 use Rattle.sv_elab_rules.specs.Walks.{Walk, done, ask, found, broken, ◌>>=◌}
 use Rattle.sv_elab_rules.specs.Rules.{wrong_link, links_over}
-use Rattle.sv_elab_rules.specs.Names.{Names, place_of}
+use Rattle.sv_elab_rules.specs.Names.{Names}
 use Rattle.sv_elab_rules.specs.ExpressionSteps.{expression_walk}
 
 -- the ports of an instance, of which the first gets the number `base`, and what their declarations

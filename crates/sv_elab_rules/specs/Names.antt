@@ -5,10 +5,8 @@ use Rattle.std.specs.Prelude.{ℕ, ◌+◌, Bool, true, false, ◌||◌, List, [
 use Rattle.std.specs.Prelude.{if◌then◌else◌}
 use Rattle.std.specs.List.{list_any}
 use Rattle.std.specs.Str.{bytes_eq}
-use Rattle.sv_num.specs.declared.faults.Place.{Place}
 use Rattle.sv_ast.specs.Scopes.{Scope, Binding, parameter, signal}
-use Rattle.sv_ast.specs.Tree.{ExpressionTree, literal, named, bit_of, part_of, unary, binary}
-use Rattle.sv_ast.specs.Tree.{choice, join, replication, ItemTree, declared, ModuleTree}
+use Rattle.sv_ast.specs.Tree.{ItemTree, declared, ModuleTree}
 use Rattle.sv_ast.specs.Instances.{entry, all_items, is_signal}
 
 -- what a name stands for, the number of the signal of a name, and whether a declaration that is
@@ -62,15 +60,3 @@ names_at base m earlier = record {
   number = number_from base earlier;
   later = λ n. list_any (item_declares n) (all_items m);
 }
-
--- the place of an expression: of its operator, its `?`, its first brace, or else its first token
-abbrev pub place_of : ExpressionTree → Place
-place_of (literal l p) = p
-place_of (named n p) = p
-place_of (bit_of n p i) = p
-place_of (part_of n p h l) = p
-place_of (unary op p e) = p
-place_of (binary op p a b) = p
-place_of (choice p c a b) = p
-place_of (join p es) = p
-place_of (replication p k es) = p

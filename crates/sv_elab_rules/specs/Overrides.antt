@@ -7,9 +7,10 @@ use Rattle.sv_ast.specs.Scopes.{Number}
 use Rattle.sv_ast.specs.Tree.{ExpressionTree, ParameterTree, NamedOverride, OverrideTrees}
 use Rattle.sv_ast.specs.Tree.{named_overrides, ordered_overrides, ModuleTree}
 use Rattle.sv_ast.specs.Instances.{entry, open_parameters}
+use Rattle.sv_ast.specs.GrammarModules.{place_of}
 use Rattle.sv_elab_rules.specs.Walks.{Walk, done, ask, broken, ◌>>=◌}
 use Rattle.sv_elab_rules.specs.Rules.{wrong_override, overrides_over}
-use Rattle.sv_elab_rules.specs.Names.{Names, place_of}
+use Rattle.sv_elab_rules.specs.Names.{Names}
 use Rattle.sv_elab_rules.specs.ExpressionSteps.{constant_walk}
 
 -- whether an instance may set a parameter of that name

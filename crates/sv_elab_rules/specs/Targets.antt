@@ -9,9 +9,10 @@ use Rattle.sv_ast.specs.Values.{natural, whole_number}
 use Rattle.sv_ast.specs.Runs.{targets_width}
 use Rattle.sv_flat.specs.Design.{PieceForm, FlatStatement, assign}
 use Rattle.sv_ast.specs.Instances.{is_signal}
+use Rattle.sv_ast.specs.GrammarModules.{place_of}
 use Rattle.sv_elab_rules.specs.Walks.{Walk, Steps, done, ask, each, ◌>>=◌}
 use Rattle.sv_elab_rules.specs.Rules.{unknown_name, too_wide, bad_select}
-use Rattle.sv_elab_rules.specs.Names.{Names, place_of}
+use Rattle.sv_elab_rules.specs.Names.{Names}
 use Rattle.sv_elab_rules.specs.ExpressionSteps.{is_below, is_part, constant_walk, expression_walk}
 
 -- the highest and the lowest bit that a selection takes from a signal of some bits

@@ -13,10 +13,11 @@ use Rattle.sv_ast.specs.Tree.{ExpressionTree, Selection, whole, bit_at, part_fro
 use Rattle.sv_ast.specs.Instances.{is_signal}
 use Rattle.sv_ast.specs.Values.{natural, whole_number, constant_of}
 use Rattle.sv_ast.specs.Runs.{selected, target_width, targets_width}
+use Rattle.sv_ast.specs.GrammarModules.{place_of}
 use Rattle.sv_flat.specs.Design.{TypedTree, PieceForm, assign}
 use Rattle.sv_elab_rules.specs.Walks.{WalkStep, Steps, ask, each}
 use Rattle.sv_elab_rules.specs.Rules.{unknown_name, too_wide, bad_select}
-use Rattle.sv_elab_rules.specs.Names.{Names, place_of}
+use Rattle.sv_elab_rules.specs.Names.{Names}
 use Rattle.sv_elab_rules.specs.ExpressionSteps.{is_below, is_part, asked, own_divisors, constant_walk}
 use Rattle.sv_elab_rules.specs.ExpressionSteps.{expression_walk}
 use Rattle.sv_elab_rules.specs.Targets.{highest, lowest, selection_steps, target_steps, targets_steps}

@@ -25,7 +25,7 @@ use sv_ast::{Expr, Select, Target};
 use sv_flat::{FStmt, Piece};
 use sv_num::{Bits, Fault, OutOfMemory, Place, Rule};
 use sv_width::{
-    Meaning, Scope, constant_in_reach, natural, part_inside, place_of, refusal, typed, unknown_name,
+    Meaning, Scope, constant_in_reach, natural, part_inside, refusal, typed, unknown_name,
 };
 
 // The bit that an index takes from so many, if it is one of them.
@@ -61,7 +61,7 @@ fn selected(alloc: Global, target: &Target, width: u8, scope: &Scope) -> Result<
             let bits = constant_in_reach(alloc, index, scope)?;
             match bit_inside(width, bits) {
                 Some(bit) => Ok((bit, bit)),
-                None => Err(refusal(alloc, Rule::BadSelect, place_of(index))),
+                None => Err(refusal(alloc, Rule::BadSelect, index.place())),
             }
         }
         Select::Part(high, low) => {

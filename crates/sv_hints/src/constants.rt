@@ -3,7 +3,7 @@ use crate::maps::is_negative;
 use crate::names::{NamedItem, first_declaration};
 use std::alloc::{AllocError, Global};
 use sv_ast::{Expr, Item, Module, Overrides, Param, Select, Span, Target, Text};
-use sv_num::{BinOp, OpClass, Place, UnOp, class_of};
+use sv_num::{BinOp, OpClass, UnOp, class_of};
 
 // The least number that is told of no sum or product here: below it none has lost a bit.
 const TOO_LARGE: u64 = 0x8000_0000;
@@ -20,21 +20,6 @@ struct Constant {
 pub struct Constants<'t> {
     module: &'t Module,
     known: Vec<(&'t [u8], Constant)>,
-}
-
-/// The place of an expression.
-pub fn place_of(expr: &Expr) -> Place {
-    match expr {
-        Expr::Number(_, place) => *place,
-        Expr::Name(_, place) => *place,
-        Expr::Bit(_, place, _) => *place,
-        Expr::Part(_, place, _, _) => *place,
-        Expr::Unary(_, place, _) => *place,
-        Expr::Binary(_, place, _, _) => *place,
-        Expr::Choice(place, _, _, _) => *place,
-        Expr::Join(place, _) => *place,
-        Expr::Repeat(place, _, _) => *place,
-    }
 }
 
 // Whether an instance of the module sets a parameter.

@@ -1,6 +1,5 @@
 // What is said of links and overrides of an instance.
 use crate::cases::Case;
-use crate::constants::place_of;
 use crate::instances::{instance_of, master_of, own_name};
 use crate::names::{NamedItem, first_declaration, port_named};
 use crate::origins::{is_up_to, item_at, module_at};
@@ -422,7 +421,7 @@ fn link_to(text: &Text, top: Option<&str>, name: &[u8]) -> Option<PortLink> {
         Links::Ordered(links) => {
             let at = number_of_port(master_of(text, instance)?, port)?;
             match links.get(at) {
-                Some(expr) => Some(PortLink::Expr(place_of(expr))),
+                Some(expr) => Some(PortLink::Expr(expr.place())),
                 None => Some(missing),
             }
         }
@@ -443,7 +442,7 @@ fn number_of_port(master: &Module, name: &[u8]) -> Option<usize> {
 fn link_among(links: &[NamedLink], port: &[u8], missing: PortLink) -> PortLink {
     match link_named(links, port) {
         Some(link) => match &link.2 {
-            Some(expr) => PortLink::Expr(place_of(expr)),
+            Some(expr) => PortLink::Expr(expr.place()),
             None => PortLink::Nothing(link.1),
         },
         None => missing,

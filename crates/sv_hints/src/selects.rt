@@ -1,6 +1,6 @@
 // What is said of bits and parts that lie outside of their signals, of ranges, and of lengths.
 use crate::cases::{Case, owned};
-use crate::constants::{Constants, place_of};
+use crate::constants::Constants;
 use crate::contexts::{Spot, bytes_at, is_bound, last_open, spot_at};
 use crate::links::NamedLink;
 use crate::origins::{item_at, module_at};
@@ -81,7 +81,7 @@ fn as_sought(expr: &Expr, sought: SoughtPart) -> Option<FoundPart<'_>> {
 
 fn as_select(expr: &Expr, place: Place) -> Option<FoundPart<'_>> {
     match expr {
-        Expr::Bit(name, _, index) if place_of(index) == place => {
+        Expr::Bit(name, _, index) if index.place() == place => {
             Some(FoundPart::Bit(name.bytes(), index))
         }
         Expr::Part(name, at, high, low) if *at == place => {
@@ -101,7 +101,7 @@ fn as_long(expr: &Expr, place: Place) -> Option<FoundPart<'_>> {
 
 fn as_count(expr: &Expr, place: Place) -> Option<FoundPart<'_>> {
     match expr {
-        Expr::Repeat(_, count, _) if place_of(count) == place => Some(FoundPart::Expr(count)),
+        Expr::Repeat(_, count, _) if count.place() == place => Some(FoundPart::Expr(count)),
         _ => None,
     }
 }
@@ -132,7 +132,7 @@ fn in_targets(targets: &[Target], place: Place) -> Option<FoundPart<'_>> {
 
 fn in_target(target: &Target, place: Place) -> Option<FoundPart<'_>> {
     match &target.select {
-        Select::Bit(index) if place_of(index) == place => {
+        Select::Bit(index) if index.place() == place => {
             Some(FoundPart::Bit(target.name.bytes(), index))
         }
         Select::Part(high, low) if target.place == place => {
@@ -472,7 +472,7 @@ fn range_of_item(item: &Item, place: Place) -> Option<&Span> {
 
 fn range_if(span: &Option<Span>, place: Place) -> Option<&Span> {
     match span {
-        Some(span) if place_of(&span.high) == place => Some(span),
+        Some(span) if span.high.place() == place => Some(span),
         _ => None,
     }
 }

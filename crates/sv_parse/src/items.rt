@@ -3,7 +3,7 @@ ghost use Rattle.std.specs.Prelude.{◌≡◌, [], ◌∷◌};
 ghost use Rattle.std.specs.Option.{option_map};
 ghost use Rattle.sv_token.specs.declared.signs.SignKind.TheVariants as signs;
 ghost use Rattle.sv_ast.specs.Views.{expression_tree, placed_name, item_tree};
-ghost use Rattle.sv_ast.specs.GrammarModules.{IsEvent, IsAlways, place_of};
+ghost use Rattle.sv_ast.specs.GrammarModules.{IsEvent, IsAlways};
 ghost use Rattle.sv_ast.specs.GrammarModules.{IsInvariant, IsListedItem, IsItem};
 ghost use Rattle.sv_ast.specs.GrammarRules.{all_limits};
 ghost use Rattle.sv_ast.specs.GrammarStatements.{IsNext, only};
@@ -82,23 +82,6 @@ fn read_process<'a>(alloc: Global, input: Input<'a>) -> Read<'a, Item>
     Ok((Item::Always { place, clock, body }, rest))
 }
 
-// The place of an expression.
-fn place_of(expr: &Expr) -> Place
-    ensures { result ≡ place_of (expression_tree expr.now) }
-{
-    match expr {
-        Expr::Number(_, place)
-        | Expr::Name(_, place)
-        | Expr::Bit(_, place, _)
-        | Expr::Part(_, place, _, _)
-        | Expr::Unary(_, place, _)
-        | Expr::Binary(_, place, _, _)
-        | Expr::Choice(place, _, _, _)
-        | Expr::Join(place, _)
-        | Expr::Repeat(place, _, _) => *place,
-    }
-}
-
 // The one item that says what always holds, with the place of the expression.
 fn read_invariant<'a>(alloc: Global, input: Input<'a>) -> Read<'a, Vec<Item>>
     ensures is { GivesAll result input.entry item_tree (only (IsInvariant all_limits)) }
@@ -110,7 +93,7 @@ fn read_invariant<'a>(alloc: Global, input: Input<'a>) -> Read<'a, Vec<Item>>
 {
     let (_place, rest) = expect_word(WordKind::Invariant, input.rest)?;
     let (expr, rest) = read_expression(alloc, Input { rest, ..input }, 0)?;
-    let item = Item::Invariant(place_of(&expr), expr);
+    let item = Item::Invariant(expr.place(), expr);
     Ok((one(alloc, item)?, rest))
 }
 

@@ -14,9 +14,10 @@ use Rattle.sv_ast.specs.Tree.{ExpressionTree, ExpressionTrees, bit_of, part_of, 
 use Rattle.sv_ast.specs.Tree.{choice, join, replication}
 use Rattle.sv_ast.specs.Values.{natural, whole_number}
 use Rattle.sv_ast.specs.Instances.{is_signal}
+use Rattle.sv_ast.specs.GrammarModules.{place_of}
 use Rattle.sv_elab_rules.specs.Walks.{WalkStep, ask}
 use Rattle.sv_elab_rules.specs.Rules.{unknown_name, bad_select}
-use Rattle.sv_elab_rules.specs.Names.{Names, means_signal, place_of}
+use Rattle.sv_elab_rules.specs.Names.{Names, means_signal}
 use Rattle.sv_elab_rules.specs.ExpressionSteps.{asked, asked_parts, own_divisors, is_part}
 use Rattle.sv_width.specs.declared.meanings.KnownSignal.{KnownSignal}
 use Rattle.sv_width.specs.declared.meanings.Meaning.{Meaning}

@@ -18,8 +18,9 @@ use Rattle.sv_ast.specs.Values.{natural, binary_length, binary_signed, length_of
 use Rattle.sv_ast.specs.Values.{signed_of, whole_number}
 use Rattle.sv_num.specs.Parts.{span_of}
 use Rattle.sv_ast.specs.Instances.{is_signal}
+use Rattle.sv_ast.specs.GrammarModules.{place_of}
 use Rattle.sv_elab_rules.specs.Walks.{WalkStep, Walk, Steps, done, ask, then_walk, ◌>>=◌}
-use Rattle.sv_elab_rules.specs.Names.{Names, is_parameter, means_signal, place_of}
+use Rattle.sv_elab_rules.specs.Names.{Names, is_parameter, means_signal}
 use Rattle.sv_elab_rules.specs.Rules.{unknown_name, not_constant, bad_select}
 use Rattle.sv_elab_rules.specs.TypedExpressions.{names_signal, some_names_signal}
 use Rattle.sv_elab_rules.specs.ExpressionSteps.{asked, asked_parts, own_divisors, sized_parts}

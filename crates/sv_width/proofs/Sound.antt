@@ -7,8 +7,9 @@ use Rattle.sv_ast.specs.Tree.{ExpressionTree, ExpressionTrees, literal, named, b
 use Rattle.sv_ast.specs.Tree.{unary, binary, choice, join, replication, no_expressions}
 use Rattle.sv_ast.specs.Tree.{more_expressions}
 use Rattle.sv_ast.specs.Values.{length_of, joined_length, whole_number}
+use Rattle.sv_ast.specs.GrammarModules.{place_of}
 use Rattle.sv_elab_rules.specs.Walks.{WalkStep, Steps, done, ask, then_walk, ◌>>=◌}
-use Rattle.sv_elab_rules.specs.Names.{Names, is_parameter, in_reach, means_signal, place_of}
+use Rattle.sv_elab_rules.specs.Names.{Names, is_parameter, in_reach, means_signal}
 use Rattle.sv_elab_rules.specs.Rules.{unknown_name, too_wide, bad_select, not_constant}
 use Rattle.sv_elab_rules.specs.TypedExpressions.{names_signal}
 use Rattle.sv_elab_rules.specs.ExpressionSteps.{asked, asked_parts, own_divisors, sized_parts, is_below}

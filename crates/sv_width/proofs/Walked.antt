@@ -20,11 +20,12 @@ use Rattle.sv_ast.specs.Tree.{more_expressions}
 use Rattle.sv_ast.specs.Shape.{is_shaped_expression, are_shaped_parts, has_part}
 use Rattle.sv_ast.specs.Values.{nowhere, length_of, joined_length, signed_of, value}
 use Rattle.sv_ast.specs.Values.{natural, whole_number}
+use Rattle.sv_ast.specs.GrammarModules.{place_of}
 use Rattle.sv_flat.specs.Design as flat
 use Rattle.sv_flat.specs.Design.{TypedTree, TypedTrees, NodeTree, typed}
 use Rattle.sv_elab_rules.specs.Walks.{WalkStep, Steps, done, ask, then_walk, ◌>>=◌}
 use Rattle.sv_elab_rules.specs.Rules.{zero_divisor}
-use Rattle.sv_elab_rules.specs.Names.{Names, place_of}
+use Rattle.sv_elab_rules.specs.Names.{Names}
 use Rattle.sv_elab_rules.specs.TypedExpressions.{names_signal, left_length, left_signed}
 use Rattle.sv_elab_rules.specs.TypedExpressions.{right_length, right_signed, named_node, typed_of}
 use Rattle.sv_elab_rules.specs.TypedExpressions.{typed_parts}

@@ -9,7 +9,8 @@ use Rattle.sv_ast.specs.Scopes.{Binding, parameter, signal}
 use Rattle.sv_ast.specs.Tree as source
 use Rattle.sv_ast.specs.Tree.{ExpressionTree, ExpressionTrees}
 use Rattle.sv_ast.specs.Values.{natural, length_of, signed_of, whole_number}
-use Rattle.sv_elab_rules.specs.Names.{Names, place_of}
+use Rattle.sv_ast.specs.GrammarModules.{place_of}
+use Rattle.sv_elab_rules.specs.Names.{Names}
 use Rattle.sv_elab_rules.specs.TypedExpressions.{names_signal}
 
 -- an expression's own length and signedness, and whether it names a signal

@@ -11,13 +11,14 @@ use Rattle.sv_num.specs.UnaryValues.{gives_one_bit}
 use Rattle.sv_num.specs.BinaryValues.{class_of, is_division}
 use Rattle.sv_ast.specs.Tree.{ExpressionTree, ExpressionTrees}
 use Rattle.sv_ast.specs.Values.{natural, binary_length, binary_signed, constant_of, whole_number}
+use Rattle.sv_ast.specs.GrammarModules.{place_of}
 use Rattle.sv_flat.specs.Design.{typed}
 use Rattle.sv_flat.specs.declared.expressions.FExpr.{FExpr}
 use Rattle.sv_flat.specs.declared.expressions.FNode.{FNode}
 use Rattle.sv_flat.specs.Views.{typed_tree, node_tree}
 use Rattle.sv_elab_rules.specs.Walks.{Steps, done, ask, ◌>>=◌}
 use Rattle.sv_elab_rules.specs.Rules.{bad_select, too_wide, zero_divisor, division, bad_count}
-use Rattle.sv_elab_rules.specs.Names.{Names, place_of}
+use Rattle.sv_elab_rules.specs.Names.{Names}
 use Rattle.sv_elab_rules.specs.TypedExpressions.{names_signal}
 use Rattle.sv_elab_rules.specs.ExpressionSteps.{asked, asked_parts, own_divisors, sized_parts, is_below}
 use Rattle.sv_elab_rules.specs.ExpressionSteps.{is_count}

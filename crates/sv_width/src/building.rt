@@ -5,8 +5,8 @@ ghost use Rattle.sv_num.specs.Vectors.{width_of, is_signed, value_of, number_of}
 ghost use Rattle.sv_ast.specs.Views.{expression_tree, expression_trees, parts_of as tree_parts};
 ghost use Rattle.sv_ast.specs.Values.{natural};
 ghost use Rattle.sv_num.specs.Parts.{span_of};
+ghost use Rattle.sv_ast.specs.GrammarModules.{place_of};
 ghost use Rattle.sv_elab_rules.specs.Walks.{ask};
-ghost use Rattle.sv_elab_rules.specs.Names.{place_of};
 ghost use Rattle.sv_elab_rules.specs.Rules.{bad_select};
 ghost use Rattle.sv_elab_rules.specs.ExpressionSteps.{is_below, is_part, is_sized, sized_parts};
 ghost use Rattle.sv_width.specs.Answers.{IsBreach};

@@ -31,7 +31,7 @@ mod typing;
 
 pub use building::{natural, part_inside};
 pub use laws::{typed_forms_are_well_formed, typed_means_its_source};
-pub use lookups::{place_of, refusal, refusal_naming, unknown_name};
+pub use lookups::{refusal, refusal_naming, unknown_name};
 pub use meanings::{KnownSignal, Meaning};
 pub use operands::Operand;
 pub use scope::Scope;

@@ -6,7 +6,6 @@ ghost use Rattle.sv_ast.specs.Tree as tree;
 ghost use Rattle.sv_ast.specs.Views.{expression_tree, expression_trees, parts_of};
 ghost use Rattle.sv_elab_rules.specs.Walks.{WalkStep};
 ghost use Rattle.sv_elab_rules.specs.Rules.{step, unknown_name};
-ghost use Rattle.sv_elab_rules.specs.Names.{place_of};
 ghost use Rattle.sv_elab_rules.specs.ExpressionSteps.{asked};
 ghost use Rattle.sv_elab_rules.specs.TypedExpressions.{names_signal, some_names_signal};
 ghost use Rattle.sv_width.specs.declared.meanings.Meaning.TheVariants as meaning;
@@ -189,21 +188,4 @@ fn some_name_signal(exprs: &[Expr], scope: &Scope) -> bool
         }
     }
     false
-}
-
-/// The place of an expression: of its operator, its `?`, its first brace, or else its first token.
-pub fn place_of(expr: &Expr) -> Place
-    ensures { result ≡ place_of (expression_tree expr.now) }
-{
-    match expr {
-        Expr::Number(_, place) => *place,
-        Expr::Name(_, place) => *place,
-        Expr::Bit(_, place, _) => *place,
-        Expr::Part(_, place, _, _) => *place,
-        Expr::Unary(_, place, _) => *place,
-        Expr::Binary(_, place, _, _) => *place,
-        Expr::Choice(place, _, _, _) => *place,
-        Expr::Join(place, _) => *place,
-        Expr::Repeat(place, _, _) => *place,
-    }
 }

@@ -15,7 +15,7 @@ ghost use Rattle.sv_width.specs.Views.{measured_tree};
 
 use crate::building::{binary, bit, choice, inside, is_below, join, part, replication, unary};
 use crate::folding::folded;
-use crate::lookups::{Reach, Setting, named, names_signal, place_of, refusal, selected};
+use crate::lookups::{Reach, Setting, named, names_signal, refusal, selected};
 use crate::measured::{Measured, value};
 use crate::scope::Scope;
 use std::alloc::Global;
@@ -136,7 +136,7 @@ fn measured_binary(
         (IsBreach (asked (reach_names reach.now) (is_constant reach.now.setting)
         (tree.binary op place (expression_tree left.now) (expression_tree right.now))).end) }
 {
-    let after = place_of(right);
+    let after = right.place();
     let left = measured(alloc, left, reach)?;
     let right = measured(alloc, right, reach)?;
     binary(alloc, op, place, after, left, right)
@@ -209,7 +209,7 @@ fn measured_replication(
         (tree.replication place (expression_tree count.now)
         (parts_of (expression_trees parts.now)))).end) }
 {
-    let at = place_of(count);
+    let at = count.place();
     let count = measured_constant(alloc, count, reach)?;
     let operands = measured_parts(alloc, parts, reach)?;
     replication(alloc, place, at, count, parts, operands)
@@ -276,7 +276,7 @@ fn constant_index(alloc: Global, index: &Expr, width: u8, scope: &Scope) -> Resu
     if is_below(bits, width) {
         Ok(operand)
     } else {
-        Err(refusal(alloc, Rule::BadSelect, place_of(index)))
+        Err(refusal(alloc, Rule::BadSelect, index.place()))
     }
 }
 

@@ -82,7 +82,7 @@ returns-in-None-clause-broken c =
     let past : length items ≤ i =
     subst (λ (xs : List Decl).
     length xs ≤ i) c.deref.ensures.value c.in-None.ensures.lookup.3 in
-    breach_of c.broken.result 313 c.place_of.result c.new.result.items [] c.broken.ensures
+    breach_of c.broken.result 313 c.place.result c.new.result.items [] c.broken.ensures
     c.new.ensures.items
     (ordered_links_walk names ports (map declaration_tree items)
     (map process_form c.args.processes.now.items) (map expression_tree c.args.exprs.now)).end
@@ -91,7 +91,7 @@ returns-in-None-clause-broken c =
     (left_none items i past)
     ∙ ordered_over names ports ps e rest
     ∙ ap (λ (p : Place). let r : Result (List ProcessForm) WalkStep = Err (links_over p) in
-    r) (sym c.place_of.ensures))
+    r) (sym c.place.ensures))
 
 pub link-requires-clause-shaped : goal.link-requires-clause-shaped
 link-requires-clause-shaped c =

@@ -3,11 +3,11 @@ use Rattle.std.specs.Prelude.{Result, Ok}
 use Rattle.std.proofs.lemmas.Result.{err_from_is_err_and}
 use Rattle.sv_num.specs.declared.faults.Place.{Place}
 use Rattle.sv_ast.specs.Views.{declaration_tree, expression_tree}
+use Rattle.sv_ast.specs.GrammarModules.{place_of}
 use Rattle.sv_flat.specs.Design.{ProcessForm, port_in}
 use Rattle.sv_flat.specs.Views.{typed_tree}
 use Rattle.sv_elab_rules.specs.Walks.{WalkStep}
 use Rattle.sv_elab_rules.specs.ExpressionSteps.{expression_walk}
-use Rattle.sv_elab_rules.specs.Names.{place_of}
 use Rattle.sv_elab_rules.specs.Links.{whole_assignment, port_number, input_link}
 use Rattle.sv_width.specs.Scopes.{names_of}
 use Rattle.sv_elab.specs.Instances.{ports_form}
@@ -46,6 +46,6 @@ returns-clause-found c =
     ∙ ap (λ (p : Place).
     let r : Result ProcessForm WalkStep = Ok
     (whole_assignment p port_in c.in_ok-signal.signal.0 c.width_of-width.result v) in
-    r) (sym c.place_of-place.ensures)
+    r) (sym c.place-place.ensures)
     ∙ ap (λ (f : ProcessForm). let r : Result ProcessForm WalkStep = Ok f in
     r) (sym c.in_ok-whole_assignment.ensures)

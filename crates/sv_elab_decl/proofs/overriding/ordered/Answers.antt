@@ -33,7 +33,7 @@ returns-then-index-len-clause-broken c =
     let value = c.index-values-index.result in
     let set = c.loop-index.invariant.walk.0 in
     let past : length free ≤ i = omega (arith, c.if-index-len.true, c.len.ensures) in
-    breach_by c.refusal.result (overrides_over c.place_of.result) c.refusal.ensures
+    breach_by c.refusal.result (overrides_over c.place.result) c.refusal.ensures
     (ordered_walk outer (open_parameters (module_tree c.args.master.now)) []
     (expression_trees values)).end
     (sym c.loop-index.invariant.walk.1
@@ -43,7 +43,7 @@ returns-then-index-len-clause-broken c =
     ∙ ap (λ (es : List Expr). (ordered_walk outer [] set (expression_trees es)).end)
     (left_more values i value c.loop-index-test.true c.index-values-index.is)
     ∙ ordered_over outer set (expression_tree value) (expression_trees (drop (i + 1) values))
-    ∙ ap (λ (p : Place). Err (overrides_over p)) (sym c.place_of.ensures))
+    ∙ ap (λ (p : Place). Err (overrides_over p)) (sym c.place.ensures))
 
 -- the parameter and the value at hand, and those behind them
 abbrev param_at : After-index-param → ParameterTree

@@ -57,8 +57,8 @@ pub returns-in-None-clause-broken : goal.returns-in-None-clause-broken
 returns-in-None-clause-broken c =
     let names = names_ahead c.args.scope.now in
     let span = span_tree c.args.span.now in
-    breach_by c.refusal.result (bad_range c.place_of.result) c.refusal.ensures
+    breach_by c.refusal.result (bad_range c.place.result) c.refusal.ensures
     (range_steps names (Some span)).end
     (range_refused names span (number_of c.in_ok-high.high) c.in_ok-high.ensures.found
     (number_of c.in_ok-low.low) c.in_ok-low.ensures.found c.in-None.ensures
-    ∙ ap (λ (p : Place). Err (bad_range p)) (sym c.place_of.ensures))
+    ∙ ap (λ (p : Place). Err (bad_range p)) (sym c.place.ensures))

@@ -79,12 +79,12 @@ returns-in-None-clause-broken c =
     let t = c.args.target.now in
     let e = expression_tree c.in-Bit.index in
     let outside = rw c.in-None.is at c.bit_inside.ensures in
-    breach_by c.refusal.result (bad_select c.place_of.result) c.refusal.ensures
+    breach_by c.refusal.result (bad_select c.place.result) c.refusal.ensures
     (selection_steps names t.name t.place (selection_of t.select)).end
     (ap (λ x. (selection_steps names t.name t.place (selection_of x)).end) c.in-Bit.is
     ∙ bit_refused names t.name t.place c.args.width c.requires.known e c.in_ok-bits-in-Bit.bits
     c.in_ok-bits-in-Bit.ensures.found outside
-    ∙ ap (λ p. Err (bad_select p)) (sym c.place_of.ensures))
+    ∙ ap (λ p. Err (bad_select p)) (sym c.place.ensures))
 
 pub returns-in-Some-part_inside-clause-found : goal.returns-in-Some-part_inside-clause-found
 returns-in-Some-part_inside-clause-found c =

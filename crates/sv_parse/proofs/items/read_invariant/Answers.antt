@@ -16,7 +16,7 @@ use Rattle.sv_parse.proofs.items.read_invariant.Goals as goal
 pub returns-clause-is : goal.returns-clause-is
 returns-clause-is c =
     one_is _ _ item_tree (IsInvariant all_limits) _ _ _ _ c.in_ok-one.ensures (
-      c.place_of.ensures,
+      c.place.ensures,
       (
         (placed_tokens c.args.input.bytes.now c.in_ok-_place.rest.now),
         (c.in_ok-_place._place, c.in_ok-_place.ensures.is c.args.input.bytes.now),

@@ -11,7 +11,7 @@ use Rattle.std.specs.Slice.Iter.{iter_rest}
 use Rattle.sv_num.specs.declared.faults.Place.{Place}
 use Rattle.sv_ast.specs.declared.expressions.Expr.{Expr}
 use Rattle.sv_ast.specs.Views.{expression_tree, expression_trees, parts_of}
-use Rattle.sv_elab_rules.specs.Names.{place_of}
+use Rattle.sv_ast.specs.GrammarModules.{place_of}
 use Rattle.sv_elab_rules.specs.Rules.{unsized_part}
 use Rattle.sv_elab_rules.specs.Walks.{WalkStep, ask, ◌>>=◌}
 use Rattle.sv_elab_rules.specs.ExpressionSteps.{is_sized, sized_parts}

@@ -17,9 +17,10 @@ use Rattle.sv_ast.specs.Values.{length_of, joined_length, signed_of}
 use Rattle.sv_elab_rules.specs.TypedExpressions.{names_signal, some_names_signal}
 use Rattle.sv_ast.specs.Shape.{is_shaped_expression, are_shaped_parts, has_part}
 use Rattle.sv_ast.specs.Views.{expression_tree, expression_trees, row_parts, parts_of}
+use Rattle.sv_ast.specs.GrammarModules.{place_of}
 use Rattle.sv_elab_rules.specs.Walks.{WalkStep, ask}
 use Rattle.sv_elab_rules.specs.Rules.{bad_select}
-use Rattle.sv_elab_rules.specs.Names.{Names, place_of}
+use Rattle.sv_elab_rules.specs.Names.{Names}
 use Rattle.sv_elab_rules.specs.ExpressionSteps.{asked, asked_parts, own_divisors, is_below}
 use Rattle.sv_width.specs.declared.lookups.Reach.{Reach}
 use Rattle.sv_width.specs.declared.lookups.Setting.{Setting}
@@ -364,7 +365,7 @@ measured_binary-returns-clause-found t c =
     (made ∙ ap (λ (x : Place).
     measured.binary (binary_own c.args.op (measured_tree c.in_ok-left.left)
     (measured_tree c.in_ok-right.right)) c.args.op x (measured_tree c.in_ok-left.left)
-    (measured_tree c.in_ok-right.right)) c.place_of-after.ensures)) c.binary.ensures.asked
+    (measured_tree c.in_ok-right.right)) c.place-after.ensures)) c.binary.ensures.asked
     c.binary.ensures.found
 
 pub measured_binary-returns-clause-broken : goal.measured_binary-returns-clause-broken
@@ -497,7 +498,7 @@ measured_replication-returns-clause-found t c =
     (sym (ap (λ (x : Place).
     (replication_steps c.args.place x (whole_of c.in_ok-count.count)
     (parts_of (expression_trees c.args.parts.now))
-    (measured_row (measured_trees c.in_ok-operands.operands.items))).end) c.place_of-at.ensures)
+    (measured_row (measured_trees c.in_ok-operands.operands.items))).end) c.place-at.ensures)
     ∙ passes) made) c.replication.ensures.asked c.replication.ensures.found
 
 pub measured_replication-returns-clause-broken : goal.measured_replication-returns-clause-broken
@@ -512,7 +513,7 @@ measured_replication-returns-clause-broken t c =
     IsBreach r f) (ap (λ (x : Place).
     (replication_steps c.args.place x (whole_of c.in_ok-count.count)
     (parts_of (expression_trees c.args.parts.now))
-    (measured_row (measured_trees c.in_ok-operands.operands.items))).end) c.place_of-at.ensures)
+    (measured_row (measured_trees c.in_ok-operands.operands.items))).end) c.place-at.ensures)
     h)) c.replication.ensures.broken
 
 pub constant_index-returns-in_err-bits-clause-broken :
@@ -550,7 +551,7 @@ constant_index-returns-else-is_below-clause-broken t c =
     c.in_ok-operand.ensures.found c.own_type.result.width c.own_type.result.signed
     c.own_type.ensures.width c.own_type.ensures.signed c.in_ok-bits.bits c.in_ok-bits.ensures.found)
     (sym c.if-is_below.false ∙ c.is_below.ensures)
-    ∙ ap (λ (p : Place). (ask false (bad_select p)).end) (sym c.place_of.ensures))
+    ∙ ap (λ (p : Place). (ask false (bad_select p)).end) (sym c.place.ensures))
 
 -- what is measured inside a constant
 measured_inside : (r : Reach) (inside : Setting) (e : ExpressionTree) (m : Measured)

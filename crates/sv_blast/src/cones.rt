@@ -15,12 +15,11 @@ ghost use Rattle.sv_encoding.specs.Cones.{next_cone, now_cone, registers_in};
 ghost use Rattle.sv_encoding.specs.Encoding.{given_in, inputs_in, settled_in};
 ghost use Rattle.sv_blast.specs.NamedMarks.{is_named_in, starts_now, AreBelow};
 
-use crate::marks::{
-    has_mark, kept, listed, mark, mark_all, mark_all_names, mark_names, marked_inputs, unmarked,
-};
+use crate::marks::{kept, mark, mark_all, mark_all_names, mark_names, marked_inputs, unmarked};
 use std::alloc::{AllocError, Global};
 use sv_design::Design;
 use sv_flat::SigId;
+use sv_graph::{has_mark, listed};
 use sv_lattice::Label;
 use sv_obl::{Frame, Goal, Query, Step};
 

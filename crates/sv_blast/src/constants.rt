@@ -1,6 +1,6 @@
 // Bits at constant indexes.
 ghost use Rattle.std.specs.Prelude.{◌≡◌, ℤ, [], ◌<◌, ◌≤◌, ◌^◌, IsTrue};
-ghost use Rattle.sv_num.specs.Vectors.{as_number, is_negative};
+ghost use Rattle.sv_num.specs.Vectors.{as_number};
 ghost use Rattle.sv_flat.specs.Soundness.{well_formed};
 ghost use Rattle.sv_flat.specs.Values.{number_of};
 ghost use Rattle.sv_flat.specs.Views.{typed_tree};
@@ -11,16 +11,7 @@ ghost use Rattle.sv_encoding.specs.Expressions.{bit_at_number};
 use sv_circuits::{falsity, literal_at};
 use sv_flat::{FExpr, value_of};
 use sv_gates::{Gates, Literal};
-
-// Whether the number of a length stands for one below 0.
-fn is_below_zero(number: u64, length: u8, signed: bool) -> bool
-    requires some { 1 ≤ length }
-    requires few { length ≤ 64 }
-    requires low { number < 2 ^ length }
-    ensures { result ≡ is_negative length signed number }
-{
-    signed && number >> (length - 1) == 1
-}
+use sv_rules::is_below_zero;
 
 // The bit of a word at a number of a length and signedness, and false outside of it.
 fn bit_at_number(gates: &Gates, word: &[Literal], number: u64, length: u8, signed: bool) -> Literal

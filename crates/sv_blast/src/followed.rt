@@ -36,7 +36,6 @@ use crate::arms::copied;
 use crate::expressions::{expression, is_true};
 use crate::fan_in::FanIn;
 use crate::followed_arms::{CopyWord, WordsArm, push_arm, put_words, words_at};
-use crate::marks::has_mark;
 use crate::tables::WordTable;
 use std::alloc::{AllocError, Global};
 use std::collections::BTreeSet;
@@ -44,6 +43,7 @@ use sv_circuits::{chosen, falsity, filled, replaced};
 use sv_design::Design;
 use sv_flat::{FExpr, Piece, SigId, Signal};
 use sv_gates::{GateFault, Gates, Literal};
+use sv_graph::has_mark;
 use sv_obl::{Bodies, Marked, know_design};
 
 /// What words are made for: the signals, alone and with their copies behind them, since a wanted

@@ -18,13 +18,13 @@ ghost use Rattle.sv_encoding.specs.Sizes.{widths_of};
 ghost use Rattle.sv_blast.specs.FollowedWords.{forms_in, follows_in, IsFollowed};
 
 use crate::followed::Followed;
-use crate::marks::has_mark;
 use crate::sizes_of_expressions::{expression_size, truth_size, width_of};
 use crate::sizes_of_operators::sum;
 use std::alloc::{AllocError, Global};
 use std::collections::BTreeSet;
 use sv_design::Design;
 use sv_flat::{FExpr, Piece, SigId};
+use sv_graph::has_mark;
 use sv_obl::{Bodies, Marked};
 
 impl Followed<'_> {

@@ -1,9 +1,8 @@
 // Tables that say of each signal whether it is marked.
-ghost use Rattle.std.specs.Prelude.{◌≡◌, ◌≤◌, ◌^◌, ℕ, ◌==◌, ◌++◌, [], ◌∷◌, false, filter, length};
-ghost use Rattle.std.specs.Prelude.{replicate, if◌then◌else◌, IfOk, OnOk};
+ghost use Rattle.std.specs.Prelude.{◌≡◌, ℕ, ◌==◌, [], false, filter, length, replicate, IfOk};
 ghost use Rattle.sv_flat.specs.Processes.{is_top_kind, is_top_input};
 ghost use Rattle.sv_flat.specs.Readings.{names_signal};
-ghost use Rattle.sv_flat.specs.Sets.{holds, those};
+ghost use Rattle.sv_flat.specs.Sets.{holds};
 ghost use Rattle.sv_flat.specs.Views.{design_of, typed_tree, typed_trees};
 ghost use Rattle.sv_design.specs.Designs.{IsDesign};
 ghost use Rattle.sv_graph.specs.Marks.{is_marked, Marks};
@@ -13,6 +12,7 @@ ghost use Rattle.sv_blast.specs.NamedMarks.{is_named_in};
 use std::alloc::{AllocError, Global};
 use sv_design::Design;
 use sv_flat::{FExpr, FNode, SigId, SigKind};
+use sv_graph::{has_mark, push_if};
 
 /// A table in which no signal of the design is marked. An error says that memory ran out.
 pub fn unmarked(alloc: Global, design: &Design) -> Result<Vec<bool>, AllocError>
@@ -41,13 +41,6 @@ pub fn marked_inputs(alloc: Global, design: &Design) -> Result<Vec<bool>, AllocE
         table.push(is_top(signal.kind))?;
     }
     Ok(table)
-}
-
-/// Whether a table has the signal.
-pub fn has_mark(table: &[bool], signal: SigId) -> bool
-    ensures { result ≡ is_marked table.now signal.0 }
-{
-    table.get(signal.0 as usize).copied().unwrap_or(false)
 }
 
 /// Marks a signal, where the table is long enough.
@@ -116,30 +109,6 @@ pub fn mark_all_names(table: &mut [bool], exprs: &[FExpr])
     for expr in exprs {
         mark_names(table, expr);
     }
-}
-
-// Adds a signal where it is to be added. An error says that memory ran out.
-fn push_if(has: bool, signal: SigId, signals: &mut Vec<SigId>) -> Result<(), AllocError>
-    ensures { OnOk result (numbers signals.new.items ≡ numbers signals.old.items ++ (if has
-        then signal.0 ∷ [] else [])) }
-{
-    if has {
-        signals.push(signal)?;
-    }
-    Ok(())
-}
-
-/// The signals that a table has, in signal order. An error says that memory ran out.
-pub fn listed(alloc: Global, table: &[bool]) -> Result<Vec<SigId>, AllocError>
-    requires { length table.now ≤ 2 ^ 32 }
-    ensures { IfOk result (λ signals.
-        numbers signals.items ≡ those (length table.now) (is_marked table.now)) }
-{
-    let mut signals = Vec::new(alloc);
-    for (s, has) in table.iter().enumerate() {
-        push_if(*has, SigId(s as u32), &mut signals)?;
-    }
-    Ok(signals)
 }
 
 /// Those of the signals that a table has. An error says that memory ran out.

@@ -19,14 +19,14 @@ use Rattle.std.proofs.lemmas.Option.{slice_get-map}
 use Rattle.sv_num.specs.declared.faults.Place.{Place}
 use Rattle.sv_flat.specs.Design.{SignalForm, ProcessForm, FlatDesign}
 use Rattle.sv_flat.specs.Assigned.{assigns}
-use Rattle.sv_flat.specs.Clocks.{is_clock_link, processes_of}
-use Rattle.sv_flat.specs.Processes.{drivers, is_top_input}
+use Rattle.sv_flat.specs.Clocks.{is_clock, is_clock_link, processes_of}
+use Rattle.sv_flat.specs.Processes.{drivers, is_top_input, is_top_kind}
 use Rattle.sv_graph.specs.BitSets.{is_set}
 use Rattle.sv_rules.specs.declared.drivers.Driver.{Driver}
 use Rattle.sv_rules.specs.declared.drivers.Drivers.{Drivers}
 use Rattle.sv_rules.specs.DriverTables.{driver_at, entries, and_one, first_at, second_at, AreBelow}
 use Rattle.sv_rules.specs.DriverTables.{AreDrivers, AreDriversOf, AreClocks, Notes, kept_of}
-use Rattle.sv_rules.proofs.ClockLinks.{clocks_count}
+use Rattle.sv_rules.proofs.ClockLinks.{at_table, clocks_count}
 use Rattle.sv_rules.proofs.NoteFacts.{same_drivers}
 use Rattle.sv_rules.proofs.Sound.{few_bits, some_width}
 
@@ -207,3 +207,17 @@ pub clock_inside : (flat : Flat) (items : List Signal) (clocks : List Bool) (i :
 clock_inside flat items clocks i same inside are =
     subst (λ n. i < n) (sym (clocks_count (design_of flat) clocks are))
     (inside_design flat items i same inside)
+
+-- what is made of whether the signal is an input of the top module and whether it is a clock, by its
+-- kind and by a table of clocks
+pub top_and_clock : {Y : Type 0} (make : Bool → Bool → Y) (flat : Flat) (items : List Signal)
+    (clocks : List Bool) (i : ℕ) (signal : Signal) (top : Bool)
+    → items ≡ flat.signals.items → i < length items → signal ≡ get_or items i signal
+    → AreClocks (design_of flat) clocks → top ≡ is_top_kind signal.kind
+    → make top (get_or clocks i false)
+    ≡ make (is_top_input (design_of flat) i) (is_clock (design_of flat) i)
+top_and_clock make flat items clocks i signal top same inside is are is_top =
+    ap₂ make (is_top
+    ∙ ap (λ (form : SignalForm). is_top_kind form.kind)
+    (sym (signal_at flat items i signal same inside is)))
+    (at_table (design_of flat) clocks are i (inside_design flat items i same inside))

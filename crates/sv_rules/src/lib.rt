@@ -39,7 +39,7 @@ pub use clocks::{is_clock_link, is_top};
 pub use drivers::{Driver, Drivers, driver_numbers};
 pub use found::{Found, first_of, is_before};
 pub use marks::{mark_targets, unmarked};
-pub use names::{Read, bits_read, indexed, names_in, part, whole};
+pub use names::{Read, bits_read, indexed, is_below_zero, names_in, part, whole};
 pub use pieces::add_pieces;
 pub use refusals::refusal;
 pub use std::alloc::AllocError as OutOfMemory;

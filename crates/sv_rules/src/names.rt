@@ -39,8 +39,9 @@ pub fn whole(signals: &[Signal], signal: SigId, place: Place) -> Read
     }
 }
 
-// Whether the number of a length stands for one below 0.
-fn is_below_zero(number: u64, length: u8, signed: bool) -> bool
+/// Whether the number of a length stands for one below 0: in a signed type numbers are in
+/// two's-complement form (IEEE 1364-2005, clause 3.5.1).
+pub fn is_below_zero(number: u64, length: u8, signed: bool) -> bool
     requires some { 1 ≤ length }
     requires few { length ≤ 64 }
     requires low { number < 2 ^ length }

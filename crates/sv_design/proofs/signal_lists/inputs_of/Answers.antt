@@ -1,13 +1,11 @@
-use Rattle.std.proofs.Common.{◌≡◌, ◌&&◌, not, false, length, get_or, sym, ap, ap₂, ◌∙◌, arith}
+use Rattle.std.proofs.Common.{◌≡◌, ◌&&◌, not, false, length, get_or, ap, ◌∙◌, arith}
 use Rattle.std.proofs.Math.ListN.{length-map}
 use Rattle.std.specs.List.{range_with_len}
 use Rattle.std.specs.Prelude.{filter}
 use Rattle.sv_flat.specs.Clocks.{is_clock}
-use Rattle.sv_flat.specs.Design.{SignalForm}
-use Rattle.sv_flat.specs.Processes.{is_top_kind, is_top_input}
+use Rattle.sv_flat.specs.Processes.{is_top_input}
 use Rattle.sv_flat.specs.Views.{design_of, signal_form}
-use Rattle.sv_rules.proofs.ClockLinks.{at_table}
-use Rattle.sv_rules.proofs.DriverFacts.{signal_at, inside_design, clock_inside}
+use Rattle.sv_rules.proofs.DriverFacts.{clock_inside, top_and_clock}
 use Rattle.sv_rules.proofs.TableFacts.{table_more, listed_are}
 use Rattle.sv_design.proofs.signal_lists.inputs_of.Goals as goal
 
@@ -18,18 +16,15 @@ bounds-clocks-s c =
 
 pub loop-s-preserved : goal.loop-s-preserved
 loop-s-preserved c =
-    let flat = c.args.flat.now in
-    let design = design_of flat in
+    let design = design_of c.args.flat.now in
     let i = c.loop-s.s in
-    let items = c.deref-signal-items.result.now in
-    let same = c.deref-signal-items.ensures.value in
-    let at = signal_at flat items i c.signal-item.result same c.loop-s-test.true c.signal-item.is in
-    let inside = inside_design flat items i same c.loop-s-test.true in
-    let top = c.is_top.ensures ∙ ap (λ (s : SignalForm). is_top_kind s.kind) (sym at) in
-    let clock = at_table design c.args.clocks.now c.requires.clocks i inside in
     table_more i c.loop-s.table.items c.push.new.self.items (λ s.
     is_top_input design s && not (is_clock design s)) c.is_input.result c.loop-s.invariant
-    (c.is_input.ensures ∙ ap₂ (λ t k. t && not k) top clock) c.in_ok-push.ensures.items
+    (c.is_input.ensures
+    ∙ top_and_clock (λ t k. t && not k) c.args.flat.now c.deref-signal-items.result.now
+    c.args.clocks.now i c.signal-item.result c.is_top.result c.deref-signal-items.ensures.value
+    c.loop-s-test.true c.signal-item.is c.requires.clocks c.is_top.ensures)
+    c.in_ok-push.ensures.items
 
 pub returns : goal.returns
 returns c =

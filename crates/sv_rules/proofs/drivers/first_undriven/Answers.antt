@@ -1,13 +1,11 @@
-use Rattle.std.proofs.Common.{not, ◌&&◌, get_or, None, sym}
-use Rattle.std.proofs.Common.{ap, ap₂, ◌∙◌}
+use Rattle.std.proofs.Common.{not, ◌&&◌, get_or, None, ap, ◌∙◌}
 use Rattle.std.specs.Prelude.{is_none}
 use Rattle.sv_flat.specs.Clocks.{is_clock}
-use Rattle.sv_flat.specs.Design.{SignalForm}
 use Rattle.sv_flat.specs.Drivers.{is_undriven}
-use Rattle.sv_flat.specs.Processes.{is_top_kind, is_top_input}
+use Rattle.sv_flat.specs.Processes.{is_top_input}
 use Rattle.sv_flat.specs.Views.{design_of, signal_form}
-use Rattle.sv_rules.proofs.ClockLinks.{at_table}
 use Rattle.sv_rules.proofs.DriverFacts.{none_is, signal_at, inside_design, clock_inside}
+use Rattle.sv_rules.proofs.DriverFacts.{top_and_clock}
 use Rattle.sv_rules.proofs.Firsts.{finds_more}
 use Rattle.sv_rules.proofs.drivers.first_undriven.Goals as goal
 
@@ -25,13 +23,13 @@ loop-i-preserved c =
     let same = c.deref-signal-items.ensures.value in
     let at = signal_at flat items i c.signal-item.result same c.loop-i-test.true c.signal-item.is in
     let inside = inside_design flat items i same c.loop-i-test.true in
-    let top = c.is_top.ensures ∙ ap (λ (s : SignalForm). is_top_kind s.kind) (sym at) in
     let none = ap (λ xs. is_none (get_or xs i None)) c.as_slice-first.ensures.value
     ∙ none_is design c.args.drivers.now c.requires.drivers i inside in
-    let clock = at_table design c.args.clocks.now c.requires.clocks i inside in
     let is = c.lacks_driver-undriven.ensures
-    ∙ ap₂ (λ t u. not t && not u && is_none (get_or c.as_slice-first.result.now i None))
-    top clock
+    ∙ top_and_clock (λ t u.
+    not t && not u && is_none (get_or c.as_slice-first.result.now i None)) flat items
+    c.args.clocks.now i c.signal-item.result c.is_top.result same c.loop-i-test.true
+    c.signal-item.is c.requires.clocks c.is_top.ensures
     ∙ ap (λ u. not (is_top_input design i) && not (is_clock design i) && u) none in
     finds_more design 604 (is_undriven design) i (signal_form c.signal-item.result)
     c.lacks_driver-undriven.result c.loop-i.found c.found_if.result c.first_of-found.result at is

@@ -14,10 +14,11 @@ use Rattle.sv_parse_machine.specs.Symbols.{State, Expected, InnerReaction, takes
 use Rattle.sv_parse_machine.specs.Symbols.{OuterReaction, takes, over, stuck}
 use Rattle.sv_parse_machine.specs.ExpressionTable.{operand_on, inner_on}
 use Rattle.sv_parse_machine.specs.ExpressionTable.{as_expression, expression_on}
-use Rattle.sv_parse_machine.specs.Machine.{outer_on, Step, goes, fails_as, Failure, stuck_at, too_deep}
-use Rattle.sv_parse_machine.specs.Machine.{too_long, ends_early, within_limits, inside_on, outside_on}
-use Rattle.sv_parse_machine.specs.Machine.{tokens_of, after_inner, after_outer, step, Outcome, fails}
-use Rattle.sv_parse_machine.specs.Machine.{may_be_empty, ended, at_end, go_on, run}
+use Rattle.sv_parse_machine.specs.Machine.{outer_on, Step, goes, fails_as, Failure, stuck_at}
+use Rattle.sv_parse_machine.specs.Machine.{too_deep, too_long, ends_early, within_limits, inside_on}
+use Rattle.sv_parse_machine.specs.Machine.{outside_on, tokens_of, after_inner, after_outer, step}
+use Rattle.sv_parse_machine.specs.Machine.{MachineEnd, fails, may_be_empty, ended, at_end, go_on}
+use Rattle.sv_parse_machine.specs.Machine.{run}
 use Rattle.sv_parse_machine.specs.Reads.{Reads, Halts}
 use Rattle.sv_parse_machine.proofs.AgreedRows.{PlainlyStuck, operand_is_plain}
 use Rattle.sv_parse_machine.proofs.ExpressionForms.{Next}
@@ -112,7 +113,7 @@ level_is_too_deep y level ys t ts more e = fails_at (outer y) t ts too_deep (λ 
     outer_step y below t ts (takes level 0 ys) e
     ∙ ap (λ b. within_limits b true (outside_on ys ++ below)) (beyond level 64 more))
 
-ended_over : (b : Bool) (below : Outcome) → b ≡ true → ended b below ≡ below
+ended_over : (b : Bool) (below : MachineEnd) → b ≡ true → ended b below ≡ below
 ended_over true below e = refl
 ended_over false below e = absurd (false≢true e)
 
@@ -127,7 +128,7 @@ skips y (t ∷ ts) empty next = record {
       (outer_step y below t ts over next);
 }
 
-ended_early : (b : Bool) (below : Outcome) → b ≡ false → ended b below ≡ fails ends_early []
+ended_early : (b : Bool) (below : MachineEnd) → b ≡ false → ended b below ≡ fails ends_early []
 ended_early true below e = absurd (false≢true (sym e))
 ended_early false below e = refl
 

@@ -15,8 +15,9 @@ use Rattle.sv_parse_machine.specs.Symbols.{OuterReaction, takes, begins, over, s
 use Rattle.sv_parse_machine.specs.ExpressionTable.{inner_on}
 use Rattle.sv_parse_machine.specs.ModuleTable.{one_module_on}
 use Rattle.sv_parse_machine.specs.Machine.{outer_on, Step, goes, fails_as, within_limits, inside_on}
-use Rattle.sv_parse_machine.specs.Machine.{outside_on, tokens_of, after_inner, after_outer, step, Outcome}
-use Rattle.sv_parse_machine.specs.Machine.{done, may_be_empty, ended, at_end, go_on, run, text_state}
+use Rattle.sv_parse_machine.specs.Machine.{outside_on, tokens_of, after_inner, after_outer, step}
+use Rattle.sv_parse_machine.specs.Machine.{MachineEnd, done, may_be_empty, ended, at_end, go_on}
+use Rattle.sv_parse_machine.specs.Machine.{run, text_state}
 use Rattle.sv_parse_machine.proofs.ExpressionForms.{inner_form, inner_forms, AcceptsInner}
 use Rattle.sv_parse_machine.proofs.ExpressionLengths.{all_inner_shrink}
 use Rattle.sv_parse_machine.proofs.InnerSteps.{by_token, no_token, none_opens, no_arm, f_inner}
@@ -272,7 +273,7 @@ empty_inner l start (tail n) may = ([], ([], refl, inl (tt, refl)))
 empty_inner l start (selection n) may = inl (tt, refl)
 empty_inner l start s may = absurd (false≢true may)
 
-ends_both : (b : Bool) (below : Outcome) → ended b below ≡ done → IsTrue b × (below ≡ done)
+ends_both : (b : Bool) (below : MachineEnd) → ended b below ≡ done → IsTrue b × (below ≡ done)
 ends_both true below e = (refl, e)
 ends_both false below e = absurd (cc)
 

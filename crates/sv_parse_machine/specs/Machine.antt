@@ -179,10 +179,10 @@ step l after (outer s ∷ below) x = after_outer l after below (step l after bel
 
 -- ---- a run
 
-pub data Outcome : Type 0 where
-  done : Outcome
+pub data MachineEnd : Type 0 where
+  done : MachineEnd
   -- with the tokens from the one on that breaks a rule; none at the end
-  fails : Failure → List Placed → Outcome
+  fails : Failure → List Placed → MachineEnd
 
 -- what may have no token
 abbrev pub may_be_empty : Symbol → Bool
@@ -209,20 +209,20 @@ may_be_empty (outer (perhaps_bits n)) = true
 may_be_empty (outer perhaps_colon) = true
 may_be_empty s = false
 
-abbrev pub ended : Bool → Outcome → Outcome
+abbrev pub ended : Bool → MachineEnd → MachineEnd
 ended true below = below
 ended false below = fails ends_early []
 
-abbrev pub at_end : State → Outcome
+abbrev pub at_end : State → MachineEnd
 at_end [] = done
 at_end (s ∷ below) = ended (may_be_empty s) (at_end below)
 
 -- on with what the step gives
-abbrev pub go_on : (State → Outcome) → List Placed → Step → Outcome
+abbrev pub go_on : (State → MachineEnd) → List Placed → Step → MachineEnd
 go_on next ts (goes s) = next s
 go_on next ts (fails_as f) = fails f ts
 
-abbrev pub run : Limits → State → List Placed → Outcome
+abbrev pub run : Limits → State → List Placed → MachineEnd
 run l s [] = at_end s
 run l s (t ∷ ts) = go_on (λ next. run l next ts) (t ∷ ts) (step l (length ts) s t.lexeme)
 

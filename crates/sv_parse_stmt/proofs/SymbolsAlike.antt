@@ -22,8 +22,8 @@ use Rattle.sv_parse_machine.specs.Symbols.{assigns, more_choices, assigned, valu
 use Rattle.sv_parse_machine.specs.Symbols.{later_assigned, more_assigned, outer, State, takes, and_then}
 use Rattle.sv_parse_machine.specs.Symbols.{unless_refused}
 use Rattle.sv_parse_machine.specs.StatementTable.{assignment_behind, is_less_equal, taken_if}
-use Rattle.sv_parse_machine.specs.Machine.{outer_on, Step, outside_on, after_outer, step, Outcome}
-use Rattle.sv_parse_machine.specs.Machine.{may_be_empty, ended, at_end, go_on, run}
+use Rattle.sv_parse_machine.specs.Machine.{outer_on, Step, outside_on, after_outer, step}
+use Rattle.sv_parse_machine.specs.Machine.{MachineEnd, may_be_empty, ended, at_end, go_on, run}
 use Rattle.sv_parse_machine.specs.Reads.{Reads, NextIs, IsNot, NextIsNotSign, NextIsNotWord, GoesOn}
 use Rattle.sv_parse_machine.specs.Reads.{NextIsTarget, BeginsTarget}
 use Rattle.sv_parse_machine.proofs.ReadSteps.{reads_then, reads_before, takes_token, expression_from}
@@ -64,7 +64,7 @@ begins_as y z zs [] first second next =
           (at_end (outside_on zs ++ below)) first second;
     }
   where
-    early : (b c : Bool) (p q : Outcome) → b ≡ false → c ≡ false → ended b p ≡ ended c q
+    early : (b c : Bool) (p q : MachineEnd) → b ≡ false → c ≡ false → ended b p ≡ ended c q
     early true c p q first second = absurd (false≢true (sym first))
     early false true p q first second = absurd (false≢true (sym second))
     early false false p q first second = refl

@@ -10,26 +10,26 @@ use Rattle.sv_circuits.specs.Circuits.{IsWord}
 use Rattle.sv_circuits.proofs.Lengths.{per_bit_length}
 use Rattle.sv_circuits.proofs.LoopSteps.{bits_grow, mux_takes}
 use Rattle.sv_circuits.proofs.WordKeeps.{literal_up, word_up}
-use Rattle.sv_blast.specs.declared.arms.Arm.{Arm}
+use Rattle.sv_blast.specs.declared.arms.TargetArm.{TargetArm}
 use Rattle.sv_blast.specs.TargetWords.{chosen_back, StandsAt, StandAt}
 
 -- ---- arms
 
 -- the choice at one branch
-abbrev pub chosen_at : Arm → Formula × Word → Formula × Word
+abbrev pub chosen_at : TargetArm → Formula × Word → Formula × Word
 chosen_at arm made = bitwise_word (mux_gate arm.condition) arm.word.items made.1 made.0
 
-pub chosen_last : (arms : List Arm) (arm : Arm) (made : Formula × Word) →
+pub chosen_last : (arms : List TargetArm) (arm : TargetArm) (made : Formula × Word) →
     chosen_back (arms ++ arm ∷ []) made ≡ chosen_back arms (chosen_at arm made)
 chosen_last [] arm made = refl
 chosen_last (a ∷ arms) arm made = ap (chosen_at a) (chosen_last arms arm made)
 
-chosen_grows : (arm : Arm) (made : Formula × Word) →
+chosen_grows : (arm : TargetArm) (made : Formula × Word) →
     made.0.variables ≤ (chosen_at arm made).0.variables
 chosen_grows arm made =
     bits_grow (mux_gate arm.condition) arm.word.items made.1 made.0 (mux_takes arm.condition)
 
-pub back_grows : (arms : List Arm) (made : Formula × Word) →
+pub back_grows : (arms : List TargetArm) (made : Formula × Word) →
     made.0.variables ≤ (chosen_back arms made).0.variables
 back_grows [] made = omega arith
 back_grows (arm ∷ arms) made =
@@ -39,19 +39,19 @@ back_grows (arm ∷ arms) made =
 
 -- ---- where they stand
 
-pub stand_before : (width n : ℕ) (arms : List Arm) (arm : Arm) →
+pub stand_before : (width n : ℕ) (arms : List TargetArm) (arm : TargetArm) →
     StandAt width n (arms ++ arm ∷ []) → StandAt width n arms × StandsAt width n arm
 stand_before width n [] arm stand = (tt, stand.0)
 stand_before width n (a ∷ arms) arm stand =
     let rest = stand_before width n arms arm stand.1 in
     ((stand.0, rest.0), rest.1)
 
-pub stand_with : (width n : ℕ) (arms : List Arm) (arm : Arm) → StandAt width n arms →
+pub stand_with : (width n : ℕ) (arms : List TargetArm) (arm : TargetArm) → StandAt width n arms →
     StandsAt width n arm → StandAt width n (arms ++ arm ∷ [])
 stand_with width n [] arm stand one = (one, tt)
 stand_with width n (a ∷ arms) arm stand one = (stand.0, stand_with width n arms arm stand.1 one)
 
-pub stand_up : (width m n : ℕ) (arms : List Arm) → m ≤ n → StandAt width m arms →
+pub stand_up : (width m n : ℕ) (arms : List TargetArm) → m ≤ n → StandAt width m arms →
     StandAt width n arms
 stand_up width m n [] up stand = tt
 stand_up width m n (arm ∷ arms) up stand = (
@@ -72,7 +72,7 @@ full_on {X} from is grows most high =
     subst (λ (z : Formula × X). most < z.0.variables) (sym is) (omega (arith, high, grows))
 
 -- what is to be made comes from the arms that are left and from a word that is there
-pub record BackAt (whole : Formula × Word) (width : ℕ) (old now : Formula) (arms : List Arm)
+pub record BackAt (whole : Formula × Word) (width : ℕ) (old now : Formula) (arms : List TargetArm)
     (word : Word) : Type 0 where
   pub made : whole ≡ chosen_back arms (now, word)
   pub stand : StandAt width now.variables arms
@@ -80,8 +80,8 @@ pub record BackAt (whole : Formula × Word) (width : ℕ) (old now : Formula) (a
   pub wide : length word ≡ width
   pub begins : Begins old now
 
-module _ (whole : Formula × Word) (width : ℕ) (old now : Formula) (arms left : List Arm)
-    (arm : Arm) (word : Word) (back : BackAt whole width old now arms word)
+module _ (whole : Formula × Word) (width : ℕ) (old now : Formula) (arms left : List TargetArm)
+    (arm : TargetArm) (word : Word) (back : BackAt whole width old now arms word)
     (split : arms ≡ left ++ arm ∷ []) where
   pub last_made : whole ≡ chosen_back left (chosen_at arm (now, word))
   last_made =

@@ -30,7 +30,7 @@ use Rattle.sv_encoding.specs.Expressions.{Words, expression_word, is_true_bit}
 use Rattle.sv_encoding_laws.proofs.ExpressionLaws.{Named}
 use Rattle.sv_encoding_laws.proofs.NamedValues.{named_from_reads}
 use Rattle.sv_encoding_laws.proofs.OperatorCounts.{IsLong, expression_count, truth_count}
-use Rattle.sv_blast.specs.declared.arms.Arm.{Arm}
+use Rattle.sv_blast.specs.declared.arms.TargetArm.{TargetArm}
 use Rattle.sv_blast.specs.WordTables.{StandFor}
 use Rattle.sv_blast.specs.TargetWords.{with_piece_of, target_word, IsReady, AreReady}
 use Rattle.sv_blast.specs.TargetWords.{chosen_back, StandAt}
@@ -141,7 +141,8 @@ module _ (signals : List SignalForm) (words : Words) where
 -- what is to be made comes from the arms that are open and from what is left of the slice; the
 -- target's word is still that of before
 pub record DownAt (signals : List SignalForm) (words : Words) (s : ℕ) (whole : Formula × Word)
-    (width : ℕ) (old now : Formula) (arms : List Arm) (rest : FlatStatement) (word : Word) : Type 0
+    (width : ℕ) (old now : Formula) (arms : List TargetArm) (rest : FlatStatement)
+    (word : Word) : Type 0
   where
     pub made : whole ≡ chosen_back arms (target_word signals words s rest word now)
     pub ready : AreReady signals now.variables words rest
@@ -151,7 +152,7 @@ pub record DownAt (signals : List SignalForm) (words : Words) (s : ℕ) (whole :
     pub begins : Begins old now
 
 module _ (signals : List SignalForm) (words : Words) (s : ℕ) (whole : Formula × Word)
-    (width : ℕ) (old now : Formula) (arms : List Arm) (word : Word) where
+    (width : ℕ) (old now : Formula) (arms : List TargetArm) (word : Word) where
   abbrev Down : FlatStatement → Type 0
   Down rest = DownAt signals words s whole width old now arms rest word
 
@@ -195,7 +196,7 @@ module _ (signals : List SignalForm) (words : Words) (s : ℕ) (whole : Formula 
             (subst (λ (z : Formula × ℤ).
             most < (target_word signals words s x word z.0).0.variables) (sym bit_is) high)
 
-        pub branch_opened : (later : Formula) (arm : Arm) → arm.condition ≡ literal →
+        pub branch_opened : (later : Formula) (arm : TargetArm) → arm.condition ≡ literal →
             target_word signals words s x word mid ≡ (later, arm.word.items) →
             IsLiteral mid.variables literal → Begins now mid → Begins mid later →
             IsWord later.variables arm.word.items → length arm.word.items ≡ width →

@@ -14,7 +14,7 @@ use Rattle.sv_circuits.specs.Words.{Word, WordMaker, replaced_word, bitwise_word
 use Rattle.sv_circuits.specs.Circuits.{IsWord}
 use Rattle.sv_encoding.specs.Expressions.{Words, expression_word, is_true_bit}
 use Rattle.sv_blast.specs.WordTables.{StandFor}
-use Rattle.sv_blast.specs.declared.arms.Arm.{Arm}
+use Rattle.sv_blast.specs.declared.arms.TargetArm.{TargetArm}
 
 -- ---- one target
 
@@ -74,17 +74,17 @@ AreReady signals n words (branch place condition first second) =
 
 -- from the word after the last second arm back: for each branch the word after its first arm where
 -- its condition holds, else what is there
-abbrev pub chosen_back : List Arm → Formula × Word → Formula × Word
+abbrev pub chosen_back : List TargetArm → Formula × Word → Formula × Word
 chosen_back [] made = made
 chosen_back (arm ∷ arms) made =
     let made = chosen_back arms made in
     bitwise_word (mux_gate arm.condition) arm.word.items made.1 made.0
 
 -- a condition and a word of these variables, the word of so many bits
-abbrev pub StandsAt : (width variables : ℕ) → Arm → Type 0
+abbrev pub StandsAt : (width variables : ℕ) → TargetArm → Type 0
 StandsAt width n arm =
     IsLiteral n arm.condition × (IsWord n arm.word.items × (length arm.word.items ≡ width))
 
-abbrev pub StandAt : (width variables : ℕ) → List Arm → Type 0
+abbrev pub StandAt : (width variables : ℕ) → List TargetArm → Type 0
 StandAt width n [] = Unit {0}
 StandAt width n (arm ∷ arms) = StandsAt width n arm × StandAt width n arms

@@ -11,7 +11,7 @@ use sv_gates::{GateFault, Gates, Literal};
 
 /// Whether a branch takes its first arm, and the target's word after that arm.
 #[derive(Drop)]
-pub struct Arm {
+pub struct TargetArm {
     pub condition: Literal,
     pub word: Vec<Literal>,
 }
@@ -24,7 +24,7 @@ pub fn copied(alloc: Global, word: &[Literal]) -> Result<Vec<Literal>, AllocErro
 }
 
 /// Puts one more arm at the end.
-pub fn push_arm(arms: &mut Vec<Arm>, arm: Arm) -> Result<(), AllocError>
+pub fn push_arm(arms: &mut Vec<TargetArm>, arm: TargetArm) -> Result<(), AllocError>
     ensures { OnOk result (arms.new.items ≡ arms.old.items ++ arm ∷ []) }
 {
     arms.push(arm)?;
@@ -38,7 +38,7 @@ pub fn push_arm(arms: &mut Vec<Arm>, arm: Arm) -> Result<(), AllocError>
 pub fn chosen_back(
     alloc: Global,
     gates: &mut Gates,
-    arms: Vec<Arm>,
+    arms: Vec<TargetArm>,
     last: Vec<Literal>,
 ) -> Result<Vec<Literal>, GateFault>
     requires arms { StandAt (length last.items) gates.old.variables arms.items }

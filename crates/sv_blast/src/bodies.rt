@@ -19,7 +19,7 @@ ghost use Rattle.sv_blast.specs.WordTables.{words_of, StandForReads};
 ghost use Rattle.sv_blast.specs.TargetWords.{starting_word, with_piece_of, assigned_word};
 ghost use Rattle.sv_blast.specs.TargetWords.{target_word, IsReady, AreReady};
 
-use crate::arms::{Arm, chosen_back, copied, push_arm};
+use crate::arms::{TargetArm, chosen_back, copied, push_arm};
 use crate::expressions::{expression, is_true};
 use crate::fan_in::FanIn;
 use crate::followed::followed_word;
@@ -200,7 +200,7 @@ impl SliceEncoder<'_> {
             let condition = is_true(self.alloc, gates, self.signals, self.words, *cond)?;
             let before = copied(self.alloc, &word)?;
             let word = self.after_slice(yes, gates, before)?;
-            push_arm(&mut arms, Arm { condition, word })?;
+            push_arm(&mut arms, TargetArm { condition, word })?;
             rest = no;
         }
         let last = self.after_plain(rest, gates, word)?;

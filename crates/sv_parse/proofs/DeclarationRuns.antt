@@ -23,8 +23,8 @@ use Rattle.sv_parse_machine.specs.Symbols.{perhaps_range, reg_label, reg_name, b
 use Rattle.sv_parse_machine.specs.Symbols.{label_selector, memory_name, Symbol, outer, State, something}
 use Rattle.sv_parse_machine.specs.Symbols.{takes, stuck, unless_refused}
 use Rattle.sv_parse_machine.specs.ModuleTable.{value, number_range, behind_selector}
-use Rattle.sv_parse_machine.specs.Machine.{outer_on, Step, outside_on, after_outer, step, may_be_empty}
-use Rattle.sv_parse_machine.specs.Machine.{ended, at_end, go_on, run}
+use Rattle.sv_parse_machine.specs.Machine.{outer_on, MachineStep, outside_on, after_outer, step}
+use Rattle.sv_parse_machine.specs.Machine.{may_be_empty, ended, at_end, go_on, run}
 use Rattle.sv_parse_machine.specs.Reads.{Reads, NextIs, IsNot, NextIsNotSign, NextIsNotWord, GoesOn}
 use Rattle.sv_parse_machine.proofs.ReadSteps.{reads_then, reads_before}
 use Rattle.sv_parse_machine.proofs.ReadRows.{sign_taken, word_taken}
@@ -40,14 +40,14 @@ TakesName y ys (identifier x) =
     outer_on y (identifier x) ≡ unless_refused (is_refused_word x) (takes 0 0 ys)
 TakesName y ys x = outer_on y x ≡ stuck something
 
-named_step : (b : Bool) (ys : List Outer) (a : ℕ) (below : State) (skip other : Step) →
+named_step : (b : Bool) (ys : List Outer) (a : ℕ) (below : State) (skip other : MachineStep) →
     after_outer all_limits a below skip (unless_refused b (takes 0 0 ys)) ≡
     after_outer all_limits a (outside_on ys ++ below) other (unless_refused b (takes 0 0 []))
 named_step true ys a below skip other = refl
 named_step false ys a below skip other = refl
 
-name_step : (y : Outer) (ys : List Outer) (x : Lexeme) (a : ℕ) (below : State) (skip other : Step) →
-    TakesName y ys x →
+name_step : (y : Outer) (ys : List Outer) (x : Lexeme) (a : ℕ) (below : State)
+    (skip other : MachineStep) → TakesName y ys x →
     after_outer all_limits a below skip (outer_on y x) ≡
     after_outer all_limits a (outside_on ys ++ below) other (outer_on plain_name x)
 name_step y ys (identifier x) a below skip other row =

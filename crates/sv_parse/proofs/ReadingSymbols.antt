@@ -29,8 +29,9 @@ use Rattle.sv_parse_machine.specs.Symbols.{more_instances, outer, State, OuterRe
 use Rattle.sv_parse_machine.specs.Symbols.{begins, over, stuck, and_then, unless_refused}
 use Rattle.sv_parse_machine.specs.ModuleTable.{number_range, star_in_event}
 use Rattle.sv_parse_machine.specs.StatementTable.{is_sign, is_star, is_less_equal, taken_if}
-use Rattle.sv_parse_machine.specs.Machine.{outer_on, Step, outside_on, after_outer, within_limits, step}
-use Rattle.sv_parse_machine.specs.Machine.{may_be_empty, ended, at_end, go_on, run}
+use Rattle.sv_parse_machine.specs.Machine.{outer_on, MachineStep, outside_on, after_outer}
+use Rattle.sv_parse_machine.specs.Machine.{within_limits, step, may_be_empty, ended, at_end, go_on}
+use Rattle.sv_parse_machine.specs.Machine.{run}
 use Rattle.sv_parse_machine.specs.Reads.{IsNot, NextIs, NextIsNotWord, NextIsAnyName, Reads, GoesOn}
 use Rattle.sv_parse_expr.specs.declared.stop.Stop.{Stop}
 use Rattle.sv_parse_expr.specs.declared.stop.Stop.TheVariants as stops
@@ -93,7 +94,7 @@ outside_append [] ys below = refl
 outside_append (x ∷ xs) ys below = ap (λ (s : State). outer x ∷ s) (outside_append xs ys below)
 
 then_outer : (ys : List Outer) (r : OuterReaction) → MayComeNext r
-    → (after : ℕ) (below : State) (skip other : Step)
+    → (after : ℕ) (below : State) (skip other : MachineStep)
     → after_outer all_limits after below skip (and_then ys r) ≡
     after_outer all_limits after (outside_on ys ++ below) other r
 then_outer ys (takes level arm xs) may after below skip other =

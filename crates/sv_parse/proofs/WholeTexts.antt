@@ -14,7 +14,8 @@ use Rattle.sv_token.specs.Lexemes.{Lexeme, word, Placed, placed_of, placed_token
 use Rattle.sv_ast.specs.GrammarRules.{all_limits, BreaksGrammar}
 use Rattle.sv_parse_machine.specs.Symbols.{one_module, outer, State}
 use Rattle.sv_parse_machine.specs.ModuleTable.{one_module_on}
-use Rattle.sv_parse_machine.specs.Machine.{Step, goes, after_outer, step, go_on, run, text_state}
+use Rattle.sv_parse_machine.specs.Machine.{MachineStep, goes, after_outer, step, go_on, run}
+use Rattle.sv_parse_machine.specs.Machine.{text_state}
 use Rattle.sv_parse_machine.specs.Reads.{failure_at}
 use Rattle.sv_parse_machine.specs.Verdict.{rule_number, rule_names, rule_place}
 use Rattle.sv_parse_machine.proofs.Walks.{where_run_fails}
@@ -49,7 +50,7 @@ halting_fails xs ts stops.OutOfMemory is = tt
 
 -- ---- modules behind the first
 
-only_a_module : (after : ℕ) (skip other : Step) (x : Lexeme) →
+only_a_module : (after : ℕ) (skip other : MachineStep) (x : Lexeme) →
     after_outer all_limits after [] skip (one_module_on x) ≡
     after_outer all_limits after [] other (one_module_on x)
 only_a_module after skip other (word words.Module) = refl

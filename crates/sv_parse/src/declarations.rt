@@ -33,7 +33,7 @@ use sv_ast::{Decl, DeclKind, Expr, Item};
 use sv_num::{Name, Place};
 use sv_parse_expr::cursor::{behind, behind_word, expect_word, read_name, stuck};
 use sv_parse_expr::expressions::read_expression;
-use sv_parse_expr::lists::{Begun, Listed, read_list};
+use sv_parse_expr::lists::{Listed, ListedFromFirst, read_list};
 use sv_parse_expr::stop::{Expected, Input, Read, Stop};
 use sv_token::{SignKind, Token, WordKind};
 
@@ -208,7 +208,7 @@ impl Listed for Ports {
     }
 }
 
-impl Begun for Ports {
+impl ListedFromFirst for Ports {
     ghost Begins = { NextIsNotSign signs.CloseParenthesis };
 
     ghost start = { λ n. outer ports ∷ [] };
@@ -307,7 +307,7 @@ impl Listed for Wires {
     }
 }
 
-impl Begun for Wires {
+impl ListedFromFirst for Wires {
     ghost Begins = { IsNext words.Wire };
 
     ghost start = { λ n. outer items ∷ [] };

@@ -26,7 +26,7 @@ use std::alloc::{AllocError, Global};
 use sv_ast::{Expr, Instance, Item, Links, Overrides};
 use sv_num::{Name, Place};
 use sv_parse_expr::cursor::{behind, expect_sign, read_name};
-use sv_parse_expr::lists::{Begun, Expressions, Listed, read_list};
+use sv_parse_expr::lists::{Expressions, Listed, ListedFromFirst, read_list};
 use sv_parse_expr::stop::{Input, Read, Stop};
 use sv_parse_stmt::closed::read_closed;
 use sv_token::{SignKind, Token};
@@ -85,7 +85,7 @@ impl Listed for NamedOverrides {
     }
 }
 
-impl Begun for NamedOverrides {
+impl ListedFromFirst for NamedOverrides {
     ghost Begins = { λ ts. Unit {0} };
 
     ghost start = { λ n. outside_on dotted_value };
@@ -187,7 +187,7 @@ impl Listed for NamedLinks {
     }
 }
 
-impl Begun for NamedLinks {
+impl ListedFromFirst for NamedLinks {
     ghost Begins = { λ ts. Unit {0} };
 
     ghost start = { λ n. outside_on dotted_link };
@@ -300,7 +300,7 @@ impl Listed for Instances {
     }
 }
 
-impl Begun for Instances {
+impl ListedFromFirst for Instances {
     ghost Begins = { λ ts. Unit {0} };
 
     ghost start = { λ n.

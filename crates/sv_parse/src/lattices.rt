@@ -16,7 +16,7 @@ use std::alloc::Global;
 use sv_ast::LatticeText;
 use sv_num::{BinOp, Name, Place};
 use sv_parse_expr::cursor::{behind_word, expect_sign, expect_word, read_name, unexpected};
-use sv_parse_expr::lists::{Begun, Listed, read_list};
+use sv_parse_expr::lists::{Listed, ListedFromFirst, read_list};
 use sv_parse_expr::operators::operator_at;
 use sv_parse_expr::stop::{Input, Read};
 use sv_token::{SignKind, WordKind};
@@ -58,7 +58,7 @@ impl Listed for Points {
     }
 }
 
-impl Begun for Points {
+impl ListedFromFirst for Points {
     ghost Begins = { λ ts. Unit {0} };
 
     ghost start = { λ n. outer plain_name ∷ [] };

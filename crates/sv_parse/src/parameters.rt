@@ -28,7 +28,7 @@ use sv_ast::{Expr, Item, Param, Span};
 use sv_num::{Name, Place};
 use sv_parse_expr::cursor::{behind, behind_word, expect_sign, expect_word, read_name, unexpected};
 use sv_parse_expr::expressions::read_expression;
-use sv_parse_expr::lists::{Begun, Listed, read_list};
+use sv_parse_expr::lists::{Listed, ListedFromFirst, read_list};
 use sv_parse_expr::stop::{Input, Read, Stop};
 use sv_token::{SignKind, Token, WordKind};
 
@@ -166,7 +166,7 @@ impl Listed for Params {
     }
 }
 
-impl Begun for Params {
+impl ListedFromFirst for Params {
     ghost Begins = { BeginsParameters };
 
     ghost start = { λ n. outer items ∷ [] };
@@ -207,7 +207,7 @@ impl Listed for HeaderParams {
     }
 }
 
-impl Begun for HeaderParams {
+impl ListedFromFirst for HeaderParams {
     ghost Begins = { λ ts. Unit {0} };
 
     ghost start = { λ n. outer header_parameter ∷ [] };

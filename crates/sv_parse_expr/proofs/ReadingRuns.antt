@@ -26,8 +26,8 @@ use Rattle.sv_parse_machine.specs.Symbols.{inner_bracket, inner_brace, something
 use Rattle.sv_parse_machine.specs.Symbols.{outer, expression, State, takes_inner, over_inner, stuck_inner}
 use Rattle.sv_parse_machine.specs.ExpressionTable.{inside, name_operand, prefix_operand, infix_tail}
 use Rattle.sv_parse_machine.specs.ExpressionTable.{inner_on}
-use Rattle.sv_parse_machine.specs.Machine.{inside_on, stuck_at, too_deep, too_long, Step, after_inner}
-use Rattle.sv_parse_machine.specs.Machine.{step, go_on, run}
+use Rattle.sv_parse_machine.specs.Machine.{inside_on, stuck_at, too_deep, too_long, MachineStep}
+use Rattle.sv_parse_machine.specs.Machine.{after_inner, step, go_on, run}
 use Rattle.sv_parse_machine.specs.Reads.{Reads, Halts, NextIs, IsNot, NextIsNotSign, NextIsSign}
 use Rattle.sv_parse_machine.specs.Reads.{NextIsNoName, NextIsAnyName, NextIsNoNumber, NextIsNumber}
 use Rattle.sv_parse_machine.specs.Reads.{NextIsNoUnary, NextIsAnyOperator, NextIsNoOperator, NextIsLooser}
@@ -323,7 +323,7 @@ choice_opened bytes tokens behind rest start beyond n m p same count opens deep 
 
 -- behind a token that is not the one that the bits of a name end with, both bounds come
 colon_comes : (start n : ℕ) → (x : Lexeme) → IsNot (sign signs.CloseBracket) x →
-    (a : ℕ) (below : State) (skip other : Step) →
+    (a : ℕ) (below : State) (skip other : MachineStep) →
     after_inner all_limits a start below skip (inner_on (selection_end n) x)
     ≡ after_inner all_limits a start (whole start n ++ (inner start inner_bracket ∷ below)) other
     (inner_on inner_colon x)

@@ -49,7 +49,7 @@ pub trait Listed {
 }
 
 /// A kind of list that is read from its first member on, and not only behind one.
-pub trait Begun: Listed {
+pub trait ListedFromFirst: Listed {
     ghost Begins: { List Placed → Type 0 };
 
     ghost start: { ℕ → State };
@@ -106,7 +106,7 @@ pub fn read_list_from<'a, M: Listed>(
 }
 
 /// The members of a list, at least one, and the tokens behind them.
-pub fn read_list<'a, M: Begun>(
+pub fn read_list<'a, M: ListedFromFirst>(
     alloc: Global,
     input: Input<'a>,
     levels: usize,
@@ -148,7 +148,7 @@ impl Listed for Expressions {
     }
 }
 
-impl Begun for Expressions {
+impl ListedFromFirst for Expressions {
     ghost Begins = { λ ts. Unit {0} };
 
     ghost start = { λ n. outer (expression n) ∷ [] };

@@ -9,7 +9,8 @@ use Rattle.sv_ast.specs.GrammarExpressions.{Limits, is_within}
 use Rattle.sv_ast.specs.GrammarModules.{IsText}
 use Rattle.sv_ast.specs.GrammarRules.{BeginText}
 use Rattle.sv_parse_machine.specs.Symbols.{State}
-use Rattle.sv_parse_machine.specs.Machine.{Step, goes, fails_as, Failure, done, run, text_state}
+use Rattle.sv_parse_machine.specs.Machine.{MachineStep, goes, fails_as, Failure, done, run}
+use Rattle.sv_parse_machine.specs.Machine.{text_state}
 use Rattle.sv_parse_machine.proofs.TextForm.{text_form}
 use Rattle.sv_parse_machine.proofs.Runs.{f_run, run_of_text, text_of_run}
 use Rattle.sv_parse_machine.proofs.Walks.{walk, run_of_walk, walk_of_run, shift, shift_step, CountAlike}
@@ -18,12 +19,13 @@ use Rattle.sv_parse_machine.proofs.Invariants.{Sound, sound_walk, closing_state,
 
 -- ---- walks of whole beginnings
 
-pub goes_back : (m : ℕ) (st : Step) (next : State) → shift_step m st ≡ goes next →
+pub goes_back : (m : ℕ) (st : MachineStep) (next : State) → shift_step m st ≡ goes next →
     (s : State) × (st ≡ goes s)
 goes_back m (goes s) next e = (s, refl)
 goes_back m (fails_as f) next e = absurd (cc)
 
-pub fails_back : (m : ℕ) (st : Step) (f : Failure) → shift_step m st ≡ fails_as f → st ≡ fails_as f
+pub fails_back : (m : ℕ) (st : MachineStep) (f : Failure) → shift_step m st ≡ fails_as f →
+    st ≡ fails_as f
 fails_back m (goes s) f e = absurd (cc)
 fails_back m (fails_as g) f e = cc
 

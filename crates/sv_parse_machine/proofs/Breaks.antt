@@ -12,9 +12,9 @@ use Rattle.sv_token.specs.Tokens.{first_place}
 use Rattle.sv_ast.specs.GrammarRules.{no_limits, all_limits, MayFollow, stop_at_name, StopAtOperand}
 use Rattle.sv_ast.specs.GrammarRules.{TokenBreaks, BreaksGrammar}
 use Rattle.sv_parse_machine.specs.Symbols.{State, Expected, behind_name}
-use Rattle.sv_parse_machine.specs.Machine.{Step, goes, fails_as, Failure, stuck_at, too_deep, too_long}
-use Rattle.sv_parse_machine.specs.Machine.{ends_early, within_limits, tokens_of, step, fails, run}
-use Rattle.sv_parse_machine.specs.Machine.{text_state}
+use Rattle.sv_parse_machine.specs.Machine.{MachineStep, goes, fails_as, Failure, stuck_at, too_deep}
+use Rattle.sv_parse_machine.specs.Machine.{too_long, ends_early, within_limits, tokens_of, step}
+use Rattle.sv_parse_machine.specs.Machine.{fails, run, text_state}
 use Rattle.sv_parse_machine.specs.Verdict.{refused_word, stuck_number, stuck_names, rule_number}
 use Rattle.sv_parse_machine.specs.Verdict.{rule_names, rule_place}
 use Rattle.sv_parse_machine.specs.Reads.{failure_at}
@@ -82,7 +82,7 @@ module _ (ts : List Placed) (t : Placed) (after : List Placed) (e : Expected)
       MayFollow s.before x
   may_where_it_goes x is = on (step no_limits (length after) s.last x) refl is
     where
-      on : (st : Step) → step no_limits (length after) s.last x ≡ st → goes_on st ≡ true →
+      on : (st : MachineStep) → step no_limits (length after) s.last x ≡ st → goes_on st ≡ true →
           MayFollow s.before x
       on (goes next) found is = may x next found
       on (fails_as f) found is = absurd (false≢true is)
@@ -91,7 +91,7 @@ module _ (ts : List Placed) (t : Placed) (after : List Placed) (e : Expected)
       MayFollow s.before x → ⊥
   may_not_where_it_fails x is = on (step no_limits (length after) s.last x) refl is
     where
-      on : (st : Step) → step no_limits (length after) s.last x ≡ st → goes_on st ≡ false →
+      on : (st : MachineStep) → step no_limits (length after) s.last x ≡ st → goes_on st ≡ false →
           MayFollow s.before x → ⊥
       on (goes next) found is begins = false≢true (sym is)
       on (fails_as f) found is begins = may_not x f found begins
@@ -145,7 +145,7 @@ module _ (ts : List Placed) (t : Placed) (after : List Placed) (e : Expected)
   behind_name_at_dot at (choice, named) =
       on (step no_limits (length after) s.last (sign signs.Question)) refl
     where
-      on : (st : Step) → step no_limits (length after) s.last (sign signs.Question) ≡ st →
+      on : (st : MachineStep) → step no_limits (length after) s.last (sign signs.Question) ≡ st →
           e ≡ behind_name
       on (goes next) found =
           let waits : Named true s.last = subst (λ b. Named b s.last) named named_last in

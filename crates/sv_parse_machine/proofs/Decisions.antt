@@ -5,7 +5,7 @@ use Rattle.sv_num.specs.declared.faults.Place.{Place}
 use Rattle.sv_token.specs.Lexemes.{Placed}
 use Rattle.sv_ast.specs.Tree.{TextTree}
 use Rattle.sv_ast.specs.GrammarRules.{all_limits, TokensMean, BreaksGrammar}
-use Rattle.sv_parse_machine.specs.Machine.{Outcome, done, fails, run, text_state}
+use Rattle.sv_parse_machine.specs.Machine.{MachineEnd, done, fails, run, text_state}
 use Rattle.sv_parse_machine.specs.Verdict.{rule_number, rule_names, rule_place}
 use Rattle.sv_parse_machine.proofs.Runs.{text_of_run}
 use Rattle.sv_parse_machine.proofs.TextTrees.{text_of_form}
@@ -18,11 +18,11 @@ MeansOrBreaks tokens stop =
     ⊎ ((number : ℕ) × (names : List (List ℕ)) × (place : Place)
     × BreaksGrammar number names place stop tokens)
 
-by_outcome : (ts : List Placed) (stop : Place) (o : Outcome) → run all_limits text_state ts ≡ o →
+by_end : (ts : List Placed) (stop : Place) (o : MachineEnd) → run all_limits text_state ts ≡ o →
     MeansOrBreaks ts stop
-by_outcome ts stop done e = inl (text_of_form all_limits ts (text_of_run all_limits ts e))
-by_outcome ts stop (fails f []) e = inr (201, [], stop, end_breaks ts f stop e)
-by_outcome ts stop (fails f (t ∷ after)) e =
+by_end ts stop done e = inl (text_of_form all_limits ts (text_of_run all_limits ts e))
+by_end ts stop (fails f []) e = inr (201, [], stop, end_breaks ts f stop e)
+by_end ts stop (fails f (t ∷ after)) e =
     let found = where_run_fails all_limits ts text_state f (t ∷ after) e in
     inr (
       rule_number f found.0 (t ∷ after),
@@ -32,4 +32,4 @@ by_outcome ts stop (fails f (t ∷ after)) e =
     )
 
 pub means_or_breaks : (ts : List Placed) (stop : Place) → MeansOrBreaks ts stop
-means_or_breaks ts stop = by_outcome ts stop (run all_limits text_state ts) refl
+means_or_breaks ts stop = by_end ts stop (run all_limits text_state ts) refl

@@ -18,13 +18,13 @@ use Rattle.sv_parse_machine.specs.Symbols.{Expected, something, InnerReaction, t
 use Rattle.sv_parse_machine.specs.Symbols.{stuck_inner, OuterReaction, takes, begins, over, stuck}
 use Rattle.sv_parse_machine.specs.ExpressionTable.{operand_on, infix_tail, inner_on}
 use Rattle.sv_parse_machine.specs.ModuleTable.{one_module_on}
-use Rattle.sv_parse_machine.specs.Machine.{outer_on, Step, goes, fails_as, stuck_at, after_inner}
-use Rattle.sv_parse_machine.specs.Machine.{after_outer, step}
+use Rattle.sv_parse_machine.specs.Machine.{outer_on, MachineStep, goes, fails_as, stuck_at}
+use Rattle.sv_parse_machine.specs.Machine.{after_inner, after_outer, step}
 use Rattle.sv_parse_machine.proofs.AgreedRows.{is_item, is_statement, is_edge, is_port, is_as, is_over}
 use Rattle.sv_parse_machine.proofs.AgreedRows.{agrees, is_named, IsFree, rows_agree, PlainlyStuck}
 use Rattle.sv_parse_machine.proofs.AgreedRows.{operand_is_plain}
 
-abbrev pub goes_on : Step → Bool
+abbrev pub goes_on : MachineStep → Bool
 goes_on (goes s) = true
 goes_on (fails_as f) = false
 
@@ -144,12 +144,12 @@ or_parts : (x y : Bool) → IsTrue (not x || y) → IsTrue x → IsTrue y
 or_parts true y all is = all
 or_parts false y all is = absurd (false≢true is)
 
-over_goes : (a : ℕ) (below : State) (skip : Step) (b : Bool) (r : OuterReaction) →
+over_goes : (a : ℕ) (below : State) (skip : MachineStep) (b : Bool) (r : OuterReaction) →
     IsTrue (is_over r) → goes_on skip ≡ b → goes_on (after_outer no_limits a below skip r) ≡ b
 over_goes a below skip b over kind further = further
 over_goes a below skip b r kind further = absurd (false≢true kind)
 
-as_goes : (a : ℕ) (below : State) (skip : Step) (b : Bool) (r : OuterReaction) →
+as_goes : (a : ℕ) (below : State) (skip : MachineStep) (b : Bool) (r : OuterReaction) →
     IsTrue (is_as b r) → goes_on (after_outer no_limits a below skip r) ≡ b
 as_goes a below skip true (takes level arm ys) is = refl
 as_goes a below skip false (stuck e) is = refl

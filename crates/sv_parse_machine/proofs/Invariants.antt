@@ -19,9 +19,9 @@ use Rattle.sv_parse_machine.specs.Symbols.{State, InnerReaction, takes_inner, ov
 use Rattle.sv_parse_machine.specs.Symbols.{OuterReaction, takes, begins, over, stuck}
 use Rattle.sv_parse_machine.specs.ExpressionTable.{inner_on}
 use Rattle.sv_parse_machine.specs.ModuleTable.{one_module_on}
-use Rattle.sv_parse_machine.specs.Machine.{outer_on, Step, goes, fails_as, ends_early, within_limits}
-use Rattle.sv_parse_machine.specs.Machine.{inside_on, outside_on, tokens_of, after_inner, after_outer}
-use Rattle.sv_parse_machine.specs.Machine.{step}
+use Rattle.sv_parse_machine.specs.Machine.{outer_on, MachineStep, goes, fails_as, ends_early}
+use Rattle.sv_parse_machine.specs.Machine.{within_limits, inside_on, outside_on, tokens_of}
+use Rattle.sv_parse_machine.specs.Machine.{after_inner, after_outer, step}
 use Rattle.sv_parse_machine.proofs.ExpressionForms.{inner_form}
 use Rattle.sv_parse_machine.proofs.Completions.{a_token, a_number, zero_literal, is_sane, is_plain}
 use Rattle.sv_parse_machine.proofs.Completions.{closing, closed, closing_is_quiet}
@@ -142,7 +142,7 @@ admits true true s next e = (refl, refl, cc)
 admits true false s next e = absurd (cc)
 admits false c s next e = absurd (cc)
 
-sound_inner : (l : Limits) (a start begun : ℕ) (x : Inner) (below next : State) (skip : Step)
+sound_inner : (l : Limits) (a start begun : ℕ) (x : Inner) (below next : State) (skip : MachineStep)
     (r : InnerReaction) → Shape start (inner begun x ∷ below)
     → after_inner l a begun below skip r ≡ goes next → (skip ≡ goes next → Sound l a next)
     → Sound l a next
@@ -164,7 +164,7 @@ sound_inner l a start begun x below next skip (takes_inner level xs) shape e ski
 sound_inner l a start begun x below next skip over_inner shape e skips = skips e
 sound_inner l a start begun x below next skip (stuck_inner f) shape e skips = absurd (cc)
 
-sound_reaction : (l : Limits) (a : ℕ) (below next : State) (skip : Step) (r : OuterReaction)
+sound_reaction : (l : Limits) (a : ℕ) (below next : State) (skip : MachineStep) (r : OuterReaction)
     → IsTrue (row_is_fine r) → AllOuter below → IsTrue (state_is_sane below)
     → IsTrue (state_is_plain below)
     → after_outer l a below skip r ≡ goes next → (skip ≡ goes next → Sound l a next)
@@ -237,7 +237,7 @@ sound_walk l k (t ∷ ts) s next a at sound e =
     on (step l (length ts + k) s t.lexeme) refl e (λ s.
     sound_walk l k ts s next (length ts + k) refl)
   where
-    on : (st : Step) → step l (length ts + k) s t.lexeme ≡ st
+    on : (st : MachineStep) → step l (length ts + k) s t.lexeme ≡ st
         → then_step st (λ s. walk l k s ts) ≡ goes next
         → ((s : State) → Sound l (length ts + k) s → walk l k s ts ≡ goes next → Sound l k next)
         → Sound l k next

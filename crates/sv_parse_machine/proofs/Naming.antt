@@ -21,9 +21,9 @@ use Rattle.sv_parse_machine.specs.Symbols.{behind_name, InnerReaction, takes_inn
 use Rattle.sv_parse_machine.specs.Symbols.{stuck_inner, OuterReaction, takes, begins, over, stuck}
 use Rattle.sv_parse_machine.specs.ExpressionTable.{name_operand, prefix_operand, infix_tail, inner_on}
 use Rattle.sv_parse_machine.specs.ModuleTable.{one_module_on}
-use Rattle.sv_parse_machine.specs.Machine.{outer_on, Step, goes, fails_as, stuck_at, ends_early}
-use Rattle.sv_parse_machine.specs.Machine.{within_limits, inside_on, outside_on, tokens_of, after_inner}
-use Rattle.sv_parse_machine.specs.Machine.{after_outer, step}
+use Rattle.sv_parse_machine.specs.Machine.{outer_on, MachineStep, goes, fails_as, stuck_at}
+use Rattle.sv_parse_machine.specs.Machine.{ends_early, within_limits, inside_on, outside_on}
+use Rattle.sv_parse_machine.specs.Machine.{tokens_of, after_inner, after_outer, step}
 use Rattle.sv_parse_machine.proofs.Completions.{is_sane}
 use Rattle.sv_parse_machine.proofs.Walks.{then_step, walk}
 use Rattle.sv_parse_machine.proofs.Invariants.{AllOuter, AllInner, state_is_sane, Shape, sound_step}
@@ -105,7 +105,7 @@ named_begun true level arm start (selection n ∷ tail m ∷ []) ys below well t
     inl ((tt, tidy), refl)
 named_begun true level arm start xs ys below well tidy = absurd (false≢true well)
 
-named_outside : (l : Limits) (a : ℕ) (named : Bool) (below next : State) (skip : Step)
+named_outside : (l : Limits) (a : ℕ) (named : Bool) (below next : State) (skip : MachineStep)
     (r : OuterReaction) → IsTrue (begins_well named r) → Tidy below → AllOuter below
     → after_outer l a below skip r ≡ goes next → (skip ≡ goes next → Named named next)
     → Named named next
@@ -184,7 +184,7 @@ tidy_below start (operand n) below tidy = tidy.1
 tidy_below start (selection n) below tidy = absurd tidy
 tidy_below start s below tidy = tidy
 
-named_inside : (l : Limits) (a start : ℕ) (below next : State) (x : Lexeme) (skip : Step)
+named_inside : (l : Limits) (a start : ℕ) (below next : State) (x : Lexeme) (skip : MachineStep)
     (r : InnerReaction) → Followed start below x r
     → after_inner l a start below skip r ≡ goes next → (skip ≡ goes next → Named (is_name x) next)
     → Named (is_name x) next
@@ -254,7 +254,7 @@ named_walk l k start (t ∷ ts) named s next shape is e =
     on (step l (length ts + k) s t.lexeme) refl e (λ start s.
     named_walk l k start ts (is_name t.lexeme) s next)
   where
-    on : (st : Step) → step l (length ts + k) s t.lexeme ≡ st
+    on : (st : MachineStep) → step l (length ts + k) s t.lexeme ≡ st
         → then_step st (λ s. walk l k s ts) ≡ goes next
         → ((start : ℕ) (s : State) → Shape start s → Named (is_name t.lexeme) s
         → walk l k s ts ≡ goes next → Named (last_is_name (is_name t.lexeme) ts) next)
@@ -276,7 +276,7 @@ never_stuck true true s same = cc
 never_stuck true false s same = cc
 never_stuck false c s same = cc
 
-dot_is_outside : (l : Limits) (a : ℕ) (below : State) (skip : Step) (r : OuterReaction)
+dot_is_outside : (l : Limits) (a : ℕ) (below : State) (skip : MachineStep) (r : OuterReaction)
     → IsTrue (is_not_behind_name r)
     → after_outer l a below skip r ≡ fails_as (stuck_at behind_name)
     → (skip ≡ fails_as (stuck_at behind_name) → ⊥) → ⊥

@@ -9,8 +9,8 @@ use Rattle.sv_ast.specs.GrammarRules.{IsUnsupported, TokenBreaks, BreaksGrammar}
 use Rattle.sv_ast.proofs.GrammarNesting.{splits}
 use Rattle.sv_ast.proofs.GrammarWiderTexts.{begins_with_first, within_levels, within_none}
 use Rattle.sv_ast.proofs.GrammarLaws.{meaning_breaks_no_rule, one_refusal}
-use Rattle.sv_parse_machine.specs.Machine.{Outcome, done, fails, Failure, stuck_at, too_deep, too_long}
-use Rattle.sv_parse_machine.specs.Machine.{ends_early, run, text_state}
+use Rattle.sv_parse_machine.specs.Machine.{MachineEnd, done, fails, Failure, stuck_at, too_deep}
+use Rattle.sv_parse_machine.specs.Machine.{too_long, ends_early, run, text_state}
 use Rattle.sv_parse_machine.specs.Verdict.{refused_word, rule_number, rule_names}
 use Rattle.sv_parse_machine.proofs.Runs.{text_of_run}
 use Rattle.sv_parse_machine.proofs.TextTrees.{form_of_text, text_of_form}
@@ -155,22 +155,22 @@ module _ (ts : List Placed) (name other : List ℕ) (first : AtForm ts name)
       first_place
       (failure_breaks ts found.0 (t ∷ after) f first_place found.1 e)))
 
-  by_outcome : (o : Outcome) → run all_limits text_state ts ≡ o → name ≡ other
-  by_outcome done e =
+  by_end : (o : MachineEnd) → run all_limits text_state ts ≡ o → name ≡ other
+  by_end done e =
       let means = text_of_form all_limits ts (text_of_run all_limits ts e) in
       absurd (meaning_breaks_no_rule ts means.0 202 (name ∷ []) first.token.place first_place
       means.1 (breaks_at ts name first_place first))
-  by_outcome (fails f []) e =
+  by_end (fails f []) e =
       absurd (end_is_no_form
       (only_forms 201 [] first_place first_place (end_breaks ts f first_place e)))
-  by_outcome (fails (stuck_at x) (t ∷ after)) e =
+  by_end (fails (stuck_at x) (t ∷ after)) e =
       one_word ts t after x (stopped form_of_text text_of_form ts t after (stuck_at x) e) name other
       first second
-  by_outcome (fails too_deep (t ∷ after)) e =
+  by_end (fails too_deep (t ∷ after)) e =
       other_failure too_deep t after e (λ before same. omega arith)
-  by_outcome (fails too_long (t ∷ after)) e =
+  by_end (fails too_long (t ∷ after)) e =
       other_failure too_long t after e (λ before same. omega arith)
-  by_outcome (fails ends_early (t ∷ after)) e =
+  by_end (fails ends_early (t ∷ after)) e =
       other_failure ends_early t after e (λ before same. omega arith)
 
 -- tokens break one rule first, with one list of names
@@ -194,4 +194,4 @@ one_rule n m names others p q stop ts first second =
         absurd (none.0 (sym (one_refusal n m names others p q stop ts first second).0 ∙ form.0))
     on (inr (is, name, named, at)) (inr (is_too, other, named_too, at_too)) =
         named ∙ ap (λ x. x ∷ [])
-        (by_outcome ts name other at at_too (run all_limits text_state ts) refl) ∙ sym named_too
+        (by_end ts name other at at_too (run all_limits text_state ts) refl) ∙ sym named_too

@@ -14,8 +14,9 @@ use Rattle.sv_parse_machine.specs.Symbols.{more_wires, more_assigned, more_named
 use Rattle.sv_parse_machine.specs.Symbols.{more_named_links, more_instances, more_targets, more_choices}
 use Rattle.sv_parse_machine.specs.Symbols.{inner, outer, State, takes, unless_refused}
 use Rattle.sv_parse_machine.specs.ExpressionTable.{inner_on}
-use Rattle.sv_parse_machine.specs.Machine.{outer_on, Step, outside_on, after_inner, after_outer}
-use Rattle.sv_parse_machine.specs.Machine.{step, may_be_empty, ended, at_end, go_on, run}
+use Rattle.sv_parse_machine.specs.Machine.{outer_on, MachineStep, outside_on, after_inner}
+use Rattle.sv_parse_machine.specs.Machine.{after_outer, step, may_be_empty, ended, at_end, go_on}
+use Rattle.sv_parse_machine.specs.Machine.{run}
 use Rattle.sv_parse_machine.specs.Reads.{IsNot, NextIs, NextIsNot, Reads}
 
 -- ---- symbols that do the same
@@ -224,7 +225,7 @@ abbrev pub NextIsIdentifier : List Placed → Type 0
 NextIsIdentifier [] = ⊥
 NextIsIdentifier (t ∷ ts) = (x : List ℕ) × (t.lexeme ≡ identifier x)
 
-named_alike : (b : Bool) (ys : List Outer) (a : ℕ) (below : State) (skip other : Step)
+named_alike : (b : Bool) (ys : List Outer) (a : ℕ) (below : State) (skip other : MachineStep)
     → after_outer all_limits a below skip (unless_refused b (takes 0 0 ys)) ≡
     after_outer all_limits a (outside_on ys ++ below) other (unless_refused b (takes 0 0 []))
 named_alike true ys a below skip other = refl

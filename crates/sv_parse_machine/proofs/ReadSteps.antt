@@ -14,10 +14,11 @@ use Rattle.sv_parse_machine.specs.Symbols.{State, Expected, InnerReaction, takes
 use Rattle.sv_parse_machine.specs.Symbols.{OuterReaction, takes, over, stuck}
 use Rattle.sv_parse_machine.specs.ExpressionTable.{operand_on, inner_on}
 use Rattle.sv_parse_machine.specs.ExpressionTable.{as_expression, expression_on}
-use Rattle.sv_parse_machine.specs.Machine.{outer_on, Step, goes, fails_as, Failure, stuck_at, too_deep}
-use Rattle.sv_parse_machine.specs.Machine.{too_long, ends_early, within_limits, inside_on, outside_on}
-use Rattle.sv_parse_machine.specs.Machine.{tokens_of, after_inner, after_outer, step, Outcome, fails}
-use Rattle.sv_parse_machine.specs.Machine.{may_be_empty, ended, at_end, go_on, run}
+use Rattle.sv_parse_machine.specs.Machine.{outer_on, MachineStep, goes, fails_as, Failure, stuck_at}
+use Rattle.sv_parse_machine.specs.Machine.{too_deep, too_long, ends_early, within_limits, inside_on}
+use Rattle.sv_parse_machine.specs.Machine.{outside_on, tokens_of, after_inner, after_outer, step}
+use Rattle.sv_parse_machine.specs.Machine.{MachineEnd, fails, may_be_empty, ended, at_end, go_on}
+use Rattle.sv_parse_machine.specs.Machine.{run}
 use Rattle.sv_parse_machine.specs.Reads.{Reads, Halts}
 use Rattle.sv_parse_machine.proofs.AgreedRows.{PlainlyStuck, operand_is_plain}
 use Rattle.sv_parse_machine.proofs.ExpressionForms.{Next}
@@ -59,7 +60,7 @@ halts_before xs others ts f left is = record {
 
 -- ---- a token outside expressions
 
-stepped : (s : State) (t : Placed) (ts : List Placed) (st : Step)
+stepped : (s : State) (t : Placed) (ts : List Placed) (st : MachineStep)
     → step all_limits (length ts) s t.lexeme ≡ st
     → run all_limits s (t ∷ ts) ≡ go_on (λ next. run all_limits next ts) (t ∷ ts) st
 stepped s t ts st e = ap (λ st. go_on (λ next. run all_limits next ts) (t ∷ ts) st) e
@@ -112,7 +113,7 @@ level_is_too_deep y level ys t ts more e = fails_at (outer y) t ts too_deep (λ 
     outer_step y below t ts (takes level 0 ys) e
     ∙ ap (λ b. within_limits b true (outside_on ys ++ below)) (beyond level 64 more))
 
-ended_over : (b : Bool) (below : Outcome) → b ≡ true → ended b below ≡ below
+ended_over : (b : Bool) (below : MachineEnd) → b ≡ true → ended b below ≡ below
 ended_over true below e = refl
 ended_over false below e = absurd (false≢true e)
 
@@ -127,7 +128,7 @@ skips y (t ∷ ts) empty next = record {
       (outer_step y below t ts over next);
 }
 
-ended_early : (b : Bool) (below : Outcome) → b ≡ false → ended b below ≡ fails ends_early []
+ended_early : (b : Bool) (below : MachineEnd) → b ≡ false → ended b below ≡ fails ends_early []
 ended_early true below e = absurd (false≢true (sym e))
 ended_early false below e = refl
 
@@ -272,7 +273,7 @@ plain_is_not_over (stuck_inner e) plain = tt
 pub operand_not_over : (n : ℕ) (x : Lexeme) → NotOver (operand_on n x)
 operand_not_over n x = plain_is_not_over (operand_on n x) (operand_is_plain n x)
 
-begun_step : (n arm : ℕ) (ys : List Outer) (a : ℕ) (below : State) (skip other : Step)
+begun_step : (n arm : ℕ) (ys : List Outer) (a : ℕ) (below : State) (skip other : MachineStep)
     (r : InnerReaction) → NotOver r → arm ≤ 256
     → after_outer all_limits a below skip (as_expression n arm ys r)
     ≡ after_inner all_limits a (a + 1) (inner (a + 1) (tail n) ∷ (outside_on ys ++ below)) other r

@@ -11,9 +11,10 @@ use Rattle.sv_ast.specs.GrammarModules.{IsText}
 use Rattle.sv_ast.specs.GrammarRules.{no_limits, limit_of_levels, all_limits, BeginText, IsStuck}
 use Rattle.sv_ast.specs.GrammarRules.{IsTooDeep, IsTooLong, EndsEarly}
 use Rattle.sv_parse_machine.specs.Symbols.{State, Expected}
-use Rattle.sv_parse_machine.specs.Machine.{Step, goes, fails_as, Failure, stuck_at, too_deep, too_long}
-use Rattle.sv_parse_machine.specs.Machine.{ends_early, within_limits, tokens_of, step, done, fails}
-use Rattle.sv_parse_machine.specs.Machine.{may_be_empty, ended, at_end, run, text_state}
+use Rattle.sv_parse_machine.specs.Machine.{MachineStep, goes, fails_as, Failure, stuck_at, too_deep}
+use Rattle.sv_parse_machine.specs.Machine.{too_long, ends_early, within_limits, tokens_of, step}
+use Rattle.sv_parse_machine.specs.Machine.{done, fails, may_be_empty, ended, at_end, run}
+use Rattle.sv_parse_machine.specs.Machine.{text_state}
 use Rattle.sv_parse_machine.proofs.TextForm.{text_form}
 use Rattle.sv_parse_machine.proofs.Runs.{run_of_text}
 use Rattle.sv_parse_machine.proofs.Walks.{then_step, walk, run_of_walk, where_run_fails, shift_step}
@@ -23,7 +24,7 @@ use Rattle.sv_parse_machine.proofs.Beginnings.{no_beginning}
 
 -- ---- one token more
 
-then_goes : (st : Step) → then_step st goes ≡ st
+then_goes : (st : MachineStep) → then_step st goes ≡ st
 then_goes (goes s) = refl
 then_goes (fails_as f) = refl
 
@@ -48,7 +49,7 @@ walk_more l k s last (u ∷ us) t walked =
     step l k last t.lexeme) (one_behind us t k)
     (on (step l (length us + (k + 1)) s u.lexeme) walked (λ s. walk_more l k s last us t))
   where
-    on : (st : Step) → then_step st (λ s. walk l (k + 1) s us) ≡ goes last
+    on : (st : MachineStep) → then_step st (λ s. walk l (k + 1) s us) ≡ goes last
         → ((s : State) → walk l (k + 1) s us ≡ goes last
         → walk l k s (us ++ t ∷ []) ≡ step l k last t.lexeme)
         → then_step st (λ s. walk l k s (us ++ t ∷ [])) ≡ step l k last t.lexeme
@@ -113,7 +114,7 @@ wider_walk l k wider j [] s next e = e
 wider_walk l k wider j (t ∷ ts) s next e =
     on (step l (length ts + j) s t.lexeme) refl e (λ s. wider_walk l k wider j ts s next)
   where
-    on : (st : Step) → step l (length ts + j) s t.lexeme ≡ st
+    on : (st : MachineStep) → step l (length ts + j) s t.lexeme ≡ st
         → then_step st (λ s. walk l j s ts) ≡ goes next
         → ((s : State) → walk l j s ts ≡ goes next → walk k j s ts ≡ goes next)
         → then_step (step k (length ts + j) s t.lexeme) (λ s. walk k j s ts) ≡ goes next

@@ -14,9 +14,10 @@ use Rattle.sv_parse_machine.specs.Symbols.{InnerReaction, takes_inner, over_inne
 use Rattle.sv_parse_machine.specs.Symbols.{OuterReaction, takes, begins, over, stuck}
 use Rattle.sv_parse_machine.specs.ExpressionTable.{inner_on}
 use Rattle.sv_parse_machine.specs.ModuleTable.{one_module_on}
-use Rattle.sv_parse_machine.specs.Machine.{outer_on, Step, goes, fails_as, within_limits, inside_on}
-use Rattle.sv_parse_machine.specs.Machine.{outside_on, tokens_of, after_inner, after_outer, step, Outcome}
-use Rattle.sv_parse_machine.specs.Machine.{done, may_be_empty, ended, at_end, go_on, run, text_state}
+use Rattle.sv_parse_machine.specs.Machine.{outer_on, MachineStep, goes, fails_as, within_limits}
+use Rattle.sv_parse_machine.specs.Machine.{inside_on, outside_on, tokens_of, after_inner}
+use Rattle.sv_parse_machine.specs.Machine.{after_outer, step, MachineEnd, done, may_be_empty, ended}
+use Rattle.sv_parse_machine.specs.Machine.{at_end, go_on, run, text_state}
 use Rattle.sv_parse_machine.proofs.ExpressionForms.{inner_form, inner_forms, AcceptsInner}
 use Rattle.sv_parse_machine.proofs.ExpressionLengths.{all_inner_shrink}
 use Rattle.sv_parse_machine.proofs.InnerSteps.{by_token, no_token, none_opens, no_arm, f_inner}
@@ -88,11 +89,11 @@ admitted true false s first second = absurd (false≢true second)
 admitted false c s first second = absurd (false≢true first)
 
 -- the step goes on, and the tokens behind are all that is still to come then
-abbrev Steps : Limits → List Placed → Step → Type 0
+abbrev Steps : Limits → List Placed → MachineStep → Type 0
 Steps l ts st = (next : State) × (st ≡ goes next) × Fits l next ts
 
 f_after_inner : (l : Limits) (t : Placed) (ts mid : List Placed) (start : ℕ) (below : State)
-    (skip : Step) (r : InnerReaction)
+    (skip : MachineStep) (r : InnerReaction)
     → AcceptsInner l t ts mid r → Counted l start mid → Fits l below mid
     → (mid ≡ t ∷ ts → Steps l ts skip)
     → Steps l ts (after_inner l (length ts) start below skip r)
@@ -106,8 +107,8 @@ f_after_inner l t ts mid start below skip (takes_inner level xs) (opens, is) cou
 f_after_inner l t ts mid start below skip over_inner same counted fits skips = skips (sym same)
 f_after_inner l t ts mid start below skip (stuck_inner e) is counted fits skips = absurd is
 
-f_after_outer : (l : Limits) (t : Placed) (ts mid : List Placed) (below : State) (skip : Step)
-    (r : OuterReaction)
+f_after_outer : (l : Limits) (t : Placed) (ts mid : List Placed) (below : State)
+    (skip : MachineStep) (r : OuterReaction)
     → Accepts l t ts mid r → Fits l below mid → (IsOver r → mid ≡ t ∷ ts → Steps l ts skip)
     → Steps l ts (after_outer l (length ts) below skip r)
 f_after_outer l t ts mid below skip (takes level arm ys) (opens, few, is) fits skips = (
@@ -203,7 +204,7 @@ admits true false s next e = absurd (cc)
 admits false c s next e = absurd (cc)
 
 b_after_inner : (l : Limits) (t : Placed) (ts : List Placed) (start : ℕ) (below next : State)
-    (skip : Step) (r : InnerReaction)
+    (skip : MachineStep) (r : InnerReaction)
     → after_inner l (length ts) start below skip r ≡ goes next → Kept l next ts
     → (skip ≡ goes next → Kept l below (t ∷ ts))
     → (mid : List Placed) × AcceptsInner l t ts mid r
@@ -219,8 +220,8 @@ b_after_inner l t ts start below next skip over_inner e kept skips =
     (t ∷ ts, refl, λ counted. counted, skips e)
 b_after_inner l t ts start below next skip (stuck_inner x) e kept skips = absurd (cc)
 
-b_after_outer : (l : Limits) (t : Placed) (ts : List Placed) (below next : State) (skip : Step)
-    (r : OuterReaction)
+b_after_outer : (l : Limits) (t : Placed) (ts : List Placed) (below next : State)
+    (skip : MachineStep) (r : OuterReaction)
     → after_outer l (length ts) below skip r ≡ goes next → Kept l next ts
     → (IsOver r → skip ≡ goes next → Kept l below (t ∷ ts))
     → (mid : List Placed) × Accepts l t ts mid r × Kept l below mid
@@ -272,7 +273,7 @@ empty_inner l start (tail n) may = ([], ([], refl, inl (tt, refl)))
 empty_inner l start (selection n) may = inl (tt, refl)
 empty_inner l start s may = absurd (false≢true may)
 
-ends_both : (b : Bool) (below : Outcome) → ended b below ≡ done → IsTrue b × (below ≡ done)
+ends_both : (b : Bool) (below : MachineEnd) → ended b below ≡ done → IsTrue b × (below ≡ done)
 ends_both true below e = (refl, e)
 ends_both false below e = absurd (cc)
 
@@ -285,7 +286,7 @@ b_end l (outer y ∷ below) e =
     let ends = ends_both (may_be_empty (outer y)) (at_end below) e in
     ([], empty_outer l y ends.0, b_end l below ends.1)
 
-b_go_on : (l : Limits) (t : Placed) (ts : List Placed) (s : State) (st : Step)
+b_go_on : (l : Limits) (t : Placed) (ts : List Placed) (s : State) (st : MachineStep)
     → step l (length ts) s t.lexeme ≡ st
     → go_on (λ s. run l s ts) (t ∷ ts) st ≡ done
     → ((next : State) → run l next ts ≡ done → Kept l next ts) → Kept l s (t ∷ ts)

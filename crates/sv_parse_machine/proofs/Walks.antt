@@ -12,17 +12,17 @@ use Rattle.sv_parse_machine.specs.Symbols.{InnerReaction, takes_inner, over_inne
 use Rattle.sv_parse_machine.specs.Symbols.{OuterReaction, takes, begins, over, stuck}
 use Rattle.sv_parse_machine.specs.ExpressionTable.{inner_on}
 use Rattle.sv_parse_machine.specs.ModuleTable.{one_module_on}
-use Rattle.sv_parse_machine.specs.Machine.{outer_on, Step, goes, fails_as, Failure, stuck_at}
+use Rattle.sv_parse_machine.specs.Machine.{outer_on, MachineStep, goes, fails_as, Failure, stuck_at}
 use Rattle.sv_parse_machine.specs.Machine.{within_limits, inside_on, outside_on, tokens_of, after_inner}
 use Rattle.sv_parse_machine.specs.Machine.{after_outer, step, done, fails, may_be_empty, ended, at_end}
 use Rattle.sv_parse_machine.specs.Machine.{go_on, run}
 
-abbrev pub then_step : Step → (State → Step) → Step
+abbrev pub then_step : MachineStep → (State → MachineStep) → MachineStep
 then_step (goes s) f = f s
 then_step (fails_as e) f = fails_as e
 
 -- over tokens behind which so many others stand
-abbrev pub walk : Limits → (beyond : ℕ) → State → List Placed → Step
+abbrev pub walk : Limits → (beyond : ℕ) → State → List Placed → MachineStep
 walk l k s [] = goes s
 walk l k s (t ∷ ts) = then_step (step l (length ts + k) s t.lexeme) (λ next. walk l k next ts)
 
@@ -39,7 +39,7 @@ run_of_walk l (t ∷ ts) us s next e =
     run l next us) (sym (behind ts us))
     (on (step l (length ts + length us) s t.lexeme) e (λ s. run_of_walk l ts us s next))
   where
-    on : (st : Step) → then_step st (λ s. walk l (length us) s ts) ≡ goes next
+    on : (st : MachineStep) → then_step st (λ s. walk l (length us) s ts) ≡ goes next
         → ((s : State) → walk l (length us) s ts ≡ goes next → run l s (ts ++ us) ≡ run l next us)
         → go_on (λ s. run l s (ts ++ us)) (t ∷ (ts ++ us)) st ≡ run l next us
     on (goes s) e further = further s e
@@ -56,7 +56,7 @@ walk_of_run l (t ∷ ts) us s e =
     (behind ts us) e in
     on (step l (length ts + length us) s t.lexeme) e (λ s. walk_of_run l ts us s)
   where
-    on : (st : Step) → go_on (λ s. run l s (ts ++ us)) (t ∷ (ts ++ us)) st ≡ done
+    on : (st : MachineStep) → go_on (λ s. run l s (ts ++ us)) (t ∷ (ts ++ us)) st ≡ done
         → ((s : State) → run l s (ts ++ us) ≡ done
         → (next : State) × (walk l (length us) s ts ≡ goes next) × (run l next us ≡ done))
         → (next : State) × (then_step st (λ s. walk l (length us) s ts) ≡ goes next)
@@ -94,7 +94,7 @@ where_run_fails l [] s f rest e =
 where_run_fails l (t ∷ ts) s f rest e =
     on (step l (length ts) s t.lexeme) refl e (λ s. where_run_fails l ts s f rest)
   where
-    on : (st : Step) → step l (length ts) s t.lexeme ≡ st
+    on : (st : MachineStep) → step l (length ts) s t.lexeme ≡ st
         → go_on (λ s. run l s ts) (t ∷ ts) st ≡ fails f rest
         → ((s : State) → run l s ts ≡ fails f rest → FailsAt l s ts f rest)
         → FailsAt l s (t ∷ ts) f rest
@@ -132,7 +132,7 @@ shifted m (outer y) = outer y
 abbrev pub shift : ℕ → State → State
 shift m s = map (shifted m) s
 
-abbrev pub shift_step : ℕ → Step → Step
+abbrev pub shift_step : ℕ → MachineStep → MachineStep
 shift_step m (goes s) = goes (shift m s)
 shift_step m (fails_as f) = fails_as f
 
@@ -160,7 +160,7 @@ CountAlike m k u =
     tokens_of k start after
 
 module _ (m u : ℕ) (k : Limits) (alike : CountAlike m k u) where
-  shift_after_inner : (a start : ℕ) (below : State) (skip other : Step) (r : InnerReaction)
+  shift_after_inner : (a start : ℕ) (below : State) (skip other : MachineStep) (r : InnerReaction)
       → other ≡ shift_step m skip
       → after_inner (record k { unread = u }) (a + m) (start + m) (shift m below) other r ≡
       shift_step m (after_inner k a start below skip r)
@@ -179,7 +179,7 @@ module _ (m u : ℕ) (k : Limits) (alike : CountAlike m k u) where
   begun_at : (a : ℕ) → (a + 1) + m ≡ (a + m) + 1
   begun_at a = omega arith
 
-  shift_after_outer : (a : ℕ) (below : State) (skip other : Step) (r : OuterReaction)
+  shift_after_outer : (a : ℕ) (below : State) (skip other : MachineStep) (r : OuterReaction)
       → other ≡ shift_step m skip
       → after_outer (record k { unread = u }) (a + m) (shift m below) other r ≡
       shift_step m (after_outer k a below skip r)
@@ -239,7 +239,7 @@ module _ (m u : ℕ) (k : Limits) (alike : CountAlike m k u) where
       (sym (shift_one (length ts + j) s t.lexeme))
       (on (step k (length ts + j) s t.lexeme) (λ next. shift_walk j ts next)))
     where
-      on : (st : Step) → ((next : State)
+      on : (st : MachineStep) → ((next : State)
           → walk (record k { unread = u }) (j + m) (shift m next) ts ≡
           shift_step m (walk k j next ts))
           → then_step (shift_step m st) (λ next. walk (record k { unread = u }) (j + m) next ts) ≡
@@ -311,7 +311,8 @@ forecast_inner a start s below x (stuck_inner e) found further =
           fails_as (stuck_at e)) (sym found) refl,
     )
 
-forecast_reaction : (a : ℕ) (below : State) (x : Lexeme) (skip : Limits → Step) (r : OuterReaction)
+forecast_reaction : (a : ℕ) (below : State) (x : Lexeme)
+    (skip : Limits → MachineStep) (r : OuterReaction)
     → (((e : Expected) × ((l : Limits) → skip l ≡ fails_as (stuck_at e)))
     ⊎ ((level arm start : ℕ) × (next : State)
     × ((l : Limits) → skip l ≡

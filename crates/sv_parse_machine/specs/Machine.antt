@@ -130,12 +130,12 @@ pub data Failure : Type 0 where
   -- the text ends too early
   ends_early : Failure
 
-pub data Step : Type 0 where
-  goes : State → Step
-  fails_as : Failure → Step
+pub data MachineStep : Type 0 where
+  goes : State → MachineStep
+  fails_as : Failure → MachineStep
 
 -- on where the numbers of open levels, of arms and of tokens are within the limits
-abbrev pub within_limits : (deep long : Bool) → State → Step
+abbrev pub within_limits : (deep long : Bool) → State → MachineStep
 within_limits true true s = goes s
 within_limits true false s = fails_as too_long
 within_limits false long s = fails_as too_deep
@@ -151,16 +151,16 @@ outside_on ys = map outer ys
 abbrev pub tokens_of : Limits → (start after : ℕ) → ℕ
 tokens_of l start after = start - max after l.unread
 
-abbrev pub after_inner : Limits → (after start : ℕ) → (below : State) → (skip : Step) →
-    InnerReaction → Step
+abbrev pub after_inner : Limits → (after start : ℕ) → (below : State) → (skip : MachineStep) →
+    InnerReaction → MachineStep
 after_inner l after start below skip (takes_inner level xs) =
     within_limits (is_within l.levels level) (is_within l.tokens (tokens_of l start after))
     (inside_on start xs ++ below)
 after_inner l after start below skip over_inner = skip
 after_inner l after start below skip (stuck_inner e) = fails_as (stuck_at e)
 
-abbrev pub after_outer : Limits → (after : ℕ) → (below : State) → (skip : Step) →
-    OuterReaction → Step
+abbrev pub after_outer : Limits → (after : ℕ) → (below : State) → (skip : MachineStep) →
+    OuterReaction → MachineStep
 after_outer l after below skip (takes level arm ys) =
     within_limits (is_within l.levels level) (is_within l.arms arm) (outside_on ys ++ below)
 after_outer l after below skip (begins level arm xs ys) =
@@ -171,7 +171,7 @@ after_outer l after below skip over = skip
 after_outer l after below skip (stuck e) = fails_as (stuck_at e)
 
 -- what the lexeme does, where so many tokens are left behind it
-abbrev pub step : Limits → (after : ℕ) → State → Lexeme → Step
+abbrev pub step : Limits → (after : ℕ) → State → Lexeme → MachineStep
 step l after [] x = after_outer l after [] (goes []) (one_module_on x)
 step l after (inner start s ∷ below) x =
     after_inner l after start below (step l after below x) (inner_on s x)
@@ -179,10 +179,10 @@ step l after (outer s ∷ below) x = after_outer l after below (step l after bel
 
 -- ---- a run
 
-pub data Outcome : Type 0 where
-  done : Outcome
+pub data MachineEnd : Type 0 where
+  done : MachineEnd
   -- with the tokens from the one on that breaks a rule; none at the end
-  fails : Failure → List Placed → Outcome
+  fails : Failure → List Placed → MachineEnd
 
 -- what may have no token
 abbrev pub may_be_empty : Symbol → Bool
@@ -209,20 +209,20 @@ may_be_empty (outer (perhaps_bits n)) = true
 may_be_empty (outer perhaps_colon) = true
 may_be_empty s = false
 
-abbrev pub ended : Bool → Outcome → Outcome
+abbrev pub ended : Bool → MachineEnd → MachineEnd
 ended true below = below
 ended false below = fails ends_early []
 
-abbrev pub at_end : State → Outcome
+abbrev pub at_end : State → MachineEnd
 at_end [] = done
 at_end (s ∷ below) = ended (may_be_empty s) (at_end below)
 
 -- on with what the step gives
-abbrev pub go_on : (State → Outcome) → List Placed → Step → Outcome
+abbrev pub go_on : (State → MachineEnd) → List Placed → MachineStep → MachineEnd
 go_on next ts (goes s) = next s
 go_on next ts (fails_as f) = fails f ts
 
-abbrev pub run : Limits → State → List Placed → Outcome
+abbrev pub run : Limits → State → List Placed → MachineEnd
 run l s [] = at_end s
 run l s (t ∷ ts) = go_on (λ next. run l next ts) (t ∷ ts) (step l (length ts) s t.lexeme)
 

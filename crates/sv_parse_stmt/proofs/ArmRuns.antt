@@ -21,8 +21,9 @@ use Rattle.sv_parse_machine.specs.Symbols.{more_choices, inner, outer, State, In
 use Rattle.sv_parse_machine.specs.Symbols.{over_inner, stuck_inner}
 use Rattle.sv_parse_machine.specs.ExpressionTable.{operand_on}
 use Rattle.sv_parse_machine.specs.ExpressionTable.{as_expression, expression_on}
-use Rattle.sv_parse_machine.specs.Machine.{outer_on, Step, within_limits, inside_on, outside_on}
-use Rattle.sv_parse_machine.specs.Machine.{tokens_of, after_inner, after_outer, step, go_on, run}
+use Rattle.sv_parse_machine.specs.Machine.{outer_on, MachineStep, within_limits, inside_on}
+use Rattle.sv_parse_machine.specs.Machine.{outside_on, tokens_of, after_inner, after_outer, step}
+use Rattle.sv_parse_machine.specs.Machine.{go_on, run}
 use Rattle.sv_parse_machine.specs.Reads.{Reads, IsNot, NextIsNotWord, NextIsNotSign}
 use Rattle.sv_parse_machine.proofs.ReadSteps.{NotOver, operand_not_over, reads_then}
 use Rattle.sv_parse_machine.proofs.ReadSteps.{beyond, begins_expression, as_many}
@@ -81,8 +82,8 @@ no_arm false c is = refl
 
 -- a token that begins an expression is one too many in both
 too_many_step :
-    (n arm a : ℕ) (ys : List Outer) (below others : State) (skip other : Step) (r : InnerReaction) →
-    NotOver r → 256 < arm →
+    (n arm a : ℕ) (ys : List Outer) (below others : State) (skip other : MachineStep)
+    (r : InnerReaction) → NotOver r → 256 < arm →
     after_outer all_limits a below skip (as_expression n arm ys r) ≡
     after_inner all_limits a (a + 1 + 1024) others other r
 too_many_step n arm a ys below others skip other (takes_inner level xs) kind more =

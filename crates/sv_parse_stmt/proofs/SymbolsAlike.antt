@@ -22,8 +22,8 @@ use Rattle.sv_parse_machine.specs.Symbols.{assigns, more_choices, assigned, valu
 use Rattle.sv_parse_machine.specs.Symbols.{later_assigned, more_assigned, outer, State, takes, and_then}
 use Rattle.sv_parse_machine.specs.Symbols.{unless_refused}
 use Rattle.sv_parse_machine.specs.StatementTable.{assignment_behind, is_less_equal, taken_if}
-use Rattle.sv_parse_machine.specs.Machine.{outer_on, Step, outside_on, after_outer, step, Outcome}
-use Rattle.sv_parse_machine.specs.Machine.{may_be_empty, ended, at_end, go_on, run}
+use Rattle.sv_parse_machine.specs.Machine.{outer_on, MachineStep, outside_on, after_outer, step}
+use Rattle.sv_parse_machine.specs.Machine.{MachineEnd, may_be_empty, ended, at_end, go_on, run}
 use Rattle.sv_parse_machine.specs.Reads.{Reads, NextIs, IsNot, NextIsNotSign, NextIsNotWord, GoesOn}
 use Rattle.sv_parse_machine.specs.Reads.{NextIsTarget, BeginsTarget}
 use Rattle.sv_parse_machine.proofs.ReadSteps.{reads_then, reads_before, takes_token, expression_from}
@@ -49,7 +49,7 @@ then_on xs ys us zs ts mid rest first second =
 -- the lexeme does to the symbol what it does to the other one with these behind it
 abbrev pub BeginsAs : Outer → Outer → List Outer → Lexeme → Type 0
 BeginsAs y z zs x =
-    (a : ℕ) (below : State) (skip other : Step) →
+    (a : ℕ) (below : State) (skip other : MachineStep) →
     after_outer all_limits a below skip (outer_on y x) ≡
     after_outer all_limits a (outside_on zs ++ below) other (outer_on z x)
 
@@ -64,7 +64,7 @@ begins_as y z zs [] first second next =
           (at_end (outside_on zs ++ below)) first second;
     }
   where
-    early : (b c : Bool) (p q : Outcome) → b ≡ false → c ≡ false → ended b p ≡ ended c q
+    early : (b c : Bool) (p q : MachineEnd) → b ≡ false → c ≡ false → ended b p ≡ ended c q
     early true c p q first second = absurd (false≢true (sym first))
     early false true p q first second = absurd (false≢true (sym second))
     early false false p q first second = refl
@@ -83,7 +83,7 @@ next_by P Q f (t ∷ ts) next = f t.lexeme next
 -- ---- a block: a statement, and then the same again
 
 name_in_block :
-    (n : ℕ) (b : Bool) (a : ℕ) (below : State) (skip other : Step) →
+    (n : ℕ) (b : Bool) (a : ℕ) (below : State) (skip other : MachineStep) →
     after_outer all_limits a below skip
     (and_then (statements n ∷ [])
     (unless_refused b (takes 0 0 (perhaps_bits n ∷ assignment_behind n))))
@@ -114,7 +114,7 @@ one_statement n ts none =
 -- ---- targets of `assign`
 
 name_alike :
-    (ys : List Outer) (b : Bool) (a : ℕ) (below : State) (skip other : Step) →
+    (ys : List Outer) (b : Bool) (a : ℕ) (below : State) (skip other : MachineStep) →
     after_outer all_limits a below skip (unless_refused b (takes 0 0 ys)) ≡
     after_outer all_limits a (outside_on ys ++ below) other (unless_refused b (takes 0 0 []))
 name_alike ys true a below skip other = refl

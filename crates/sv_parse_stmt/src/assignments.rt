@@ -24,7 +24,7 @@ use sv_ast::{Item, Select, Target};
 use sv_num::{Name, Place};
 use sv_parse_expr::cursor::{behind, behind_word, expect_sign, expect_word, read_name};
 use sv_parse_expr::expressions::read_expression;
-use sv_parse_expr::lists::{Begun, Listed, one, read_list, read_list_from};
+use sv_parse_expr::lists::{Listed, ListedFromFirst, one, read_list, read_list_from};
 use sv_parse_expr::stop::{Input, Read};
 use sv_token::{SignKind, WordKind};
 
@@ -70,7 +70,7 @@ impl Listed for WholeTargets {
     }
 }
 
-impl Begun for WholeTargets {
+impl ListedFromFirst for WholeTargets {
     ghost Begins = { λ ts. Unit {0} };
 
     ghost start = { λ n. outer plain_name ∷ [] };
@@ -151,7 +151,7 @@ impl Listed for Assignments {
     }
 }
 
-impl Begun for Assignments {
+impl ListedFromFirst for Assignments {
     ghost Begins = { λ ts. Unit {0} };
 
     ghost start = { λ n. outer later_assigned ∷ [] };

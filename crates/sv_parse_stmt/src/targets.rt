@@ -20,7 +20,7 @@ use sv_ast::{Expr, Select, Target};
 use sv_num::Place;
 use sv_parse_expr::cursor::{behind, expect_sign, read_name};
 use sv_parse_expr::expressions::read_expression;
-use sv_parse_expr::lists::{Begun, Listed, one, read_list};
+use sv_parse_expr::lists::{Listed, ListedFromFirst, one, read_list};
 use sv_parse_expr::stop::{Input, Read};
 use sv_token::SignKind;
 
@@ -101,7 +101,7 @@ impl Listed for Targets {
     }
 }
 
-impl Begun for Targets {
+impl ListedFromFirst for Targets {
     ghost Begins = { λ ts. Unit {0} };
 
     ghost start = { λ n. outer plain_name ∷ outer (perhaps_bits n) ∷ [] };

@@ -15,7 +15,7 @@ use Rattle.sv_circuits.specs.Words.{Word}
 use Rattle.sv_circuits.proofs.WordKeeps.{word_up}
 use Rattle.sv_blast.specs.WordTables.{words_of}
 use Rattle.sv_blast.specs.TargetWords.{target_word, AreReady, StandAt}
-use Rattle.sv_blast.specs.declared.arms.Arm.{Arm}
+use Rattle.sv_blast.specs.declared.arms.TargetArm.{TargetArm}
 use Rattle.sv_blast.proofs.ArmSteps.{stand_up}
 use Rattle.sv_blast.proofs.SliceWords.{ready_up}
 use Rattle.sv_blast.proofs.TargetSteps.{DownAt, first_full, rest_full, condition_full, arm_full}
@@ -138,7 +138,8 @@ after_slice-loop-rest-preserved t c =
     let down = subst (λ r. DownAt forms words s whole (signal_width forms s) c.args.gates.now
     c.loop-rest.gates c.loop-rest.arms.items r c.args.word.items)
     (ap slice_statement c.in-Branch.is) c.loop-rest.invariant.0 in
-    let arm : Arm = record { condition = c.in_ok-condition.condition; word = c.in_ok-word.word } in
+    let arm : TargetArm =
+      record { condition = c.in_ok-condition.condition; word = c.in_ok-word.word } in
     let made : target_word forms words s x c.args.word.items mid ≡ (later, arm.word.items) =
     sym (ap₂ (λ z w. target_word forms words s (slice_statement z) w mid) c.deref-in-Branch.ensures
     (c.in_ok-before.ensures ∙ c.deref.ensures.value))

@@ -1,7 +1,7 @@
 use Rattle.sv_parse.proofs.ReadingDeclarations.{header_parameter_is}
 use Rattle.sv_parse_expr.proofs.Halting.{passed, stops_by}
 use Rattle.sv_parse_machine.proofs.ReadRows.{halts_header_parameter}
-use Rattle.sv_parse.proofs.parameters.HeaderParamsBegun.first.Goals as goal
+use Rattle.sv_parse.proofs.parameters.HeaderParamsListedFromFirst.first.Goals as goal
 
 pub returns-clause-is : goal.returns-clause-is
 returns-clause-is c =

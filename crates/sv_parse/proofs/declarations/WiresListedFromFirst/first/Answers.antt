@@ -2,7 +2,7 @@ use Rattle.sv_token.specs.declared.keywords.WordKind.TheVariants as words
 use Rattle.sv_parse.proofs.ReadingDeclarations.{wire_is}
 use Rattle.sv_parse_expr.proofs.Halting.{passed}
 use Rattle.sv_parse.proofs.DeclarationRuns.{stops_never}
-use Rattle.sv_parse.proofs.declarations.WiresBegun.first.Goals as goal
+use Rattle.sv_parse.proofs.declarations.WiresListedFromFirst.first.Goals as goal
 
 pub returns-clause-is : goal.returns-clause-is
 returns-clause-is c =

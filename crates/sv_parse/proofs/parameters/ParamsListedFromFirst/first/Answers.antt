@@ -1,5 +1,5 @@
 use Rattle.sv_parse.proofs.ReadingDeclarations.{parameter_is}
-use Rattle.sv_parse.proofs.parameters.ParamsBegun.first.Goals as goal
+use Rattle.sv_parse.proofs.parameters.ParamsListedFromFirst.first.Goals as goal
 
 pub returns-clause-is : goal.returns-clause-is
 returns-clause-is c =

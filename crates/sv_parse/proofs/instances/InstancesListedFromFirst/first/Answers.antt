@@ -4,7 +4,7 @@ use Rattle.sv_token.specs.Lexemes.{placed_tokens}
 use Rattle.sv_parse_expr.specs.Parses.{placed}
 use Rattle.sv_parse_expr.proofs.Halting.{passed}
 use Rattle.sv_parse.proofs.DeclarationRuns.{and_read, and_stop, front_stop}
-use Rattle.sv_parse.proofs.instances.InstancesBegun.first.Goals as goal
+use Rattle.sv_parse.proofs.instances.InstancesListedFromFirst.first.Goals as goal
 
 pub returns-clause-is : goal.returns-clause-is
 returns-clause-is c =

@@ -1,5 +1,5 @@
 use Rattle.sv_parse.proofs.ReadingDeclarations.{port_is}
-use Rattle.sv_parse.proofs.declarations.PortsBegun.first.Goals as goal
+use Rattle.sv_parse.proofs.declarations.PortsListedFromFirst.first.Goals as goal
 
 pub returns-clause-is : goal.returns-clause-is
 returns-clause-is c =

@@ -1,8 +1,8 @@
 // Items of modules.
-ghost use Rattle.std.specs.Prelude.{◌≡◌, [], ◌∷◌};
+ghost use Rattle.std.specs.Prelude.{[], ◌∷◌};
 ghost use Rattle.std.specs.Option.{option_map};
 ghost use Rattle.sv_token.specs.declared.signs.SignKind.TheVariants as signs;
-ghost use Rattle.sv_ast.specs.Views.{expression_tree, placed_name, item_tree};
+ghost use Rattle.sv_ast.specs.Views.{placed_name, item_tree};
 ghost use Rattle.sv_ast.specs.GrammarModules.{IsEvent, IsAlways};
 ghost use Rattle.sv_ast.specs.GrammarModules.{IsInvariant, IsListedItem, IsItem};
 ghost use Rattle.sv_ast.specs.GrammarRules.{all_limits};
@@ -17,7 +17,7 @@ use crate::instances::read_instances;
 use crate::parameters::read_params;
 use crate::registers::read_registers;
 use std::alloc::Global;
-use sv_ast::{Expr, Item};
+use sv_ast::Item;
 use sv_num::{BinOp, Name, Place};
 use sv_parse_expr::cursor::{behind, behind_word, expect_sign, expect_word, stuck, unexpected};
 use sv_parse_expr::expressions::read_expression;

@@ -1,14 +1,9 @@
-use Rattle.sv_token.specs.Lexemes.{placed_tokens}
 use Rattle.sv_parse_expr.proofs.Halting.{passed}
 use Rattle.sv_parse.proofs.DeclarationRuns.{and_read, and_stop, front_stop}
 use Rattle.sv_parse.proofs.declarations.read_wire_name.Goals as goal
 
 pub returns-clause-is : goal.returns-clause-is
-returns-clause-is c = (
-  placed_tokens c.args.input.bytes.now c.in_ok-name.rest.now,
-  c.in_ok-name.ensures.is,
-  c.in_ok-value.ensures.is,
-)
+returns-clause-is c = (_, c.in_ok-name.ensures.is, c.in_ok-value.ensures.is)
 
 pub returns-in_err-name-clause-halts : goal.returns-in_err-name-clause-halts
 returns-in_err-name-clause-halts c =

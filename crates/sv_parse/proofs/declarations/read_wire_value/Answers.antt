@@ -4,7 +4,6 @@ use Rattle.sv_parse_expr.proofs.Halting.{passed, stops_then}
 use Rattle.sv_parse_machine.proofs.ReadRows.{sign_taken}
 use Rattle.sv_parse_machine.specs.Symbols.{perhaps_value, expression}
 use Rattle.sv_parse_machine.proofs.ReadSteps.{reads_then}
-use Rattle.sv_token.specs.Lexemes.{placed_tokens}
 use Rattle.sv_parse.proofs.declarations.read_wire_value.Goals as goal
 
 pub returns-in_err-value-in-Some-clause-halts : goal.returns-in_err-value-in-Some-clause-halts
@@ -23,9 +22,5 @@ returns-in_ok-value-in-Some-clause-reads c =
     (c.in_ok-value-in-Some.ensures.reads)
 
 pub returns-in_ok-value-in-Some-clause-is : goal.returns-in_ok-value-in-Some-clause-is
-returns-in_ok-value-in-Some-clause-is c = (
-  placed_tokens c.args.input.bytes.now c.in-Some.rest.now,
-  c.in-Some.ensures.is
-      c.args.input.bytes.now,
-  c.in_ok-value-in-Some.ensures.is,
-)
+returns-in_ok-value-in-Some-clause-is c =
+    (_, c.in-Some.ensures.is c.args.input.bytes.now, c.in_ok-value-in-Some.ensures.is)

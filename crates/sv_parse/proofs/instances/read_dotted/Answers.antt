@@ -1,4 +1,3 @@
-use Rattle.sv_token.specs.Lexemes.{placed_tokens}
 use Rattle.std.proofs.Common.{refl}
 use Rattle.sv_parse_expr.proofs.Halting.{passed}
 use Rattle.sv_parse.proofs.DeclarationRuns.{and_read, and_stop, front_stop}
@@ -6,14 +5,9 @@ use Rattle.sv_parse.proofs.instances.read_dotted.Goals as goal
 
 pub returns-clause-is : goal.returns-clause-is
 returns-clause-is c = (
-  (placed_tokens c.args.input.bytes.now c.in_ok-rest.rest.now),
-  c.in_ok-rest.ensures.is
-      c.args.input.bytes.now,
-  (
-    (placed_tokens c.args.input.bytes.now c.in_ok-name.rest.now),
-    c.in_ok-name.ensures.is,
-    c.in_ok-rest-2.ensures.is c.args.input.bytes.now,
-  ),
+  _,
+  c.in_ok-rest.ensures.is c.args.input.bytes.now,
+  (_, c.in_ok-name.ensures.is, c.in_ok-rest-2.ensures.is c.args.input.bytes.now),
 )
 
 pub returns-in_err-rest-clause-halts : goal.returns-in_err-rest-clause-halts

@@ -1,5 +1,4 @@
 use Rattle.std.proofs.Common.{refl}
-use Rattle.sv_token.specs.Lexemes.{placed_tokens}
 use Rattle.sv_parse_expr.proofs.Halting.{passed}
 use Rattle.sv_parse.proofs.DeclarationRuns.{and_read, and_stop, front_stop}
 use Rattle.sv_parse.proofs.instances.read_named_instance.Goals as goal
@@ -8,14 +7,9 @@ pub returns-clause-is : goal.returns-clause-is
 returns-clause-is c = (
   (refl, refl, refl),
   (
-    (placed_tokens c.args.input.bytes.now c.in_ok-name.rest.now),
+    _,
     c.in_ok-name.ensures.is,
-    (
-      (placed_tokens c.args.input.bytes.now c.in_ok-rest.rest.now),
-      c.in_ok-rest.ensures.is
-          c.args.input.bytes.now,
-      c.in_ok-links.ensures.is,
-    ),
+    (_, c.in_ok-rest.ensures.is c.args.input.bytes.now, c.in_ok-links.ensures.is),
   ),
 )
 

@@ -1,4 +1,3 @@
-use Rattle.sv_token.specs.Lexemes.{placed_tokens}
 use Rattle.std.proofs.Common.{[], ◌∷◌, refl}
 use Rattle.sv_parse_machine.specs.Symbols.{outer, punctuation, expression, items}
 use Rattle.sv_parse_machine.proofs.ReadSteps.{reads_then, reads_before}
@@ -18,7 +17,7 @@ returns-clause-is c =
     one_is _ _ item_tree (IsInvariant all_limits) _ _ _ _ c.in_ok-one.ensures (
       c.place.ensures,
       (
-        (placed_tokens c.args.input.bytes.now c.in_ok-_place.rest.now),
+        _,
         (c.in_ok-_place._place, c.in_ok-_place.ensures.is c.args.input.bytes.now),
         c.in_ok-expr.ensures.is,
       ),

@@ -1,4 +1,3 @@
-use Rattle.sv_token.specs.Lexemes.{placed_tokens}
 use Rattle.std.proofs.Common.{[], ◌∷◌, refl}
 use Rattle.sv_parse_machine.specs.Symbols.{outer, punctuation, plain_name, event_inside}
 use Rattle.sv_parse_machine.proofs.ReadSteps.{reads_then}
@@ -12,11 +11,8 @@ use Rattle.sv_parse_expr.specs.declared.stop.Expected.TheVariants as expected
 use Rattle.sv_parse.proofs.items.read_open_event.Goals as goal
 
 pub returns-in-Some-clause-is : goal.returns-in-Some-clause-is
-returns-in-Some-clause-is c = (
-  (placed_tokens c.args.input.bytes.now c.in-Some.rest.now),
-  (c.in-Some.ensures.is c.args.input.bytes.now),
-  c.in_ok-name.ensures.is,
-)
+returns-in-Some-clause-is c =
+    (_, c.in-Some.ensures.is c.args.input.bytes.now, c.in_ok-name.ensures.is)
 
 pub returns-in_err-name-clause-halts : goal.returns-in_err-name-clause-halts
 returns-in_err-name-clause-halts c =
@@ -62,6 +58,6 @@ pub returns-in_ok-rest-in-Some-operator_at-clause-is :
     goal.returns-in_ok-rest-in-Some-operator_at-clause-is
 returns-in_ok-rest-in-Some-operator_at-clause-is c = (
   _,
-  (c.in-Some-operator_at.ensures.is c.args.input.bytes.now),
-  (c.in_ok-rest-in-Some-operator_at.ensures.is c.args.input.bytes.now),
+  c.in-Some-operator_at.ensures.is c.args.input.bytes.now,
+  c.in_ok-rest-in-Some-operator_at.ensures.is c.args.input.bytes.now,
 )

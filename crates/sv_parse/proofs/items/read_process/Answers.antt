@@ -1,4 +1,3 @@
-use Rattle.sv_token.specs.Lexemes.{placed_tokens}
 use Rattle.std.proofs.Common.{refl}
 use Rattle.sv_parse_machine.proofs.ReadSteps.{reads_then}
 use Rattle.sv_parse_expr.proofs.Halting.{passed, stops_then}
@@ -10,17 +9,12 @@ use Rattle.sv_parse.proofs.items.read_process.Goals as goal
 
 pub returns-clause-is : goal.returns-clause-is
 returns-clause-is c = (
-  (placed_tokens c.args.input.bytes.now c.in_ok-place.rest.now),
-  c.in_ok-place.ensures.is
-      c.args.input.bytes.now,
+  _,
+  c.in_ok-place.ensures.is c.args.input.bytes.now,
   (
-    (placed_tokens c.args.input.bytes.now c.in_ok-rest.rest.now),
+    _,
     c.in_ok-rest.ensures.is c.args.input.bytes.now,
-    (
-      (placed_tokens c.args.input.bytes.now c.in_ok-clock.rest.now),
-      c.in_ok-clock.ensures.is,
-      c.in_ok-body.ensures.is,
-    ),
+    (_, c.in_ok-clock.ensures.is, c.in_ok-body.ensures.is),
   ),
 )
 

@@ -1,4 +1,3 @@
-use Rattle.sv_token.specs.Lexemes.{placed_tokens}
 use Rattle.std.proofs.Common.{[], ◌∷◌, refl}
 use Rattle.sv_parse_machine.specs.Symbols.{outer, punctuation, plain_name, rows, end_of_map}
 use Rattle.sv_parse_machine.proofs.ReadSteps.{reads_then, reads_before}
@@ -10,11 +9,8 @@ use Rattle.sv_token.specs.declared.keywords.WordKind.TheVariants as words
 use Rattle.sv_parse.proofs.label_maps.read_other.Goals as goal
 
 pub returns-in_ok-point-in-Some-clause-is : goal.returns-in_ok-point-in-Some-clause-is
-returns-in_ok-point-in-Some-clause-is c = (
-  (placed_tokens c.args.input.bytes.now c.in-Some.rest.now),
-  (c.in-Some.ensures.is c.args.input.bytes.now),
-  c.in_ok-point-in-Some.ensures.is,
-)
+returns-in_ok-point-in-Some-clause-is c =
+    (_, c.in-Some.ensures.is c.args.input.bytes.now, c.in_ok-point-in-Some.ensures.is)
 
 pub returns-in_err-point-in-Some-clause-halts : goal.returns-in_err-point-in-Some-clause-halts
 returns-in_err-point-in-Some-clause-halts c = λ ends.

@@ -1,18 +1,12 @@
-use Rattle.sv_token.specs.Lexemes.{placed_tokens}
 use Rattle.sv_parse_expr.proofs.Halting.{passed}
 use Rattle.sv_parse.proofs.DeclarationRuns.{and_read, and_stop, front_stop}
 use Rattle.sv_parse.proofs.label_maps.read_row.Goals as goal
 
 pub returns-clause-is : goal.returns-clause-is
 returns-clause-is c = (
-  (placed_tokens c.args.input.bytes.now c.in_ok-first.rest.now),
-  c.in_ok-first.ensures.is
-      c.args.input.bytes.now,
-  (
-    (placed_tokens c.args.input.bytes.now c.in_ok-second.rest.now),
-    c.in_ok-second.ensures.is c.args.input.bytes.now,
-    c.in_ok-point.ensures.is,
-  ),
+  _,
+  c.in_ok-first.ensures.is c.args.input.bytes.now,
+  (_, c.in_ok-second.ensures.is c.args.input.bytes.now, c.in_ok-point.ensures.is),
 )
 
 pub returns-in_err-first-clause-halts : goal.returns-in_err-first-clause-halts

@@ -1,4 +1,3 @@
-use Rattle.sv_token.specs.Lexemes.{placed_tokens}
 use Rattle.std.proofs.Common.{refl}
 use Rattle.sv_parse_expr.proofs.Halting.{passed}
 use Rattle.sv_parse.proofs.DeclarationRuns.{and_read, and_stop, front_stop}
@@ -6,14 +5,12 @@ use Rattle.sv_parse.proofs.label_maps.read_to_point.Goals as goal
 
 pub returns-clause-is : goal.returns-clause-is
 returns-clause-is c = (
-  (placed_tokens c.args.input.bytes.now c.in_ok-rest.rest.now),
-  c.in_ok-rest.ensures.is
-      c.args.input.bytes.now,
+  _,
+  c.in_ok-rest.ensures.is c.args.input.bytes.now,
   (
-    (placed_tokens c.args.input.bytes.now c.in_ok-point.rest.now),
+    _,
     (c.in_ok-point._place, c.in_ok-point.ensures.is),
-    c.in_ok-rest-2.ensures.is
-        c.args.input.bytes.now,
+    c.in_ok-rest-2.ensures.is c.args.input.bytes.now,
   ),
 )
 

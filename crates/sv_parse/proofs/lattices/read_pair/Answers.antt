@@ -1,4 +1,3 @@
-use Rattle.sv_token.specs.Lexemes.{placed_tokens}
 use Rattle.std.proofs.Common.{[], ◌∷◌, refl}
 use Rattle.sv_parse_machine.specs.Symbols.{outer, less_equal}
 use Rattle.sv_parse_machine.proofs.ReadRows.{halts_less_equal}
@@ -11,16 +10,12 @@ use Rattle.sv_parse.proofs.lattices.read_pair.Goals as goal
 
 pub returns-clause-is : goal.returns-clause-is
 returns-clause-is c = (
-  (placed_tokens c.args.input.bytes.now c.in_ok-lower.rest.now),
+  _,
   c.in_ok-lower.ensures.is,
   (
-    (placed_tokens c.args.input.bytes.now c.in-Some.rest.now),
-    (c.in-Some.ensures.is c.args.input.bytes.now),
-    (
-      (placed_tokens c.args.input.bytes.now c.in_ok-upper.rest.now),
-      c.in_ok-upper.ensures.is,
-      c.in_ok-rest.ensures.is c.args.input.bytes.now,
-    ),
+    _,
+    c.in-Some.ensures.is c.args.input.bytes.now,
+    (_, c.in_ok-upper.ensures.is, c.in_ok-rest.ensures.is c.args.input.bytes.now),
   ),
 )
 

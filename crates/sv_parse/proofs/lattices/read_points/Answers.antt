@@ -1,4 +1,3 @@
-use Rattle.sv_token.specs.Lexemes.{placed_tokens}
 use Rattle.std.proofs.Common.{[], ◌∷◌, refl}
 use Rattle.sv_parse_machine.specs.Symbols.{outer, punctuation, plain_name, more_names}
 use Rattle.sv_parse_machine.proofs.ReadSteps.{reads_then}
@@ -9,11 +8,7 @@ use Rattle.sv_token.specs.declared.signs.SignKind.TheVariants as signs
 use Rattle.sv_parse.proofs.lattices.read_points.Goals as goal
 
 pub returns-clause-is : goal.returns-clause-is
-returns-clause-is c = (
-  (placed_tokens c.args.input.bytes.now c.in_ok-points.rest.now),
-  c.in_ok-points.ensures.is,
-  c.in_ok-rest.ensures.is c.args.input.bytes.now,
-)
+returns-clause-is c = (_, c.in_ok-points.ensures.is, c.in_ok-rest.ensures.is c.args.input.bytes.now)
 
 pub returns-in_err-points-clause-halts : goal.returns-in_err-points-clause-halts
 returns-in_err-points-clause-halts c =

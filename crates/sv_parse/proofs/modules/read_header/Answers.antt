@@ -1,4 +1,3 @@
-use Rattle.sv_token.specs.Lexemes.{placed_tokens}
 use Rattle.std.proofs.Common.{[], ◌∷◌, refl}
 use Rattle.sv_parse_machine.specs.Symbols.{outer, one_module}
 use Rattle.sv_parse_machine.proofs.ReadSteps.{reads_then}
@@ -10,19 +9,15 @@ use Rattle.sv_parse.proofs.modules.read_header.Goals as goal
 
 pub returns-clause-is : goal.returns-clause-is
 returns-clause-is c = (
-  (placed_tokens c.args.input.bytes.now c.in_ok-_word.rest.now),
+  _,
   (c.in_ok-_word._word, c.in_ok-_word.ensures.is c.args.input.bytes.now),
   (
-    (placed_tokens c.args.input.bytes.now c.in_ok-name.rest.now),
+    _,
     c.in_ok-name.ensures.is,
     (
-      (placed_tokens c.args.input.bytes.now c.in_ok-params.rest.now),
+      _,
       c.in_ok-params.ensures.is,
-      (
-        (placed_tokens c.args.input.bytes.now c.in_ok-ports.rest.now),
-        c.in_ok-ports.ensures.is,
-        c.in_ok-rest.ensures.is c.args.input.bytes.now,
-      ),
+      (_, c.in_ok-ports.ensures.is, c.in_ok-rest.ensures.is c.args.input.bytes.now),
     ),
   ),
 )

@@ -1,7 +1,6 @@
 use Rattle.std.proofs.Common.{refl, ◌∷◌}
 use Rattle.sv_token.specs.declared.signs.SignKind.TheVariants as signs
 use Rattle.sv_token.specs.declared.keywords.WordKind.TheVariants as words
-use Rattle.sv_token.specs.Lexemes.{placed_tokens}
 use Rattle.sv_parse_expr.specs.Parses.{placed}
 use Rattle.sv_parse.proofs.ReadingDeclarations.{range_is}
 use Rattle.sv_parse_expr.proofs.Halting.{passed, stops_then}
@@ -14,7 +13,7 @@ use Rattle.sv_parse.proofs.parameters.read_param_type.Goals as goal
 
 pub returns-in-Some-clause-is : goal.returns-in-Some-clause-is
 returns-in-Some-clause-is c = (
-  placed_tokens c.args.input.bytes.now c.in-Some.rest.now,
+  _,
   c.in-Some.ensures.is c.args.input.bytes.now,
   range_is _ _ _ _ (c.in_ok-rest.ensures.is c.args.input.bytes.now) c.in_ok-span.ensures.is,
 )

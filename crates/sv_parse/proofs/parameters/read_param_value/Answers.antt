@@ -1,18 +1,13 @@
 use Rattle.std.proofs.Common.{refl}
-use Rattle.sv_token.specs.Lexemes.{placed_tokens}
 use Rattle.sv_parse_expr.proofs.Halting.{passed}
 use Rattle.sv_parse.proofs.DeclarationRuns.{and_read, and_stop, front_stop}
 use Rattle.sv_parse.proofs.parameters.read_param_value.Goals as goal
 
 pub returns-clause-is : goal.returns-clause-is
 returns-clause-is c = (
-  placed_tokens c.args.input.bytes.now c.in_ok-name.rest.now,
+  _,
   c.in_ok-name.ensures.is,
-  (
-    placed_tokens c.args.input.bytes.now c.in_ok-rest.rest.now,
-    c.in_ok-rest.ensures.is c.args.input.bytes.now,
-    c.in_ok-value.ensures.is,
-  ),
+  (_, c.in_ok-rest.ensures.is c.args.input.bytes.now, c.in_ok-value.ensures.is),
 )
 
 pub returns-in_err-name-clause-halts : goal.returns-in_err-name-clause-halts

@@ -1,6 +1,5 @@
 use Rattle.std.proofs.Common.{refl}
 use Rattle.sv_token.specs.declared.signs.SignKind.TheVariants as signs
-use Rattle.sv_token.specs.Lexemes.{placed_tokens}
 use Rattle.sv_parse.proofs.ReadingDeclarations.{open_label_is}
 use Rattle.sv_parse_expr.proofs.Halting.{passed, stops_then, stops_by}
 use Rattle.sv_parse.proofs.DeclarationRuns.{and_stop, and_read}
@@ -11,11 +10,7 @@ use Rattle.sv_parse_machine.proofs.ReadSteps.{reads_then}
 use Rattle.sv_parse.proofs.types.read_open_label.Goals as goal
 
 pub returns-clause-is : goal.returns-clause-is
-returns-clause-is c = (
-  placed_tokens c.args.input.bytes.now c.in_ok-name.rest.now,
-  c.in_ok-name.ensures.is,
-  c.in_ok-rest.ensures.is c.args.input.bytes.now,
-)
+returns-clause-is c = (_, c.in_ok-name.ensures.is, c.in_ok-rest.ensures.is c.args.input.bytes.now)
 
 pub returns-in-Some-clause-is : goal.returns-in-Some-clause-is
 returns-in-Some-clause-is c =

@@ -1,5 +1,4 @@
 use Rattle.std.proofs.Common.{refl, [], ◌∷◌}
-use Rattle.sv_token.specs.Lexemes.{placed_tokens}
 use Rattle.sv_token.specs.declared.signs.SignKind.TheVariants as signs
 use Rattle.sv_parse_machine.specs.Symbols.{outer, punctuation, expression}
 use Rattle.sv_parse_expr.proofs.Halting.{passed, stops_before}
@@ -8,11 +7,7 @@ use Rattle.sv_parse.proofs.types.read_open_span.Goals as goal
 
 pub returns-clause-is : goal.returns-clause-is
 returns-clause-is c =
-    let high = c.in_ok-high.ensures.is in (
-      high.0,
-      high.1,
-      (placed_tokens c.args.input.bytes.now c.in_ok-high.rest.now, high.2, c.in_ok-low.ensures.is),
-    )
+    let high = c.in_ok-high.ensures.is in (high.0, high.1, (_, high.2, c.in_ok-low.ensures.is))
 
 pub returns-in_err-high-clause-halts : goal.returns-in_err-high-clause-halts
 returns-in_err-high-clause-halts c =

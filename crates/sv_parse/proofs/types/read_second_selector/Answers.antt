@@ -4,7 +4,6 @@ use Rattle.sv_parse_expr.proofs.Halting.{passed, stops_then}
 use Rattle.sv_parse_machine.proofs.ReadRows.{sign_taken}
 use Rattle.sv_parse_machine.specs.Symbols.{perhaps_second_name, plain_name}
 use Rattle.sv_parse_machine.proofs.ReadSteps.{reads_then}
-use Rattle.sv_token.specs.Lexemes.{placed_tokens}
 use Rattle.sv_parse.proofs.types.read_second_selector.Goals as goal
 
 pub returns-in_err-name-in-Some-clause-halts : goal.returns-in_err-name-in-Some-clause-halts
@@ -24,8 +23,10 @@ returns-in_ok-name-in-Some-clause-reads c =
 
 pub returns-in_ok-name-in-Some-clause-is : goal.returns-in_ok-name-in-Some-clause-is
 returns-in_ok-name-in-Some-clause-is c = (
-  placed_tokens c.args.input.bytes.now c.in-Some.rest.now,
-  c.in-Some.ensures.is
-      c.args.input.bytes.now,
-  (c.in_ok-name-in-Some._at, c.in_ok-name-in-Some.ensures.is),
+  _,
+  c.in-Some.ensures.is c.args.input.bytes.now,
+  (
+    c.in_ok-name-in-Some._at,
+    c.in_ok-name-in-Some.ensures.is,
+  ),
 )

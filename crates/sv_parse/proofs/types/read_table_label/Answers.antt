@@ -1,5 +1,4 @@
 use Rattle.std.proofs.Common.{refl}
-use Rattle.sv_token.specs.Lexemes.{placed_tokens}
 use Rattle.sv_parse_expr.proofs.Halting.{passed}
 use Rattle.sv_parse.proofs.DeclarationRuns.{and_stop, front_stop}
 use Rattle.sv_parse.proofs.types.read_table_label.Goals as goal
@@ -8,15 +7,14 @@ pub returns-clause-is : goal.returns-clause-is
 returns-clause-is c = (
   (refl, refl),
   (
-    placed_tokens c.args.input.bytes.now c.in_ok-first.rest.now,
+    _,
     (c.in_ok-first._at, c.in_ok-first.ensures.is),
     (
-      placed_tokens c.args.input.bytes.now c.in_ok-second.rest.now,
+      _,
       c.in_ok-second.ensures.is,
       (
-        placed_tokens c.args.input.bytes.now c.in_ok-rest.rest.now,
-        c.in_ok-rest.ensures.is
-            c.args.input.bytes.now,
+        _,
+        c.in_ok-rest.ensures.is c.args.input.bytes.now,
         c.in_ok-rest-2.ensures.is c.args.input.bytes.now,
       ),
     ),

@@ -1,6 +1,5 @@
 use Rattle.std.proofs.Common.{[], ◌∷◌, refl}
 use Rattle.sv_token.specs.declared.signs.SignKind.TheVariants as signs
-use Rattle.sv_token.specs.Lexemes.{placed_tokens}
 use Rattle.sv_ast.specs.GrammarExpressions.{IsExpression}
 use Rattle.sv_ast.specs.GrammarRules.{all_limits}
 use Rattle.sv_parse_machine.specs.Symbols.{outer, punctuation, more_choices}
@@ -14,7 +13,7 @@ use Rattle.sv_parse_stmt.proofs.arms.read_items.Goals as goal
 
 pub returns-clause-is : goal.returns-clause-is
 returns-clause-is c = (
-  placed_tokens c.args.input.bytes.now c.in_ok-items.rest.now,
+  _,
   list_is _
       (IsExpression all_limits c.args.levels) (λ before.
       IsExpression all_limits c.args.levels) _ _ _ _ _ c.in_ok-first.ensures.is

@@ -1,7 +1,6 @@
 use Rattle.std.proofs.Common.{[], ◌∷◌, refl, inl}
 use Rattle.sv_token.specs.declared.signs.SignKind.TheVariants as signs
 use Rattle.sv_token.specs.declared.keywords.WordKind.TheVariants as words
-use Rattle.sv_token.specs.Lexemes.{placed_tokens}
 use Rattle.sv_parse_machine.specs.Symbols.{outer, punctuation, items, assigned, later_assigned}
 use Rattle.sv_parse_machine.specs.Symbols.{more_assigned}
 use Rattle.sv_parse_expr.proofs.Halting.{passed}
@@ -14,7 +13,7 @@ use Rattle.sv_parse_stmt.proofs.assignments.read_assigned.Goals as goal
 pub returns-in_ok-items-in-Some-clause-is : goal.returns-in_ok-items-in-Some-clause-is
 returns-in_ok-items-in-Some-clause-is c =
     inl (
-      placed_tokens c.args.input.bytes.now c.in_ok-_place.rest.now,
+      _,
       (c.in_ok-_place._place, c.in_ok-_place.ensures.is c.args.input.bytes.now),
       c.in_ok-items-in-Some.ensures.is,
     )

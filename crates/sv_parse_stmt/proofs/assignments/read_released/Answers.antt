@@ -1,6 +1,5 @@
 use Rattle.std.proofs.Common.{[], ◌∷◌, refl}
 use Rattle.sv_token.specs.declared.signs.SignKind.TheVariants as signs
-use Rattle.sv_token.specs.Lexemes.{placed_tokens}
 use Rattle.sv_parse_machine.specs.Symbols.{outer, punctuation, expression}
 use Rattle.sv_parse_machine.proofs.ReadSteps.{reads_then}
 use Rattle.sv_parse_expr.proofs.Halting.{passed, stops_before, stops_then}
@@ -14,17 +13,9 @@ returns-clause-is c =
     let point = c.in_ok-point.ensures.is in (
       refl,
       (
-        placed_tokens c.args.input.bytes.now c.in_ok-rest.rest.now,
+        _,
         c.in_ok-rest.ensures.is c.args.input.bytes.now,
-        (
-          point.0,
-          (
-            value.0,
-            value.1,
-            (placed_tokens c.args.input.bytes.now c.in_ok-value.rest.now, value.2, point.1),
-          ),
-          point.2,
-        ),
+        (point.0, (value.0, value.1, (_, value.2, point.1)), point.2),
       ),
     )
 

@@ -1,5 +1,4 @@
 use Rattle.std.proofs.Common.{[], ◌∷◌}
-use Rattle.sv_token.specs.Lexemes.{placed_tokens}
 use Rattle.sv_parse_machine.specs.Symbols.{outer, punctuation, expression}
 use Rattle.sv_parse_machine.proofs.ReadSteps.{reads_before}
 use Rattle.sv_parse_expr.proofs.Halting.{passed, stops_before}
@@ -7,11 +6,7 @@ use Rattle.sv_parse_expr.proofs.ReadingRuns.{then_read, then_stop}
 use Rattle.sv_parse_stmt.proofs.closed.read_closed.Goals as goal
 
 pub returns-clause-is : goal.returns-clause-is
-returns-clause-is c = (
-  placed_tokens c.args.input.bytes.now c.in_ok-expr.rest.now,
-  c.in_ok-expr.ensures.is,
-  c.in_ok-rest.ensures.is c.args.input.bytes.now,
-)
+returns-clause-is c = (_, c.in_ok-expr.ensures.is, c.in_ok-rest.ensures.is c.args.input.bytes.now)
 
 pub returns-in_err-expr-clause-halts : goal.returns-in_err-expr-clause-halts
 returns-in_err-expr-clause-halts c =

@@ -54,11 +54,7 @@ read_conditional-returns-clause-is t c =
     c.in_ok-no.ensures.is)
 
 pub read_arm-returns-clause-is : goal.read_arm-returns-clause-is
-read_arm-returns-clause-is t c = (
-  (placed_tokens c.args.input.bytes.now c.in_ok-place.rest.now),
-  c.in_ok-place.ensures.is,
-  c.in_ok-body.ensures.is,
-)
+read_arm-returns-clause-is t c = (_, c.in_ok-place.ensures.is, c.in_ok-body.ensures.is)
 
 -- ---- the machine of the grammar: a block
 
@@ -243,9 +239,8 @@ read_arm-returns-in_err-place-clause-halts t c =
 
 pub read_statements-returns-in-Some-clause-is : goal.read_statements-returns-in-Some-clause-is
 read_statements-returns-in-Some-clause-is t c = (
-  placed_tokens c.args.input.bytes.now c.loop-after.rest.now,
-  statements_end c.args.levels _ _ _
-      c.loop-after.invariant.are,
+  _,
+  statements_end c.args.levels _ _ _ c.loop-after.invariant.are,
   c.in-Some.ensures.is c.args.input.bytes.now,
 )
 
@@ -288,7 +283,7 @@ pub read_arms-returns-in-Some-clause-is : goal.read_arms-returns-in-Some-clause-
 read_arms-returns-in-Some-clause-is t c =
     let size : c.len-before.result ≡ length c.loop-after.arms.items =
     omega (arith, c.len-before.ensures, c.loop-after.arms.ok.0) in (
-      placed_tokens c.args.input.bytes.now c.loop-after.rest.now,
+      _,
       arms_end c.args.levels _ _ _ _
           (some_trees c.loop-after.arms.items _ size c.in-Some.ensures.some)
           c.loop-after.invariant.are,

@@ -1,6 +1,5 @@
 use Rattle.std.proofs.Common.{[], ◌∷◌, refl, inl}
 use Rattle.sv_token.specs.declared.signs.SignKind.TheVariants as signs
-use Rattle.sv_token.specs.Lexemes.{placed_tokens}
 use Rattle.sv_parse_machine.specs.Symbols.{outer, plain_name, perhaps_block_name}
 use Rattle.sv_parse_machine.proofs.ReadRows.{sign_taken}
 use Rattle.sv_parse_expr.proofs.Halting.{passed}
@@ -10,13 +9,9 @@ use Rattle.sv_parse_stmt.proofs.statements.behind_block_name.Goals as goal
 pub returns-in_ok-_name-in-Some-clause-is : goal.returns-in_ok-_name-in-Some-clause-is
 returns-in_ok-_name-in-Some-clause-is c =
     inl (
-      placed_tokens c.args.input.bytes.now c.in-Some.rest.now,
-      c.in-Some.ensures.is
-          c.args.input.bytes.now,
-      (
-        c.in_ok-_name-in-Some._name,
-        (c.in_ok-_name-in-Some._at, c.in_ok-_name-in-Some.ensures.is),
-      ),
+      _,
+      c.in-Some.ensures.is c.args.input.bytes.now,
+      (c.in_ok-_name-in-Some._name, (c.in_ok-_name-in-Some._at, c.in_ok-_name-in-Some.ensures.is)),
     )
 
 pub returns-in_err-_name-in-Some-clause-halts : goal.returns-in_err-_name-in-Some-clause-halts

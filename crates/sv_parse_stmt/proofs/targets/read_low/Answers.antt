@@ -1,6 +1,5 @@
 use Rattle.std.proofs.Common.{[], ◌∷◌, refl}
 use Rattle.sv_token.specs.declared.signs.SignKind.TheVariants as signs
-use Rattle.sv_token.specs.Lexemes.{placed_tokens}
 use Rattle.sv_parse_machine.specs.Symbols.{outer, punctuation, expression, bits_end}
 use Rattle.sv_parse_machine.proofs.ReadSteps.{reads_then}
 use Rattle.sv_parse_machine.proofs.ReadRows.{sign_taken, halts_bits_end}
@@ -8,11 +7,7 @@ use Rattle.sv_parse_expr.proofs.Halting.{passed, stops_by, stops_then}
 use Rattle.sv_parse_stmt.proofs.targets.read_low.Goals as goal
 
 pub returns-clause-is : goal.returns-clause-is
-returns-clause-is c = (
-  placed_tokens c.args.input.bytes.now c.in_ok-rest.rest.now,
-  c.in_ok-rest.ensures.is c.args.input.bytes.now,
-  c.in_ok-low.ensures.is,
-)
+returns-clause-is c = (_, c.in_ok-rest.ensures.is c.args.input.bytes.now, c.in_ok-low.ensures.is)
 
 -- ---- the machine of the grammar
 

@@ -1,4 +1,3 @@
-use Rattle.sv_token.specs.Lexemes.{placed_tokens}
 use Rattle.std.proofs.Common.{[], ◌∷◌, refl}
 use Rattle.sv_token.specs.declared.signs.SignKind.TheVariants as signs
 use Rattle.sv_parse_machine.specs.Symbols.{outer, expression, perhaps_bits, bits_end}
@@ -12,30 +11,17 @@ use Rattle.sv_parse_stmt.proofs.targets.read_select.Goals as goal
 
 pub returns-in-Some-behind-clause-is : goal.returns-in-Some-behind-clause-is
 returns-in-Some-behind-clause-is c = (
-  (placed_tokens c.args.input.bytes.now c.in-Some.rest.now),
-  c.in-Some.ensures.is
-      c.args.input.bytes.now,
-  (
-    (placed_tokens c.args.input.bytes.now c.in_ok-first.rest.now),
-    c.in_ok-first.ensures.is,
-    c.in-Some-behind.ensures.is c.args.input.bytes.now,
-  ),
+  _,
+  c.in-Some.ensures.is c.args.input.bytes.now,
+  (_, c.in_ok-first.ensures.is, c.in-Some-behind.ensures.is c.args.input.bytes.now),
 )
 
 pub returns-clause-is : goal.returns-clause-is
 returns-clause-is c =
     let low = c.in_ok-low.ensures.is in (
-      placed_tokens c.args.input.bytes.now c.in-Some.rest.now,
+      _,
       c.in-Some.ensures.is c.args.input.bytes.now,
-      (
-        low.2.0,
-        (
-          placed_tokens c.args.input.bytes.now c.in_ok-first.rest.now,
-          c.in_ok-first.ensures.is,
-          (low.0, low.1, low.2.1),
-        ),
-        low.2.2,
-      ),
+      (low.2.0, (_, c.in_ok-first.ensures.is, (low.0, low.1, low.2.1)), low.2.2),
     )
 
 -- ---- the machine of the grammar

@@ -1,5 +1,4 @@
 use Rattle.std.proofs.Common.{[], ◌∷◌}
-use Rattle.sv_token.specs.Lexemes.{placed_tokens}
 use Rattle.sv_parse_machine.specs.Symbols.{outer, plain_name, perhaps_bits}
 use Rattle.sv_parse_machine.proofs.ReadSteps.{reads_before}
 use Rattle.sv_parse_expr.proofs.Halting.{passed, stops_before}
@@ -7,11 +6,7 @@ use Rattle.sv_parse_expr.proofs.ReadingRuns.{then_read, then_stop}
 use Rattle.sv_parse_stmt.proofs.targets.read_target.Goals as goal
 
 pub returns-clause-is : goal.returns-clause-is
-returns-clause-is c = (
-  (placed_tokens c.args.input.bytes.now c.in_ok-name.rest.now),
-  c.in_ok-name.ensures.is,
-  c.in_ok-select.ensures.is,
-)
+returns-clause-is c = (_, c.in_ok-name.ensures.is, c.in_ok-select.ensures.is)
 
 pub returns-clause-reads : goal.returns-clause-reads
 returns-clause-reads c =

@@ -1,5 +1,4 @@
 use Rattle.std.proofs.Common.{[], ◌∷◌, refl, inl, inr}
-use Rattle.sv_token.specs.Lexemes.{placed_tokens}
 use Rattle.sv_token.specs.declared.signs.SignKind.TheVariants as signs
 use Rattle.sv_parse_machine.specs.Symbols.{outer, punctuation, plain_name, perhaps_bits, more_targets}
 use Rattle.sv_parse_machine.specs.StatementTable.{assignment_behind}
@@ -14,16 +13,9 @@ use Rattle.sv_parse_stmt.proofs.targets.read_targets.Goals as goal
 pub returns-in-Some-clause-is : goal.returns-in-Some-clause-is
 returns-in-Some-clause-is c =
     inr (
-      placed_tokens c.args.input.bytes.now c.in-Some.rest.now,
-      c.in-Some.ensures.is
-          c.args.input.bytes.now,
-      (
-        placed_tokens c.args.input.bytes.now
-            c.in_ok-targets.rest.now,
-        c.in_ok-targets.ensures.is,
-        c.in_ok-rest.ensures.is
-            c.args.input.bytes.now,
-      ),
+      _,
+      c.in-Some.ensures.is c.args.input.bytes.now,
+      (_, c.in_ok-targets.ensures.is, c.in_ok-rest.ensures.is c.args.input.bytes.now),
     )
 
 pub returns-clause-is : goal.returns-clause-is

@@ -3,6 +3,5 @@ pub mod ReadingDeclarations
 pub mod ReadingInstances
 pub mod ReadingItems
 pub mod ReadingMaps
-pub mod ReadingModules
 pub mod ReadingSymbols
 pub mod WholeTexts

@@ -32,10 +32,10 @@ use Rattle.sv_parse_stmt.proofs.ReadingStatements.{AreOpenStatements, AreOpenArm
 -- ---- levels
 
 -- the symbols behind the word of a statement that opens a level, this many then being open
-abbrev Opens : WordKind → (ℕ → List Outer) → Type 0
+abbrev pub Opens : WordKind → (ℕ → List Outer) → Type 0
 Opens w behind = (n : ℕ) → outer_on (statement n) (word w) ≡ takes (n + 1) 0 (behind (n + 1))
 
-level_opens :
+pub level_opens :
     (w : WordKind) (behind : ℕ → List Outer) (n m : ℕ) (ts rest : List Placed) → Opens w behind →
     m ≡ n + 1 → m ≤ 64 → a_word w ts rest →
     Reads (outer (statement n) ∷ []) (outside_on (behind m)) ts rest
@@ -43,7 +43,7 @@ level_opens w behind n m ts rest row opens deep is =
     level_taken (statement n) w m (behind m) ts rest deep (row n
     ∙ ap (λ (k : ℕ). takes k 0 (behind k)) (sym opens)) is
 
-level_stops :
+pub level_stops :
     (bytes : List ℕ) (tokens : List Token) (w : WordKind) (behind : ℕ →
     List Outer) (n : ℕ) (rest : List Placed) (stop : Stop) → Opens w behind → 64 < n + 1 →
     a_word w (placed_tokens bytes tokens) rest → stop ≡ stops.Broken TooDeep (length tokens) →
@@ -62,44 +62,6 @@ if_behind n = condition n (statement n ∷ perhaps_else n ∷ [])
 abbrev pub case_behind : ℕ → List Outer
 case_behind n = condition n (arms n 0 false ∷ [])
 
-pub block_opens : (n m : ℕ) (ts rest : List Placed) → m ≡ n + 1 → m ≤ 64 →
-    a_word words.Begin ts rest →
-    Reads (outer (statement n) ∷ []) (outside_on (block_behind m)) ts rest
-block_opens n m ts rest = level_opens words.Begin block_behind n m ts rest (λ k. refl)
-
-pub block_stops :
-    (bytes : List ℕ) (tokens : List Token) (n : ℕ) (rest : List Placed) (stop : Stop) → 64 < n + 1 →
-    a_word words.Begin (placed_tokens bytes tokens) rest →
-    stop ≡ stops.Broken TooDeep (length tokens) →
-    HaltsAs (outer (statement n) ∷ []) (placed_tokens bytes tokens) stop
-block_stops bytes tokens n rest stop =
-    level_stops bytes tokens words.Begin block_behind n rest stop (λ k. refl)
-
-pub if_opens : (n m : ℕ) (ts rest : List Placed) → m ≡ n + 1 → m ≤ 64 → a_word words.If ts rest →
-    Reads (outer (statement n) ∷ []) (outside_on (if_behind m)) ts rest
-if_opens n m ts rest = level_opens words.If if_behind n m ts rest (λ k. refl)
-
-pub if_stops :
-    (bytes : List ℕ) (tokens : List Token) (n : ℕ) (rest : List Placed) (stop : Stop) → 64 < n + 1 →
-    a_word words.If (placed_tokens bytes tokens) rest →
-    stop ≡ stops.Broken TooDeep (length tokens) →
-    HaltsAs (outer (statement n) ∷ []) (placed_tokens bytes tokens) stop
-if_stops bytes tokens n rest stop =
-    level_stops bytes tokens words.If if_behind n rest stop (λ k. refl)
-
-pub case_opens : (n m : ℕ) (ts rest : List Placed) → m ≡ n + 1 → m ≤ 64 →
-    a_word words.Case ts rest →
-    Reads (outer (statement n) ∷ []) (outside_on (case_behind m)) ts rest
-case_opens n m ts rest = level_opens words.Case case_behind n m ts rest (λ k. refl)
-
-pub case_stops :
-    (bytes : List ℕ) (tokens : List Token) (n : ℕ) (rest : List Placed) (stop : Stop) → 64 < n + 1 →
-    a_word words.Case (placed_tokens bytes tokens) rest →
-    stop ≡ stops.Broken TooDeep (length tokens) →
-    HaltsAs (outer (statement n) ∷ []) (placed_tokens bytes tokens) stop
-case_stops bytes tokens n rest stop =
-    level_stops bytes tokens words.Case case_behind n rest stop (λ k. refl)
-
 -- ---- what stands behind the word
 
 abbrev pub in_brackets : ℕ → State
@@ -113,8 +75,8 @@ pub if_condition :
     Reads (outer (statement n) ∷ []) (outer (statement m) ∷ outer (perhaps_else m) ∷ []) ts b
 if_condition n m ts a b opens deep is condition =
     then_read (outer (statement n) ∷ []) (in_brackets m)
-    (outer (statement m) ∷ outer (perhaps_else m) ∷ []) ts a b (if_opens n m ts a opens deep is)
-    condition
+    (outer (statement m) ∷ outer (perhaps_else m) ∷ []) ts a b
+    (level_opens words.If if_behind n m ts a (λ k. refl) opens deep is) condition
 
 pub if_first :
     (n m : ℕ) (ts a b d : List Placed) → m ≡ n + 1 → m ≤ 64 → a_word words.If ts a →
@@ -130,7 +92,7 @@ pub case_selector :
     Reads (outer (statement n) ∷ []) (outer (arms m 0 false) ∷ []) ts b
 case_selector n m ts a b opens deep is selector =
     then_read (outer (statement n) ∷ []) (in_brackets m) (outer (arms m 0 false) ∷ []) ts a b
-    (case_opens n m ts a opens deep is) selector
+    (level_opens words.Case case_behind n m ts a (λ k. refl) opens deep is) selector
 
 -- ---- behind a push
 

@@ -19,11 +19,10 @@ use Rattle.sv_parse_expr.proofs.Halting.{passed, stops_then}
 use Rattle.sv_parse_expr.proofs.ReadingRuns.{then_read, then_stop}
 use Rattle.sv_parse_stmt.proofs.SymbolsAlike.{one_statement, word_is_there}
 use Rattle.sv_parse_stmt.proofs.ArmRuns.{case_ends}
-use Rattle.sv_parse_stmt.proofs.StatementRuns.{in_brackets, block_opens, block_stops, if_opens}
-use Rattle.sv_parse_stmt.proofs.StatementRuns.{if_stops, if_condition, if_first, case_opens}
-use Rattle.sv_parse_stmt.proofs.StatementRuns.{case_stops, case_selector, pushed_statements}
-use Rattle.sv_parse_stmt.proofs.StatementRuns.{pushed_arms, some_trees, few_trees, one_more_arm}
-use Rattle.sv_parse_stmt.proofs.StatementRuns.{next_sign}
+use Rattle.sv_parse_stmt.proofs.StatementRuns.{level_opens, level_stops, block_behind, if_behind}
+use Rattle.sv_parse_stmt.proofs.StatementRuns.{case_behind, in_brackets, if_condition, if_first}
+use Rattle.sv_parse_stmt.proofs.StatementRuns.{case_selector, pushed_statements, pushed_arms}
+use Rattle.sv_parse_stmt.proofs.StatementRuns.{some_trees, few_trees, one_more_arm, next_sign}
 use Rattle.sv_token.specs.declared.signs.SignKind.TheVariants as signs
 use Rattle.sv_ast.specs.Views.{arm_tree, arm_trees}
 use Rattle.sv_parse_stmt.proofs.ReadingStatements.{AreOpenArms}
@@ -69,8 +68,8 @@ pub read_block-returns-in_err-inside-clause-halts :
     goal.read_block-returns-in_err-inside-clause-halts
 read_block-returns-in_err-inside-clause-halts t c = λ comes.
     passed _ _ _ c.from_residual-in_err-inside.ensures.1
-    (block_stops c.args.input.bytes.now c.args.input.rest.now c.args.levels _ _
-    c.in_err-inside.ensures.deep
+    (level_stops c.args.input.bytes.now c.args.input.rest.now words.Begin block_behind c.args.levels
+    _ _ (λ k. refl) c.in_err-inside.ensures.deep
     (word_is _ _ _ _ (c.in_ok-_place.ensures.is c.args.input.bytes.now))
     c.in_err-inside.ensures.stops)
 
@@ -79,7 +78,8 @@ read_block-returns-in_err-rest-clause-halts t c = λ comes.
     passed _ _ _ c.from_residual-in_err-rest.ensures.1
     (then_stop _ (outer perhaps_block_name ∷ [])
     (outer (statements c.in_ok-inside.inside) ∷ []) _ _ _
-    (block_opens c.args.levels _ _ _ c.in_ok-inside.ensures.is c.in_ok-inside.ensures.within
+    (level_opens words.Begin block_behind c.args.levels _ _ _ (λ k. refl) c.in_ok-inside.ensures.is
+    c.in_ok-inside.ensures.within
     (word_is _ _ _ _ (c.in_ok-_place.ensures.is c.args.input.bytes.now)))
     c.in_err-rest.ensures.halts)
 
@@ -89,7 +89,8 @@ read_block-returns-in_err-stmts-clause-halts t c = λ comes.
     (stops_then _ (outer (statements c.in_ok-inside.inside) ∷ []) _ _ _
     (then_read _ (outer perhaps_block_name ∷ [])
     (outer (statements c.in_ok-inside.inside) ∷ []) _ _ _
-    (block_opens c.args.levels _ _ _ c.in_ok-inside.ensures.is c.in_ok-inside.ensures.within
+    (level_opens words.Begin block_behind c.args.levels _ _ _ (λ k. refl) c.in_ok-inside.ensures.is
+    c.in_ok-inside.ensures.within
     (word_is _ _ _ _ (c.in_ok-_place.ensures.is c.args.input.bytes.now)))
     c.in_ok-rest.ensures.reads)
     c.in_err-stmts.ensures.halts)
@@ -99,7 +100,8 @@ read_block-returns-clause-reads t c =
     reads_then _ (outer (statements c.in_ok-inside.inside) ∷ []) [] _ _ _
     (then_read _ (outer perhaps_block_name ∷ [])
     (outer (statements c.in_ok-inside.inside) ∷ []) _ _ _
-    (block_opens c.args.levels _ _ _ c.in_ok-inside.ensures.is c.in_ok-inside.ensures.within
+    (level_opens words.Begin block_behind c.args.levels _ _ _ (λ k. refl) c.in_ok-inside.ensures.is
+    c.in_ok-inside.ensures.within
     (word_is _ _ _ _ (c.in_ok-_place.ensures.is c.args.input.bytes.now)))
     c.in_ok-rest.ensures.reads)
     c.in_ok-stmts.ensures.reads
@@ -116,8 +118,8 @@ pub read_conditional-returns-in_err-inside-clause-halts :
     goal.read_conditional-returns-in_err-inside-clause-halts
 read_conditional-returns-in_err-inside-clause-halts t c = λ comes.
     passed _ _ _ c.from_residual-in_err-inside.ensures.1
-    (if_stops c.args.input.bytes.now c.args.input.rest.now c.args.levels _ _
-    c.in_err-inside.ensures.deep
+    (level_stops c.args.input.bytes.now c.args.input.rest.now words.If if_behind c.args.levels
+    _ _ (λ k. refl) c.in_err-inside.ensures.deep
     (word_is _ _ _ _ (c.in_ok-place.ensures.is c.args.input.bytes.now))
     c.in_err-inside.ensures.stops)
 
@@ -128,7 +130,8 @@ read_conditional-returns-in_err-cond-clause-halts t c = λ comes.
     (then_stop _ (in_brackets c.in_ok-inside.inside)
     (outer (statement c.in_ok-inside.inside) ∷
     outer (perhaps_else c.in_ok-inside.inside) ∷ []) _ _ _
-    (if_opens c.args.levels _ _ _ c.in_ok-inside.ensures.is c.in_ok-inside.ensures.within
+    (level_opens words.If if_behind c.args.levels _ _ _ (λ k. refl) c.in_ok-inside.ensures.is
+    c.in_ok-inside.ensures.within
     (word_is _ _ _ _ (c.in_ok-place.ensures.is c.args.input.bytes.now)))
     c.in_err-cond.ensures.halts)
 
@@ -197,8 +200,8 @@ read_case-returns-in_err-place-clause-halts t c = λ comes.
 pub read_case-returns-in_err-inside-clause-halts : goal.read_case-returns-in_err-inside-clause-halts
 read_case-returns-in_err-inside-clause-halts t c = λ comes.
     passed _ _ _ c.from_residual-in_err-inside.ensures.1
-    (case_stops c.args.input.bytes.now c.args.input.rest.now c.args.levels _ _
-    c.in_err-inside.ensures.deep
+    (level_stops c.args.input.bytes.now c.args.input.rest.now words.Case case_behind c.args.levels
+    _ _ (λ k. refl) c.in_err-inside.ensures.deep
     (word_is _ _ _ _ (c.in_ok-place.ensures.is c.args.input.bytes.now))
     c.in_err-inside.ensures.stops)
 
@@ -208,7 +211,8 @@ read_case-returns-in_err-selector-clause-halts t c = λ comes.
     passed _ _ _ c.from_residual-in_err-selector.ensures.1
     (then_stop _ (in_brackets c.in_ok-inside.inside)
     (outer (arms c.in_ok-inside.inside 0 false) ∷ []) _ _ _
-    (case_opens c.args.levels _ _ _ c.in_ok-inside.ensures.is c.in_ok-inside.ensures.within
+    (level_opens words.Case case_behind c.args.levels _ _ _ (λ k. refl) c.in_ok-inside.ensures.is
+    c.in_ok-inside.ensures.within
     (word_is _ _ _ _ (c.in_ok-place.ensures.is c.args.input.bytes.now)))
     c.in_err-selector.ensures.halts)
 

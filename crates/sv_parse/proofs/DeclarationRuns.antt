@@ -3,18 +3,15 @@ use Rattle.std.proofs.Common.{◌≡◌, ℕ, Bool, true, false, List, [], ◌�
 use Rattle.std.proofs.Common.{None, refl, sym, ap, ◌∙◌}
 use Rattle.std.specs.Prelude.{is_some, IfSome}
 use Rattle.std.proofs.lemmas.Bool.{false≢true}
-use Rattle.sv_token.specs.declared.keywords.WordKind.{WordKind}
 use Rattle.sv_token.specs.declared.keywords.WordKind.TheVariants as words
 use Rattle.sv_token.specs.declared.signs.SignKind.TheVariants as signs
-use Rattle.sv_token.specs.declared.tokens.Token.{Token}
-use Rattle.sv_token.specs.Lexemes.{Lexeme, word, identifier, sign, Placed, placed_tokens}
+use Rattle.sv_token.specs.Lexemes.{Lexeme, word, identifier, sign, Placed}
 use Rattle.sv_token.specs.Words.{is_refused_word}
 use Rattle.sv_ast.specs.GrammarForms.{a_sign, a_word}
-use Rattle.sv_ast.specs.GrammarStatements.{IsNext}
 use Rattle.sv_ast.specs.GrammarRules.{all_limits}
 use Rattle.sv_parse_expr.specs.declared.stop.Stop.{Stop}
-use Rattle.sv_parse_expr.specs.Expectations.{HaltsAs, StopsAt}
-use Rattle.sv_parse_expr.proofs.Halting.{stops_then, stops_before, stops_by}
+use Rattle.sv_parse_expr.specs.Expectations.{HaltsAs}
+use Rattle.sv_parse_expr.proofs.Halting.{stops_then, stops_before}
 use Rattle.sv_parse_machine.specs.Symbols.{Outer, punctuation, plain_name, plain_number, more_names}
 use Rattle.sv_parse_machine.specs.Symbols.{perhaps_second_name, later_header_parameter}
 use Rattle.sv_parse_machine.specs.Symbols.{more_header_parameters, later_port, more_ports, items}
@@ -252,21 +249,6 @@ registers_go_on = record {
       λ ts rest comma. sign_taken (more_names signs.Semicolon) signs.Comma
       (plain_name ∷ more_names signs.Semicolon ∷ []) ts rest refl comma;
 }
-
--- ---- words that come
-
-pub not_next : (w : WordKind) (ts : List Placed) → NextIsNotWord w ts → IsNext w ts → ⊥
-not_next w [] none next = next
-not_next w (t ∷ ts) none next = none next
-
--- a word that comes stops nothing
-pub stops_never : (bytes : List ℕ) (tokens : List Token) (xs : State) (w : WordKind) (stop : Stop) →
-    IsNext w (placed_tokens bytes tokens) →
-    StopsAt tokens (NextIsNotWord w (placed_tokens bytes tokens)) stop →
-    HaltsAs xs (placed_tokens bytes tokens) stop
-stops_never bytes tokens xs w stop next at =
-    stops_by bytes tokens xs (NextIsNotWord w (placed_tokens bytes tokens)) stop (λ none.
-    absurd (not_next w (placed_tokens bytes tokens) none next)) at
 
 -- ---- one symbol after the other
 

@@ -10,7 +10,6 @@ use Rattle.sv_token.specs.declared.keywords.WordKind.TheVariants as words
 use Rattle.sv_token.specs.declared.signs.SignKind.{SignKind}
 use Rattle.sv_token.specs.declared.signs.SignKind.TheVariants as signs
 use Rattle.sv_token.specs.declared.signs.Operator.{Operator}
-use Rattle.sv_token.specs.declared.tokens.Token.{Token}
 use Rattle.sv_token.specs.Lexemes.{Lexeme, word, identifier, numeral, sign, Placed}
 use Rattle.sv_token.specs.Words.{is_refused_word}
 use Rattle.sv_ast.specs.GrammarForms.{a_sign, a_word, word_at, somewhere, binary_at}
@@ -34,8 +33,7 @@ use Rattle.sv_parse_machine.specs.Machine.{within_limits, step, may_be_empty, en
 use Rattle.sv_parse_machine.specs.Machine.{run}
 use Rattle.sv_parse_machine.specs.Reads.{IsNot, NextIs, NextIsNotWord, NextIsAnyName, Reads, GoesOn}
 use Rattle.sv_parse_expr.specs.declared.stop.Stop.{Stop}
-use Rattle.sv_parse_expr.specs.declared.stop.Stop.TheVariants as stops
-use Rattle.sv_parse_expr.specs.Expectations.{HaltsAs, StopsAt}
+use Rattle.sv_parse_expr.specs.Expectations.{HaltsAs}
 use Rattle.sv_parse_machine.proofs.ReadSteps.{reads_then, reads_before, takes_token, expression_from}
 use Rattle.sv_parse_machine.proofs.ReadSteps.{reads_expression}
 use Rattle.sv_parse_machine.proofs.ReadRows.{sign_taken, word_taken}
@@ -65,21 +63,11 @@ pub other_word : (v w : WordKind) (ts rest : List Placed) → (word v ≡ word w
     a_word v ts rest → NextIsNotWord w ts
 other_word v w ts rest differs (p, at) = subst (λ us. NextIsNotWord w us) (sym at) differs
 
-pub not_a_word : (w : WordKind) (ts : List Placed) → IsNext w ts → NextIsNotWord w ts → ⊥
-not_a_word w [] is other = is
-not_a_word w (t ∷ ts) is other = other is
-
 -- the token of a word that was looked at
 pub next_word_taken : (y : Outer) (w : WordKind) (ys : List Outer) (ts rest : List Placed)
     → outer_on y (word w) ≡ takes 0 0 ys → (p : Place) → word_at w p ts rest
     → Reads (outer y ∷ []) (outside_on ys) ts rest
 next_word_taken y w ys ts rest row p at = word_taken y w ys ts rest row (p, at)
-
--- memory may run out, and nothing else, where the word was looked at
-pub word_was_next : (xs : State) (w : WordKind) (tokens : List Token) (ts : List Placed)
-    (stop : Stop) → IsNext w ts → StopsAt tokens (NextIsNotWord w ts) stop → HaltsAs xs ts stop
-word_was_next xs w tokens ts (stops.Broken breach left) is at = absurd (not_a_word w ts is at.0)
-word_was_next xs w tokens ts stops.OutOfMemory is at = tt
 
 -- ---- symbols that begin as others do
 
@@ -354,12 +342,20 @@ module_comes ts rest comes =
     (plain_name ∷ perhaps_header_parameters ∷ perhaps_ports ∷ punctuation signs.Semicolon ∷
     items ∷ []) ts rest refl comes
 
-pub process_comes : (ts rest : List Placed) → a_word words.Always ts rest →
+pub process_comes : (p : Place) (ts rest : List Placed) → word_at words.Always p ts rest →
     Reads (outer items ∷ [])
     (outside_on (punctuation signs.At ∷ event ∷ statement 0 ∷ items ∷ [])) ts rest
-process_comes ts rest comes =
-    word_taken items words.Always (punctuation signs.At ∷ event ∷ statement 0 ∷ items ∷ []) ts rest
-    refl comes
+process_comes p ts rest comes =
+    next_word_taken items words.Always (punctuation signs.At ∷ event ∷ statement 0 ∷ items ∷ []) ts
+    rest refl p comes
+
+-- the edge that wakes a process, before the name of its clock
+pub edge_read : (ts rest : List Placed) → a_word words.Posedge ts rest →
+    Reads (outer event_inside ∷ [])
+    (outside_on (plain_name ∷ punctuation signs.CloseParenthesis ∷ [])) ts rest
+edge_read ts rest comes =
+    word_taken event_inside words.Posedge (plain_name ∷ punctuation signs.CloseParenthesis ∷ []) ts
+    rest refl comes
 
 pub parameters_come : (ts rest : List Placed) → a_sign signs.Hash ts rest →
     Reads (outer perhaps_header_parameters ∷ [])

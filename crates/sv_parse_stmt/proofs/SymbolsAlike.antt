@@ -228,38 +228,34 @@ targets_go_on n =
           rest refl comma;
     }
 
+-- behind a comma comes one symbol and then the same again
+goes_on : (more next : Outer) → outer_on more (sign signs.Comma) ≡ takes 0 0 (next ∷ more ∷ []) →
+    GoesOn (outer more ∷ []) (outer next ∷ [])
+goes_on more next row = record {
+  comma = λ ts rest comma. sign_taken more signs.Comma (next ∷ more ∷ []) ts rest row comma;
+}
+
 pub choices_go_on : (n : ℕ) → GoesOn (outer (more_choices n) ∷ []) (outer (expression n) ∷ [])
-choices_go_on n =
-    record {
-      comma = λ ts rest comma.
-          sign_taken (more_choices n) signs.Comma (expression n ∷ more_choices n ∷ []) ts rest
-          refl comma;
-    }
+choices_go_on n = goes_on (more_choices n) (expression n) refl
 
 pub joined_go_on : GoesOn (outer (more_names signs.CloseBrace) ∷ []) (outer plain_name ∷ [])
-joined_go_on =
-    record {
-      comma = λ ts rest comma.
-          sign_taken (more_names signs.CloseBrace) signs.Comma
-          (plain_name ∷ more_names signs.CloseBrace ∷ []) ts rest refl comma;
-    }
+joined_go_on = goes_on (more_names signs.CloseBrace) plain_name refl
 
 pub assigned_go_on : GoesOn (outer more_assigned ∷ []) (outer later_assigned ∷ [])
-assigned_go_on =
-    record {
-      comma = λ ts rest comma.
-          sign_taken more_assigned signs.Comma (later_assigned ∷ more_assigned ∷ []) ts rest
-          refl comma;
-    }
+assigned_go_on = goes_on more_assigned later_assigned refl
 
 -- ---- what cannot be, since the caller saw the word
+
+pub not_a_word : (w : WordKind) (ts : List Placed) → IsNext w ts → NextIsNotWord w ts → ⊥
+not_a_word w [] is other = is
+not_a_word w (t ∷ ts) is other = other is
 
 pub word_is_there : (xs : State) (w : WordKind) (ts : List Placed) (tokens : List Token)
     (others : List Placed) (stop : Stop) → IsNext w ts
     → StopsAt tokens (NextIsNotWord w ts) stop → HaltsAs xs others stop
-word_is_there xs w [] tokens others stop comes at = absurd comes
-word_is_there xs w (t ∷ ts) tokens others (stops.Broken breach left) comes at = absurd (at.0 comes)
-word_is_there xs w (t ∷ ts) tokens others stops.OutOfMemory comes at = tt
+word_is_there xs w ts tokens others (stops.Broken breach left) comes at =
+    absurd (not_a_word w ts comes at.0)
+word_is_there xs w ts tokens others stops.OutOfMemory comes at = tt
 
 -- ---- bits of a target
 

@@ -3,7 +3,7 @@ use Rattle.sv_parse_machine.specs.Symbols.{outer, punctuation, expression, items
 use Rattle.sv_parse_machine.proofs.ReadSteps.{reads_then, reads_before}
 use Rattle.sv_parse_machine.proofs.ReadRows.{word_taken}
 use Rattle.sv_parse_expr.proofs.Halting.{passed, stops_then, stops_before}
-use Rattle.sv_parse.proofs.ReadingSymbols.{word_was_next}
+use Rattle.sv_parse_stmt.proofs.SymbolsAlike.{word_is_there}
 use Rattle.sv_token.specs.declared.signs.SignKind.TheVariants as signs
 use Rattle.sv_token.specs.declared.keywords.WordKind.TheVariants as words
 use Rattle.sv_ast.specs.Views.{item_tree}
@@ -26,8 +26,7 @@ returns-clause-is c =
 pub returns-in_err-_place-clause-halts : goal.returns-in_err-_place-clause-halts
 returns-in_err-_place-clause-halts c = λ is.
     passed _ _ _ c.from_residual.ensures.1
-    (word_was_next _ words.Invariant _ _ _ is
-    (c.in_err-_place.ensures.stops c.args.input.bytes.now))
+    (word_is_there _ _ _ _ _ _ is (c.in_err-_place.ensures.stops c.args.input.bytes.now))
 
 pub returns-in_err-expr-clause-halts : goal.returns-in_err-expr-clause-halts
 returns-in_err-expr-clause-halts c = λ is.

@@ -1,12 +1,11 @@
 use Rattle.std.proofs.Common.{[], ◌∷◌, refl}
-use Rattle.sv_parse_machine.specs.Symbols.{outer, punctuation, plain_name, event_inside}
+use Rattle.sv_parse_machine.specs.Symbols.{outer, punctuation, event_inside}
 use Rattle.sv_parse_machine.proofs.ReadSteps.{reads_then}
-use Rattle.sv_parse_machine.proofs.ReadRows.{word_taken, halts_event_inside}
+use Rattle.sv_parse_machine.proofs.ReadRows.{halts_event_inside}
 use Rattle.sv_parse_expr.proofs.Halting.{passed, stops_then, stops_here}
-use Rattle.sv_parse.proofs.ReadingSymbols.{star_inside_read}
+use Rattle.sv_parse.proofs.ReadingSymbols.{edge_read, star_inside_read}
 use Rattle.sv_parse_expr.specs.declared.stop.GrammarBreach.TheVariants.{Stuck}
 use Rattle.sv_token.specs.declared.signs.SignKind.TheVariants as signs
-use Rattle.sv_token.specs.declared.keywords.WordKind.TheVariants as words
 use Rattle.sv_parse_expr.specs.declared.stop.Expected.TheVariants as expected
 use Rattle.sv_parse.proofs.items.read_open_event.Goals as goal
 
@@ -17,21 +16,13 @@ returns-in-Some-clause-is c =
 pub returns-in_err-name-clause-halts : goal.returns-in_err-name-clause-halts
 returns-in_err-name-clause-halts c =
     passed _ _ _ c.from_residual.ensures.1
-    (stops_then (outer event_inside ∷ [])
-    (outer plain_name ∷ outer (punctuation signs.CloseParenthesis) ∷ []) _ _ _
-    (word_taken event_inside words.Posedge
-    (plain_name ∷ (punctuation signs.CloseParenthesis) ∷ []) _ _ refl
-    (c.in-Some.ensures.is c.args.input.bytes.now))
+    (stops_then _ _ _ _ _ (edge_read _ _ (c.in-Some.ensures.is c.args.input.bytes.now))
     c.in_err-name.ensures.halts)
 
 pub returns-in-Some-clause-reads : goal.returns-in-Some-clause-reads
 returns-in-Some-clause-reads c =
-    (reads_then (outer event_inside ∷ [])
-    (outer plain_name ∷ outer (punctuation signs.CloseParenthesis) ∷ []) [] _ _ _
-    (word_taken event_inside words.Posedge
-    (plain_name ∷ (punctuation signs.CloseParenthesis) ∷ []) _ _ refl
-    (c.in-Some.ensures.is c.args.input.bytes.now))
-    c.in_ok-name.ensures.reads)
+    reads_then _ _ _ _ _ _ (edge_read _ _ (c.in-Some.ensures.is c.args.input.bytes.now))
+    c.in_ok-name.ensures.reads
 
 pub returns-in-None-clause-halts : goal.returns-in-None-clause-halts
 returns-in-None-clause-halts c =

@@ -7,7 +7,7 @@ use Rattle.sv_parse_machine.specs.Symbols.{outer, rows, end_of_map}
 use Rattle.sv_parse_machine.proofs.ReadSteps.{reads_then}
 use Rattle.sv_parse_machine.proofs.ReadRows.{word_taken, halts_end_of_map}
 use Rattle.sv_parse_expr.proofs.Halting.{passed, stops_then, stops_before, stops_by}
-use Rattle.sv_parse.proofs.ReadingSymbols.{word_was_next}
+use Rattle.sv_parse_stmt.proofs.SymbolsAlike.{word_is_there}
 use Rattle.sv_parse.proofs.ReadingSymbols.{map_range, behind_map_range, map_comes, map_range_comes}
 use Rattle.sv_parse.proofs.ReadingSymbols.{map_rows_come}
 use Rattle.sv_parse.proofs.ReadingItems.{map_is}
@@ -18,7 +18,8 @@ use Rattle.sv_parse.proofs.label_maps.read_label_map.Goals as goal
 pub returns-in_err-_word-clause-halts : goal.returns-in_err-_word-clause-halts
 returns-in_err-_word-clause-halts c = λ is.
     passed _ _ _ c.from_residual.ensures.1
-    (word_was_next _ words.Labelmap _ _ _ is (c.in_err-_word.ensures.stops c.args.input.bytes.now))
+    (word_is_there _ words.Labelmap _ _ _ _ is
+    (c.in_err-_word.ensures.stops c.args.input.bytes.now))
 
 pub returns-in_err-name-clause-halts : goal.returns-in_err-name-clause-halts
 returns-in_err-name-clause-halts c = λ is.

@@ -3,7 +3,7 @@ use Rattle.sv_parse_machine.specs.Symbols.{outer, lattice_lines, perhaps_lattice
 use Rattle.sv_parse_machine.proofs.ReadSteps.{reads_then}
 use Rattle.sv_parse_machine.proofs.ReadRows.{word_taken}
 use Rattle.sv_parse_expr.proofs.Halting.{passed, stops_then}
-use Rattle.sv_parse.proofs.ReadingSymbols.{word_was_next}
+use Rattle.sv_parse_stmt.proofs.SymbolsAlike.{word_is_there}
 use Rattle.sv_parse.proofs.ReadingItems.{lattice_is}
 use Rattle.sv_token.specs.declared.keywords.WordKind.TheVariants as words
 use Rattle.sv_parse.proofs.lattices.read_lattice.Goals as goal
@@ -11,7 +11,7 @@ use Rattle.sv_parse.proofs.lattices.read_lattice.Goals as goal
 pub returns-in_err-place-clause-halts : goal.returns-in_err-place-clause-halts
 returns-in_err-place-clause-halts c = λ is.
     passed _ _ _ c.from_residual.ensures.1
-    (word_was_next _ words.Lattice _ _ _ is (c.in_err-place.ensures.stops c.args.input.bytes.now))
+    (word_is_there _ words.Lattice _ _ _ _ is (c.in_err-place.ensures.stops c.args.input.bytes.now))
 
 pub returns-in_err-points-clause-halts : goal.returns-in_err-points-clause-halts
 returns-in_err-points-clause-halts c = λ is.

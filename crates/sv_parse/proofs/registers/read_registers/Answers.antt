@@ -2,7 +2,8 @@ use Rattle.std.proofs.Common.{map, inl, inr, ap, [], ◌∷◌}
 use Rattle.sv_token.specs.declared.signs.SignKind.TheVariants as signs
 use Rattle.sv_token.specs.declared.keywords.WordKind.TheVariants as words
 use Rattle.sv_parse_expr.proofs.Halting.{passed, stops_then, stops_before}
-use Rattle.sv_parse.proofs.DeclarationRuns.{stops_never, reg_begun, registers_go_on}
+use Rattle.sv_parse.proofs.DeclarationRuns.{reg_begun, registers_go_on}
+use Rattle.sv_parse_stmt.proofs.SymbolsAlike.{word_is_there}
 use Rattle.sv_parse.specs.ReadingDeclarations.{memory_end, memory_bounds}
 use Rattle.sv_parse_machine.specs.Machine.{outside_on}
 use Rattle.sv_parse_machine.specs.Symbols.{outer, punctuation, items, more_names}
@@ -16,7 +17,7 @@ use Rattle.sv_parse.proofs.registers.read_registers.Goals as goal
 pub returns-in_err-_place-clause-halts : goal.returns-in_err-_place-clause-halts
 returns-in_err-_place-clause-halts c =
     λ next. passed _ _ _ c.from_residual.ensures.1
-    (stops_never c.args.input.bytes.now c.args.input.rest.now _ words.Reg _ next
+    (word_is_there _ words.Reg _ _ _ _ next
     (c.in_err-_place.ensures.stops c.args.input.bytes.now))
 
 pub returns-in_err-memory-clause-halts : goal.returns-in_err-memory-clause-halts

@@ -1,7 +1,7 @@
 use Rattle.sv_token.specs.declared.keywords.WordKind.TheVariants as words
 use Rattle.sv_parse.proofs.ReadingDeclarations.{wire_is}
 use Rattle.sv_parse_expr.proofs.Halting.{passed}
-use Rattle.sv_parse.proofs.DeclarationRuns.{stops_never}
+use Rattle.sv_parse_stmt.proofs.SymbolsAlike.{word_is_there}
 use Rattle.sv_parse.proofs.declarations.WiresListedFromFirst.first.Goals as goal
 
 pub returns-clause-is : goal.returns-clause-is
@@ -13,5 +13,5 @@ returns-clause-is c =
 pub returns-in_err-_place-clause-halts : goal.returns-in_err-_place-clause-halts
 returns-in_err-_place-clause-halts c =
     λ next. passed _ _ _ c.from_residual.ensures.1
-    (stops_never c.args.input.bytes.now c.args.input.rest.now _ words.Wire _ next
+    (word_is_there _ words.Wire _ _ _ _ next
     (c.in_err-_place.ensures.stops c.args.input.bytes.now))

@@ -1,6 +1,6 @@
 -- How what is read of items, modules and label maps is put together.
-use Rattle.std.proofs.Common.{◌≡◌, ℕ, ◌<◌, List, [], ◌∷◌, ◌++◌, length, flat_map, map, inl, inr}
-use Rattle.std.proofs.Common.{refl, sym, ap, ◌∙◌, subst, append_assoc, arith}
+use Rattle.std.proofs.Common.{◌≡◌, ℕ, ◌<◌, ◌≤◌, List, [], ◌∷◌, ◌++◌, length, flat_map, map, inl}
+use Rattle.std.proofs.Common.{inr, refl, sym, ap, ◌∙◌, subst, append_assoc, arith}
 use Rattle.std.proofs.lemmas.List.{map_push, map-append, length-map}
 use Rattle.sv_token.specs.declared.tokens.Token.{Token}
 use Rattle.sv_token.specs.Lexemes.{Placed, placed_tokens}
@@ -16,8 +16,21 @@ use Rattle.sv_ast.specs.GrammarModules.{LatticeLine, points as line_of_points, p
 use Rattle.sv_ast.specs.GrammarModules.{IsLatticeLine, IsKeyRange, IsRow, IsMap, IsLattice}
 use Rattle.sv_ast.specs.GrammarModules.{points_of, pairs_of, IsModule, IsText}
 use Rattle.sv_ast.specs.GrammarRules.{all_limits, TokensMean}
+use Rattle.sv_parse_machine.specs.Symbols.{Outer, outer}
+use Rattle.sv_parse_machine.specs.Reads.{Reads}
+use Rattle.sv_parse_expr.specs.declared.stop.Input.{Input}
+use Rattle.sv_parse_expr.specs.Parses.{placed}
 use Rattle.sv_parse.specs.ReadingItems.{IsOpenKeyRange, AreOpenPorts, ArePortList, IsHeaderOf}
 use Rattle.sv_parse.specs.ReadingItems.{IsOneMore, AreLines}
+
+-- what a loop has read: up to the tokens that are left stands the form, and the symbol is still to
+-- come
+abbrev pub HasRead : Form → Outer → Input → (rest : List Token) → Type 0
+HasRead P y input rest = record {
+  are : P (placed input) (placed_tokens input.bytes.now rest);
+  shorter : length rest ≤ length input.rest.now;
+  reads : Reads (outer y ∷ []) (outer y ∷ []) (placed input) (placed_tokens input.bytes.now rest);
+}
 
 to_nothing : (A : Type 0) (xs : List A) → xs ++ [] ≡ xs
 to_nothing A [] = refl
@@ -68,12 +81,12 @@ first_each A X f P all done x ts b eq is none =
 
 -- ---- items
 
-flat_one : (groups : List (List ItemTree)) (group : List ItemTree) →
-    flat_map (λ g. g) (groups ++ group ∷ []) ≡ flat_map (λ g. g) groups ++ group
-flat_one [] group = to_nothing ItemTree group
-flat_one (g ∷ groups) group =
-    ap (λ (xs : List ItemTree). g ++ xs) (flat_one groups group)
-    ∙ sym (append_assoc g (flat_map (λ h. h) groups) group)
+flat_more : (X Y : Type 0) (f : X → List Y) (xs : List X) (x : X) →
+    flat_map f (xs ++ x ∷ []) ≡ flat_map f xs ++ f x
+flat_more X Y f [] x = to_nothing Y (f x)
+flat_more X Y f (z ∷ xs) x =
+    ap (λ (ys : List Y). f z ++ ys) (flat_more X Y f xs x)
+    ∙ sym (append_assoc (f z) (flat_map f xs) (f x))
 
 pub record AreOpenItems (items : List ItemTree) (ts here : List Placed) : Type 0 where
   pub groups : List (List ItemTree)
@@ -89,7 +102,9 @@ pub items_more :
     AreOpenItems items ts a → IsItem all_limits group a b → AreOpenItems (items ++ group) ts b
 items_more items group ts a b before is = record {
   groups = before.groups ++ group ∷ [];
-  are = ap (λ (xs : List ItemTree). xs ++ group) before.are ∙ sym (flat_one before.groups group);
+  are =
+      ap (λ (xs : List ItemTree). xs ++ group) before.are
+      ∙ sym (flat_more (List ItemTree) ItemTree (λ g. g) before.groups group);
   each_is =
       each_more (List ItemTree) (IsItem all_limits) before.groups group ts a b before.each_is is;
 }
@@ -115,20 +130,6 @@ items_end items ts here before = (
 
 -- ---- lattices
 
-flat_points : (lines : List LatticeLine) (line : LatticeLine) →
-    flat_map points_of (lines ++ line ∷ []) ≡ flat_map points_of lines ++ points_of line
-flat_points [] line = to_nothing PlacedName (points_of line)
-flat_points (g ∷ lines) line =
-    ap (λ (xs : List PlacedName). points_of g ++ xs) (flat_points lines line)
-    ∙ sym (append_assoc (points_of g) (flat_map points_of lines) (points_of line))
-
-flat_pairs : (lines : List LatticeLine) (line : LatticeLine) →
-    flat_map pairs_of (lines ++ line ∷ []) ≡ flat_map pairs_of lines ++ pairs_of line
-flat_pairs [] line = to_nothing PairTree (pairs_of line)
-flat_pairs (g ∷ lines) line =
-    ap (λ (xs : List PairTree). pairs_of g ++ xs) (flat_pairs lines line)
-    ∙ sym (append_assoc (pairs_of g) (flat_map pairs_of lines) (pairs_of line))
-
 pub record AreOpenLines (points : List PlacedName) (pairs : List PairTree) (ts here : List Placed) :
     Type 0 where
   pub lines : List LatticeLine
@@ -153,10 +154,10 @@ lines_more points all_points pairs all_pairs ts a b before one = record {
   lines = before.lines ++ one.line ∷ [];
   points_are =
       one.points_are ∙ ap (λ (xs : List PlacedName). xs ++ points_of one.line) before.points_are
-      ∙ sym (flat_points before.lines one.line);
+      ∙ sym (flat_more LatticeLine PlacedName points_of before.lines one.line);
   pairs_are =
       one.pairs_are ∙ ap (λ (xs : List PairTree). xs ++ pairs_of one.line) before.pairs_are
-      ∙ sym (flat_pairs before.lines one.line);
+      ∙ sym (flat_more LatticeLine PairTree pairs_of before.lines one.line);
   each_is = each_more LatticeLine IsLatticeLine before.lines one.line ts a b before.each_is one.is;
 }
 

@@ -1,6 +1,8 @@
 -- Private: how the code goes. What the private functions say of what they read: from the tokens
 -- that they are handed to those that they give back stands a form of the grammar.
-use Rattle.std.specs.Prelude.{◌≡◌, ℕ, Bool, List, Option}
+use Rattle.std.specs.Prelude.{◌≡◌, ℕ, Bool, List, [], ◌∷◌, Option, Result}
+use Rattle.std.specs.Borrow.{Bor}
+use Rattle.sv_token.specs.declared.tokens.Token.{Token}
 use Rattle.sv_token.specs.declared.signs.SignKind.TheVariants as signs
 use Rattle.sv_num.specs.declared.faults.Place.{Place}
 use Rattle.sv_token.specs.declared.keywords.WordKind.TheVariants as words
@@ -13,6 +15,15 @@ use Rattle.sv_ast.specs.GrammarForms.{a_name, a_word, a_sign}
 use Rattle.sv_ast.specs.GrammarDeclarations.{IsRange, IsLabel, IsNamedPort, IsNamedSignal}
 use Rattle.sv_ast.specs.GrammarDeclarations.{IsNamedParameter, IsParameterType}
 use Rattle.sv_ast.specs.GrammarRules.{all_limits}
+use Rattle.sv_parse_machine.specs.Symbols.{punctuation, items}
+use Rattle.sv_parse_expr.specs.declared.stop.Input.{Input}
+use Rattle.sv_parse_expr.specs.declared.stop.Stop.{Stop}
+use Rattle.sv_parse_expr.specs.Parses.{Leads}
+
+-- reading an item up to its `;`
+abbrev pub LeadsToEnd : {A : Type 0} → Result (A × Bor (List Token)) Stop → Input → Type 0
+LeadsToEnd result input =
+    Leads result input (items ∷ []) (punctuation signs.Semicolon ∷ items ∷ [])
 
 -- ---- declarations
 

@@ -15,7 +15,8 @@ ghost use Rattle.sv_ast.specs.GrammarDeclarations.{IsPort, ArePorts, IsNamedSign
 ghost use Rattle.sv_ast.specs.GrammarDeclarations.{AreSignals};
 ghost use Rattle.sv_ast.specs.GrammarModules.{all_as};
 ghost use Rattle.sv_ast.specs.GrammarRules.{all_limits};
-ghost use Rattle.sv_parse.specs.Reading.{IsTypeOf, IsOutputEnd, IsNamedAs, IsTypedPort, IsWireAs};
+ghost use Rattle.sv_parse.specs.Reading.{LeadsToEnd, IsTypeOf, IsOutputEnd, IsNamedAs, IsTypedPort};
+ghost use Rattle.sv_parse.specs.Reading.{IsWireAs};
 ghost use Rattle.sv_parse.specs.ReadingItems.{IsWire, IsWireLike};
 ghost use Rattle.sv_ast.specs.GrammarStatements.{IsNext};
 ghost use Rattle.sv_parse_machine.specs.Symbols.{outer, punctuation, plain_name, perhaps_wire};
@@ -327,8 +328,7 @@ pub fn read_wires<'a>(alloc: Global, input: Input<'a>) -> Read<'a, Vec<Item>>
     ensures is { GivesAll result input.entry item_tree
         (all_as tree.declared (AreSignals all_limits)) }
     ensures shorter { Shortens result input.entry }
-    ensures reads { IsNext words.Wire (placed input.entry) →
-        Leads result input.entry (items ∷ []) (punctuation signs.Semicolon ∷ items ∷ []) }
+    ensures reads { IsNext words.Wire (placed input.entry) → LeadsToEnd result input.entry }
     ensures halts { IsNext words.Wire (placed input.entry) →
         HaltsOn result input.entry (items ∷ []) }
 {

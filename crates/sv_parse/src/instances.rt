@@ -13,6 +13,7 @@ ghost use Rattle.sv_ast.specs.GrammarModules.{IsNamedOverride, AreOverrides, IsN
 ghost use Rattle.sv_ast.specs.GrammarModules.{IsNamedInstance, IsInstance, AreOfOneModule};
 ghost use Rattle.sv_ast.specs.GrammarModules.{AreInstances, all_as};
 ghost use Rattle.sv_ast.specs.GrammarRules.{all_limits};
+ghost use Rattle.sv_parse.specs.Reading.{LeadsToEnd};
 ghost use Rattle.sv_parse.specs.ReadingDeclarations.{dotted, dotted_value, dotted_link};
 ghost use Rattle.sv_parse.specs.ReadingItems.{AreOpenOverrides, IsInstanceAs};
 ghost use Rattle.sv_parse_machine.specs.Symbols.{outer, punctuation, plain_name, items, overrides};
@@ -331,8 +332,7 @@ pub fn read_instances<'a>(alloc: Global, input: Input<'a>) -> Read<'a, Vec<Item>
     ensures is { GivesAll result input.entry item_tree
         (all_as tree.instance_item (AreInstances all_limits)) }
     ensures shorter { Shortens result input.entry }
-    ensures reads { NextIsAnyName (placed input.entry) →
-        Leads result input.entry (items ∷ []) (punctuation signs.Semicolon ∷ items ∷ []) }
+    ensures reads { NextIsAnyName (placed input.entry) → LeadsToEnd result input.entry }
     ensures halts { NextIsAnyName (placed input.entry) → HaltsOn result input.entry (items ∷ []) }
 {
     let (instances, rest) = read_list::<Instances>(alloc, input, 0)?;

@@ -1,14 +1,14 @@
 // Items of modules.
 ghost use Rattle.std.specs.Prelude.{[], ◌∷◌};
 ghost use Rattle.std.specs.Option.{option_map};
-ghost use Rattle.sv_token.specs.declared.signs.SignKind.TheVariants as signs;
 ghost use Rattle.sv_ast.specs.Views.{placed_name, item_tree};
 ghost use Rattle.sv_ast.specs.GrammarModules.{IsEvent, IsAlways};
 ghost use Rattle.sv_ast.specs.GrammarModules.{IsInvariant, IsListedItem, IsItem};
 ghost use Rattle.sv_ast.specs.GrammarRules.{all_limits};
 ghost use Rattle.sv_ast.specs.GrammarStatements.{IsNext, only};
+ghost use Rattle.sv_parse.specs.Reading.{LeadsToEnd};
 ghost use Rattle.sv_parse.specs.ReadingItems.{IsOpenEvent};
-ghost use Rattle.sv_parse_machine.specs.Symbols.{punctuation, items, event, event_inside};
+ghost use Rattle.sv_parse_machine.specs.Symbols.{items, event, event_inside};
 ghost use Rattle.sv_parse_machine.specs.Reads.{NextIsNotWord};
 ghost use Rattle.sv_parse_expr.specs.Parses.{placed, Gives, GivesAll, Shortens, Leads, HaltsOn};
 
@@ -86,8 +86,7 @@ fn read_process<'a>(alloc: Global, input: Input<'a>) -> Read<'a, Item>
 fn read_invariant<'a>(alloc: Global, input: Input<'a>) -> Read<'a, Vec<Item>>
     ensures is { GivesAll result input.entry item_tree (only (IsInvariant all_limits)) }
     ensures shorter { Shortens result input.entry }
-    ensures reads { IsNext WordKind.Invariant (placed input.entry) →
-        Leads result input.entry (items ∷ []) (punctuation signs.Semicolon ∷ items ∷ []) }
+    ensures reads { IsNext WordKind.Invariant (placed input.entry) → LeadsToEnd result input.entry }
     ensures halts { IsNext WordKind.Invariant (placed input.entry) →
         HaltsOn result input.entry (items ∷ []) }
 {
@@ -103,7 +102,7 @@ fn read_listed_item<'a>(alloc: Global, input: Input<'a>) -> Read<'a, Vec<Item>>
     ensures shorter { Shortens result input.entry }
     ensures reads { NextIsNotWord WordKind.Always (placed input.entry) →
         NextIsNotWord WordKind.Endmodule (placed input.entry) →
-        Leads result input.entry (items ∷ []) (punctuation signs.Semicolon ∷ items ∷ []) }
+        LeadsToEnd result input.entry }
     ensures halts { NextIsNotWord WordKind.Always (placed input.entry) →
         NextIsNotWord WordKind.Endmodule (placed input.entry) →
         HaltsOn result input.entry (items ∷ []) }

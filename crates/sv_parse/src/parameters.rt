@@ -12,7 +12,7 @@ ghost use Rattle.sv_ast.specs.GrammarDeclarations.{IsValue, AreParameters, IsHea
 ghost use Rattle.sv_ast.specs.GrammarDeclarations.{AreHeaderParameters, parameter_word};
 ghost use Rattle.sv_ast.specs.GrammarModules.{all_as};
 ghost use Rattle.sv_ast.specs.GrammarRules.{all_limits};
-ghost use Rattle.sv_parse.specs.Reading.{IsParameterAs, IsTypedParameter};
+ghost use Rattle.sv_parse.specs.Reading.{LeadsToEnd, IsParameterAs, IsTypedParameter};
 ghost use Rattle.sv_parse_machine.specs.Symbols.{outer, punctuation, parameter_type, items};
 ghost use Rattle.sv_parse_machine.specs.Symbols.{more_parameters, header_parameter};
 ghost use Rattle.sv_parse_machine.specs.Symbols.{later_header_parameter, more_header_parameters};
@@ -246,8 +246,7 @@ pub fn read_params<'a>(alloc: Global, input: Input<'a>) -> Read<'a, Vec<Item>>
     ensures is { GivesAll result input.entry item_tree
         (all_as tree.parameter_item (AreParameters all_limits)) }
     ensures shorter { Shortens result input.entry }
-    ensures reads { BeginsParameters (placed input.entry) →
-        Leads result input.entry (items ∷ []) (punctuation signs.Semicolon ∷ items ∷ []) }
+    ensures reads { BeginsParameters (placed input.entry) → LeadsToEnd result input.entry }
     ensures halts { BeginsParameters (placed input.entry) →
         HaltsOn result input.entry (items ∷ []) }
 {

@@ -14,7 +14,7 @@ ghost use Rattle.sv_ast.specs.GrammarStatements.{IsNext, only};
 ghost use Rattle.sv_ast.specs.GrammarDeclarations.{IsRange, AreSignals, IsMemory};
 ghost use Rattle.sv_ast.specs.GrammarModules.{all_as};
 ghost use Rattle.sv_ast.specs.GrammarRules.{all_limits};
-ghost use Rattle.sv_parse_machine.specs.Symbols.{outer, punctuation, plain_name, perhaps_signed};
+ghost use Rattle.sv_parse_machine.specs.Symbols.{outer, plain_name, perhaps_signed};
 ghost use Rattle.sv_parse_machine.specs.Symbols.{perhaps_range, reg_label, reg_label_end};
 ghost use Rattle.sv_parse_machine.specs.Symbols.{label_selector};
 ghost use Rattle.sv_parse_machine.specs.Symbols.{more_names, items};
@@ -22,6 +22,7 @@ ghost use Rattle.sv_parse_machine.specs.Machine.{outside_on};
 ghost use Rattle.sv_parse_machine.specs.Reads.{Reads};
 ghost use Rattle.sv_parse_expr.specs.Parses.{placed, in_text, Comes, GivesAs, Gives, Shortens};
 ghost use Rattle.sv_parse_expr.specs.Parses.{NoLonger, Leads, HaltsOn, TakesNoMemory};
+ghost use Rattle.sv_parse.specs.Reading.{LeadsToEnd};
 ghost use Rattle.sv_parse.specs.ReadingDeclarations.{memory_bounds, memory_end, behind_name};
 ghost use Rattle.sv_parse.specs.ReadingItems.{IsRegLabelEnd, IsOpenRegLabel, IsRegLabel};
 ghost use Rattle.sv_parse.specs.ReadingItems.{MayBeMemory, MayBeSignal, memory_label_of};
@@ -260,8 +261,7 @@ pub fn read_registers<'a>(alloc: Global, input: Input<'a>) -> Read<'a, Vec<Item>
         all_as tree.declared (AreSignals all_limits) (map item_tree x.items)
         or all_as tree.memory_item (only (IsMemory all_limits)) (map item_tree x.items)) }
     ensures shorter { Shortens result input.entry }
-    ensures reads { IsNext words.Reg (placed input.entry) →
-        Leads result input.entry (items ∷ []) (punctuation signs.Semicolon ∷ items ∷ []) }
+    ensures reads { IsNext words.Reg (placed input.entry) → LeadsToEnd result input.entry }
     ensures halts { IsNext words.Reg (placed input.entry) →
         HaltsOn result input.entry (items ∷ []) }
 {

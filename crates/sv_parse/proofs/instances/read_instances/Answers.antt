@@ -1,5 +1,4 @@
-use Rattle.sv_ast.specs.Views.{instance_tree}
-use Rattle.std.proofs.Common.{map, [], ◌∷◌, refl}
+use Rattle.std.proofs.Common.{[], ◌∷◌, refl}
 use Rattle.sv_parse_machine.specs.Symbols.{outer, punctuation, plain_name, items, links, more_instances}
 use Rattle.sv_parse_machine.specs.Symbols.{perhaps_overrides}
 use Rattle.sv_parse_machine.proofs.ReadSteps.{reads_then, reads_before}
@@ -10,11 +9,7 @@ use Rattle.sv_token.specs.declared.signs.SignKind.TheVariants as signs
 use Rattle.sv_parse.proofs.instances.read_instances.Goals as goal
 
 pub returns-clause-is : goal.returns-clause-is
-returns-clause-is c = (
-  map instance_tree c.in_ok-instances.instances.items,
-  c.in_ok-items.ensures,
-  c.in_ok-instances.ensures.is,
-)
+returns-clause-is c = (_, c.in_ok-items.ensures, c.in_ok-instances.ensures.is)
 
 pub returns-in_err-instances-clause-halts : goal.returns-in_err-instances-clause-halts
 returns-in_err-instances-clause-halts c = λ any.

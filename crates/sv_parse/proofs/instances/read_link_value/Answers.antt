@@ -21,8 +21,7 @@ returns-clause-is c = c.in_ok-value.ensures.is
 
 pub returns-in-Some-clause-reads : goal.returns-in-Some-clause-reads
 returns-in-Some-clause-reads c =
-    (sign_taken link signs.CloseParenthesis [] _ _ refl
-    (c.in-Some.ensures.is c.args.input.bytes.now))
+    sign_taken link signs.CloseParenthesis [] _ _ refl (c.in-Some.ensures.is c.args.input.bytes.now)
 
 pub returns-in_err-value-clause-halts : goal.returns-in_err-value-clause-halts
 returns-in_err-value-clause-halts c =

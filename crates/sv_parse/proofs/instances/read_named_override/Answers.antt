@@ -1,8 +1,6 @@
 use Rattle.sv_ast.specs.GrammarDeclarations.{IsValue}
 use Rattle.sv_ast.specs.GrammarRules.{all_limits}
 use Rattle.sv_parse.proofs.ReadingInstances.{dotted_is}
-use Rattle.sv_token.specs.Lexemes.{placed_tokens}
-use Rattle.sv_parse_expr.specs.Parses.{placed}
 use Rattle.sv_ast.specs.Views.{expression_tree}
 use Rattle.std.proofs.Common.{[], ◌∷◌, refl}
 use Rattle.sv_parse_machine.specs.Symbols.{outer, punctuation, plain_name, expression}
@@ -14,11 +12,8 @@ use Rattle.sv_parse.proofs.instances.read_named_override.Goals as goal
 pub returns-clause-is : goal.returns-clause-is
 returns-clause-is c =
     dotted_is c.in_ok-name.name c.in_ok-name.place
-    (IsValue all_limits (expression_tree c.in_ok-value.value))
-    (placed c.args.input)
-    (placed_tokens c.args.input.bytes.now c.in_ok-name.rest.now)
-    (placed_tokens c.args.input.bytes.now c.in_ok-value.rest.now) c.in_ok-name.ensures.is
-    c.in_ok-value.ensures.is
+    (IsValue all_limits (expression_tree c.in_ok-value.value)) _ _ _
+    c.in_ok-name.ensures.is c.in_ok-value.ensures.is
 
 pub returns-in_err-name-clause-halts : goal.returns-in_err-name-clause-halts
 returns-in_err-name-clause-halts c =

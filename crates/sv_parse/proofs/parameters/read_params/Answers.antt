@@ -1,6 +1,5 @@
-use Rattle.std.proofs.Common.{refl, map, [], ◌∷◌}
+use Rattle.std.proofs.Common.{refl, [], ◌∷◌}
 use Rattle.sv_token.specs.declared.signs.SignKind.TheVariants as signs
-use Rattle.sv_ast.specs.Views.{parameter_tree}
 use Rattle.sv_parse_expr.proofs.Halting.{passed}
 use Rattle.sv_parse_machine.specs.Symbols.{outer, more_parameters, items, punctuation}
 use Rattle.sv_parse.proofs.DeclarationRuns.{parameters_go_on}
@@ -9,11 +8,7 @@ use Rattle.sv_parse_machine.proofs.ReadLists.{ends_more_parameters}
 use Rattle.sv_parse.proofs.parameters.read_params.Goals as goal
 
 pub returns-clause-is : goal.returns-clause-is
-returns-clause-is c = (
-  map parameter_tree c.in_ok-params.params.items,
-  c.in_ok-items.ensures,
-  c.in_ok-params.ensures.is,
-)
+returns-clause-is c = (_, c.in_ok-items.ensures, c.in_ok-params.ensures.is)
 
 pub returns-in_err-params-clause-halts : goal.returns-in_err-params-clause-halts
 returns-in_err-params-clause-halts c =

@@ -10,8 +10,7 @@ returns-in-Some-clause-is c =
     c.in_ok-port.ensures.is)
 
 pub returns-clause-is : goal.returns-clause-is
-returns-clause-is c =
-    inr c.in_ok-alike.ensures.is
+returns-clause-is c = inr c.in_ok-alike.ensures.is
 
 pub returns-in_err-alike-clause-halts : goal.returns-in_err-alike-clause-halts
 returns-in_err-alike-clause-halts c =

@@ -15,8 +15,7 @@ returns-in-Some-clause-is c =
     c.in_ok-param.ensures.is)
 
 pub returns-clause-is : goal.returns-clause-is
-returns-clause-is c =
-    inr c.in_ok-alike.ensures.is
+returns-clause-is c = inr c.in_ok-alike.ensures.is
 
 pub returns-in_err-param-clause-halts : goal.returns-in_err-param-clause-halts
 returns-in_err-param-clause-halts c =

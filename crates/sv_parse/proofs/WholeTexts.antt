@@ -16,7 +16,7 @@ use Rattle.sv_parse_machine.specs.Symbols.{one_module, outer, State}
 use Rattle.sv_parse_machine.specs.ModuleTable.{one_module_on}
 use Rattle.sv_parse_machine.specs.Machine.{MachineStep, goes, after_outer, step, go_on, run}
 use Rattle.sv_parse_machine.specs.Machine.{text_state}
-use Rattle.sv_parse_machine.specs.Reads.{failure_at}
+use Rattle.sv_parse_machine.specs.Reads.{Reads, failure_at}
 use Rattle.sv_parse_machine.specs.Verdict.{rule_number, rule_names, rule_place}
 use Rattle.sv_parse_machine.proofs.Walks.{where_run_fails}
 use Rattle.sv_parse_machine.proofs.Breaks.{failure_breaks}
@@ -34,6 +34,12 @@ pub fails_then : (xs ys : State) (ts mid : List Placed) (stop : Stop) →
 fails_then xs ys ts mid (stops.Broken breach left) same is =
     record { rest = is.rest; many = is.many; runs = same ∙ is.runs }
 fails_then xs ys ts mid stops.OutOfMemory same is = tt
+
+-- behind what was read, in front of further symbols
+pub fails_behind : (xs ys below : State) (ts mid : List Placed) (stop : Stop) → Reads xs ys ts mid →
+    FailsAs (ys ++ below) mid stop → FailsAs (xs ++ below) ts stop
+fails_behind xs ys below ts mid stop first is =
+    fails_then (xs ++ below) (ys ++ below) ts mid stop (first.runs below) is
 
 to_nothing : (xs : State) → xs ++ [] ≡ xs
 to_nothing [] = refl

@@ -40,7 +40,7 @@ use Rattle.sv_parse_machine.proofs.ReadRows.{sign_taken, word_taken}
 use Rattle.sv_parse_machine.proofs.ReadLists.{NextIsIdentifier, same_outer}
 use Rattle.sv_parse_expr.proofs.Halting.{stops_then}
 use Rattle.sv_parse.specs.ReadingTexts.{EndsRows}
-use Rattle.sv_parse.proofs.DeclarationRuns.{and_read}
+use Rattle.sv_parse.proofs.DeclarationRuns.{and_read, front_read}
 
 -- ---- one after the other
 
@@ -333,14 +333,24 @@ goes_on_instances = record {
 
 -- ---- what a word or a sign in front says is to come
 
-pub module_comes : (ts rest : List Placed) → a_word words.Module ts rest →
+pub module_comes : (p : Place) (ts rest : List Placed) → word_at words.Module p ts rest →
     Reads (outer one_module ∷ [])
     (outside_on (plain_name ∷ perhaps_header_parameters ∷ perhaps_ports ∷
     punctuation signs.Semicolon ∷ items ∷ [])) ts rest
-module_comes ts rest comes =
-    word_taken one_module words.Module
+module_comes p ts rest comes =
+    next_word_taken one_module words.Module
     (plain_name ∷ perhaps_header_parameters ∷ perhaps_ports ∷ punctuation signs.Semicolon ∷
-    items ∷ []) ts rest refl comes
+    items ∷ []) ts rest refl p comes
+
+-- a header is read up to its ports
+pub header_comes : (p : Place) (ts named listed rest : List Placed) →
+    word_at words.Module p ts named → Reads (outer plain_name ∷ []) [] named listed →
+    Reads (outer perhaps_header_parameters ∷ []) [] listed rest →
+    Reads (outer one_module ∷ [])
+    (outside_on (perhaps_ports ∷ punctuation signs.Semicolon ∷ items ∷ [])) ts rest
+header_comes p ts named listed rest comes name parameters =
+    reads_then _ _ _ ts named rest (module_comes p ts named comes)
+    (and_read _ _ _ named listed rest name (front_read _ _ listed rest parameters))
 
 pub process_comes : (p : Place) (ts rest : List Placed) → word_at words.Always p ts rest →
     Reads (outer items ∷ [])

@@ -333,8 +333,7 @@ pub fn read_wires<'a>(alloc: Global, input: Input<'a>) -> Read<'a, Vec<Item>>
         HaltsOn result input.entry (items ∷ []) }
 {
     let (wires, rest) = read_list::<Wires>(alloc, input, 0)?;
-    let items = declared(alloc, wires)?;
-    Ok((items, rest))
+    Ok((declared(alloc, wires)?, rest))
 }
 
 /// Registers behind the first, which is read already.

@@ -336,6 +336,5 @@ pub fn read_instances<'a>(alloc: Global, input: Input<'a>) -> Read<'a, Vec<Item>
     ensures halts { NextIsAnyName (placed input.entry) → HaltsOn result input.entry (items ∷ []) }
 {
     let (instances, rest) = read_list::<Instances>(alloc, input, 0)?;
-    let items = as_items(alloc, instances)?;
-    Ok((items, rest))
+    Ok((as_items(alloc, instances)?, rest))
 }

@@ -251,6 +251,5 @@ pub fn read_params<'a>(alloc: Global, input: Input<'a>) -> Read<'a, Vec<Item>>
         HaltsOn result input.entry (items ∷ []) }
 {
     let (params, rest) = read_list::<Params>(alloc, input, 0)?;
-    let items = declared(alloc, params)?;
-    Ok((items, rest))
+    Ok((declared(alloc, params)?, rest))
 }

@@ -12,7 +12,7 @@ use Rattle.sv_parse.proofs.declarations.read_wires.Goals as goal
 pub returns-clause-is : goal.returns-clause-is
 returns-clause-is c = (
   map declaration_tree c.in_ok-wires.wires.items,
-  c.in_ok-items.ensures,
+  c.in_ok-declared.ensures,
   wires_are _ _ _ c.in_ok-wires.ensures.is,
 )
 

@@ -9,7 +9,7 @@ use Rattle.sv_token.specs.declared.signs.SignKind.TheVariants as signs
 use Rattle.sv_parse.proofs.instances.read_instances.Goals as goal
 
 pub returns-clause-is : goal.returns-clause-is
-returns-clause-is c = (_, c.in_ok-items.ensures, c.in_ok-instances.ensures.is)
+returns-clause-is c = (_, c.in_ok-as_items.ensures, c.in_ok-instances.ensures.is)
 
 pub returns-in_err-instances-clause-halts : goal.returns-in_err-instances-clause-halts
 returns-in_err-instances-clause-halts c = λ any.

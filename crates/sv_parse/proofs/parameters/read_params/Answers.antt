@@ -8,7 +8,7 @@ use Rattle.sv_parse_machine.proofs.ReadLists.{ends_more_parameters}
 use Rattle.sv_parse.proofs.parameters.read_params.Goals as goal
 
 pub returns-clause-is : goal.returns-clause-is
-returns-clause-is c = (_, c.in_ok-items.ensures, c.in_ok-params.ensures.is)
+returns-clause-is c = (_, c.in_ok-declared.ensures, c.in_ok-params.ensures.is)
 
 pub returns-in_err-params-clause-halts : goal.returns-in_err-params-clause-halts
 returns-in_err-params-clause-halts c =

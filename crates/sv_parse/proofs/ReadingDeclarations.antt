@@ -17,6 +17,7 @@ use Rattle.sv_ast.specs.GrammarDeclarations.{parameter_word, AreAlike, IsPortKin
 use Rattle.sv_ast.specs.GrammarDeclarations.{IsPort, IsSignalKind, IsSignalValue, IsNamedSignal}
 use Rattle.sv_ast.specs.GrammarDeclarations.{IsSignal, AreSignals, IsMemoryLabel, IsMemory}
 use Rattle.sv_ast.specs.GrammarRules.{all_limits}
+use Rattle.sv_parse_machine.proofs.TreeParts.{declared_tree}
 use Rattle.sv_parse.specs.Reading.{IsTableEnd, IsOpenLabel, IsTypedAs, IsTypeOf, IsOutputEnd}
 use Rattle.sv_parse.specs.Reading.{IsNamedAs, IsTypedPort, IsWireAs, IsParameterAs}
 use Rattle.sv_parse.specs.Reading.{IsTypedParameter}
@@ -128,15 +129,7 @@ pub named_as :
     (kind : DeclKind) (signed : Bool) (span : Option SpanTree) (label : Option LabelTree)
     (x : List ℕ) (p : Place)
     (d : DeclarationTree) (ts rest : List Placed) →
-    d ≡ record {
-      kind = kind;
-      signed = signed;
-      span = span;
-      label = label;
-      name = x;
-      place = p;
-      value = None;
-    } →
+    d ≡ declared_tree kind signed span label x p None →
     name_at x p ts rest → IsNamedAs kind signed span label d ts rest
 named_as kind signed span label x p d ts rest eq h =
     subst (λ (e : DeclarationTree).
@@ -181,15 +174,7 @@ pub wire_as :
     (signed : Bool) (span : Option SpanTree) (label : Option LabelTree) (x : List ℕ) (p : Place)
     (value : Option ExpressionTree)
     (d : DeclarationTree) (ts a rest : List Placed) →
-    d ≡ record {
-      kind = kinds.Wire;
-      signed = signed;
-      span = span;
-      label = label;
-      name = x;
-      place = p;
-      value = value;
-    } →
+    d ≡ declared_tree kinds.Wire signed span label x p value →
     name_at x p ts a → perhaps (equals all_limits) value a rest →
     IsWireAs signed span label d ts rest
 wire_as signed span label x p value d ts a rest eq name h =
@@ -372,15 +357,7 @@ memory_is signed span l x p m ts a b c rest word typed name may h =
 pub first_register_is :
     (signed : Bool) (span : Option SpanTree) (l : RegLabel) (x : List ℕ) (p : Place)
     (d : DeclarationTree) (ts a b c : List Placed) →
-    d ≡ record {
-      kind = kinds.Reg;
-      signed = signed;
-      span = span;
-      label = signal_label_of l;
-      name = x;
-      place = p;
-      value = None;
-    } →
+    d ≡ declared_tree kinds.Reg signed span (signal_label_of l) x p None →
     a_word words.Reg ts a → IsRegType signed span l a b → name_at x p b c → MayBeSignal l →
     IsSignal all_limits d ts c
 first_register_is signed span l x p d ts a b c eq word typed name may =

@@ -487,6 +487,8 @@ module _ (signals : List SignalForm) where
     runs_agree (after first second) before later now1 now2 sound blocking owned ready agrees =
         let mid = either (always_assigns first) before in
         let late = either (can_assign second) later in
+        let in_first = readings signals first before late in
+        let in_second = readings signals second mid later in
         weaken (either (always_assigns (after first second)) before)
         (either (always_assigns second) mid)
         (run signals (after first second) now1).0 (run signals (after first second) now2).0
@@ -495,16 +497,12 @@ module _ (signals : List SignalForm) where
         (second_of (statement_sound signals first) (statement_sound signals second) sound)
         (second_of (all_blocking first) (all_blocking second) blocking)
         (λ t h. owned t (or_right (assigns first t) (assigns second t) h))
-        (λ r at.
-        ready r (Contains-right (readings signals first before late)
-        (readings signals second mid later) r at))
+        (λ r at. ready r (Contains-right in_first in_second r at))
         (runs_agree first before late now1 now2
         (first_of (statement_sound signals first) (statement_sound signals second) sound)
         (first_of (all_blocking first) (all_blocking second) blocking)
         (λ t h. owned t (or_left (assigns first t) (assigns second t) h))
-        (λ r at.
-        ready r (Contains-left (readings signals first before late)
-        (readings signals second mid later) r at))
+        (λ r at. ready r (Contains-left in_first in_second r at))
         agrees))
     runs_agree (assign pieces place true right) before later now1 now2 sound blocking owned ready
         agrees =

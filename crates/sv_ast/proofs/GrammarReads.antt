@@ -124,9 +124,9 @@ at_lexeme t ts e = ap (λ x. record { lexeme = x; place = t.place } ∷ ts) e
 -- the lexeme that a test finds
 abbrev pub read_exact : (x : Lexeme) → ((y : Lexeme) → Option (y ≡ x)) → (ts : List Placed) →
     Reads (lexeme_at x) ts
-read_exact x as [] = None
-read_exact x as (t ∷ ts) = do
-  e ← as t.lexeme
+read_exact x test [] = None
+read_exact x test (t ∷ ts) = do
+  e ← test t.lexeme
   Some (t.place, ts, at_lexeme t ts e)
 
 abbrev pub without_place : {P : Place → Form} (ts : List Placed) → Reads P ts →

@@ -71,9 +71,6 @@ module _ (text : TextTree) (top : Option (List ℕ)) (design : FlatDesign)
   abbrev toward : ℕ → Path
   toward = path_to text top design side
 
-  abbrev Joins : Environment ℕ → Environment Path → Type 0
-  Joins e g = Agree (flat_system design) second toward e g
-
   -- a run of the source, where it sees no clock
   abbrev pub seen_run : Run Path → Run Path
   seen_run = unclocked_run (text_clocks text top)

@@ -214,13 +214,18 @@ module _ (names : Names) (signals : List SignalForm) (numbering : IsNumbering na
           (chosen_same (is_complete names.scope e (arm_items arms) length signedness) refl
           (default_of found) d))
 
+  -- both runs keep what is the same
+  abbrev RunSame : FlatStatement → (Running → Running) → Type 0
+  RunSame f run_source =
+      (flat : Environment ℕ × Updates) (source : Running) → AreSame names flat source
+      → AreSame names (run signals f flat) (run_source source)
+
   mutual
     unfolding source_run run_each run_arms run_default statement_walk statements_walk
 
     pub statement_same : (statement : StatementTree) (f : FlatStatement)
         → (statement_walk names statement).end ≡ Ok f → SelectorsFit statement
-        → (flat : Environment ℕ × Updates) (source : Running) → AreSame names flat source
-        → AreSame names (run signals f flat) (source_run names.scope statement source)
+        → RunSame f (source_run names.scope statement)
     statement_same null f h fit flat source before =
         let is : nothing ≡ f = cc h in
         subst (λ (g : FlatStatement). AreSame names (run signals g flat) source) is before
@@ -270,8 +275,7 @@ module _ (names : Names) (signals : List SignalForm) (numbering : IsNumbering na
 
     statements_same : (ss : StatementTrees) (f : FlatStatement)
         → (statements_walk names ss).end ≡ Ok f → SelectorsFitIn ss
-        → (flat : Environment ℕ × Updates) (source : Running) → AreSame names flat source
-        → AreSame names (run signals f flat) (run_each names.scope ss source)
+        → RunSame f (run_each names.scope ss)
     statements_same no_statements f h fit flat source before =
         let is : nothing ≡ f = cc h in
         subst (λ (g : FlatStatement). AreSame names (run signals g flat) source) is before

@@ -536,9 +536,7 @@ module _ (signals : List SignalForm) where
         ready r (Contains-left (here ++ in_first) in_second r
         (Contains-left here in_first r at)))
         target.1 target.2 agrees))
-        (weaken (either (always_assigns whole) before) (either (always_assigns first) before)
-        (run signals first now1).0
-        (run signals first now2).0
+        (weaken (either (always_assigns whole) before) (either (always_assigns first) before) _ _
         (λ t b h. both_or_first (always_assigns first t b) (always_assigns second t b)
         (before t b) h)
         (runs_agree first before later now1 now2
@@ -549,9 +547,7 @@ module _ (signals : List SignalForm) where
         ready r (Contains-left (here ++ in_first) in_second r
         (Contains-right here in_first r at)))
         agrees))
-        (weaken (either (always_assigns whole) before) (either (always_assigns second) before)
-        (run signals second now1).0
-        (run signals second now2).0
+        (weaken (either (always_assigns whole) before) (either (always_assigns second) before) _ _
         (λ t b h. both_or_second (always_assigns first t b) (always_assigns second t b)
         (before t b) h)
         (runs_agree second before later now1 now2

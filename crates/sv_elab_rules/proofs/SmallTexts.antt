@@ -207,6 +207,10 @@ span h l = record { high = h; low = l }
 abbrev pub text_of : Option LatticeTree → List MapTree → List ModuleTree → TextTree
 text_of l maps modules = record { lattice = l; maps = maps; modules = modules }
 
+-- a text of the module `m` alone
+abbrev pub alone : List DeclarationTree → List ItemTree → TextTree
+alone ports items = text_of None [] (module_of "m" 8 [] ports items ∷ [])
+
 -- a walk ends at that step of line 1
 abbrev pub breaks : (rule column : ℕ) → List String → Result FlatDesign WalkStep
 breaks rule c names = Err (step rule (at c) (map codes names))
@@ -219,7 +223,7 @@ Breaks rule column names text = (walk_of text None).end ≡ breaks rule column n
 abbrev pub ModuleBreaks : (rule column : ℕ) → List String → List DeclarationTree → List ItemTree →
     Type 0
 ModuleBreaks rule column names ports items =
-    Breaks rule column names (text_of None [] (module_of "m" 8 [] ports items ∷ []))
+    Breaks rule column names (alone ports items)
 
 -- and of a text of that module and another one
 abbrev pub ModulesBreak : (rule column : ℕ) → List String → List DeclarationTree → List ItemTree →

@@ -29,7 +29,7 @@ use Rattle.sv_width.specs.Measured.{measured_name, measured_of, measured_parts}
 use Rattle.sv_width.specs.Pushed.{behind, behind_times, joined_width, folded_of, joined_from}
 use Rattle.sv_width.proofs.Sound.{Sound, SoundParts}
 use Rattle.sv_width.proofs.SameValue.{result_at, either}
-use Rattle.sv_width.proofs.Lengths.{KnownIn, own_length, count_inside}
+use Rattle.sv_width.proofs.Lengths.{KnownIn, three_parts, own_length, count_inside}
 use Rattle.sv_width.proofs.WellFormed.{reduced_low, operand_lengths, kept_length}
 use Rattle.sv_width.proofs.Low.{one_low, bit_low, unary_low, binary_low, odd_low}
 
@@ -102,15 +102,14 @@ module _ (names : Names) (lengths : HaveLengths names.scope) where
         (value_low c known a q.0 shapes.0 numbers.0 _ _ stand.1 stand.0)
         (value_low c known b q.1 shapes.1 numbers.1 _ _ stand.3 stand.2))
     value_low c known (choice p d a b) q shape numbers n s fits is =
-        let outer = and_parts (is_shaped_expression d && is_shaped_expression a)
+        let shapes = three_parts (is_shaped_expression d) (is_shaped_expression a)
         (is_shaped_expression b) shape in
-        let inner = and_parts (is_shaped_expression d) (is_shaped_expression a) outer.0 in
         let left : length_of names.scope a ≤ n = omega arith in
         let right : length_of names.scope b ≤ n = omega arith in
         chosen_low (is_true (value names.scope nowhere d (length_of names.scope d)
         (signed_of names.scope d))) _ _ (2 ^ n)
-        (value_low c known a q.1 inner.1 numbers.1 n s left is)
-        (value_low c known b q.2 outer.1 numbers.2 n s right is)
+        (value_low c known a q.1 shapes.1 numbers.1 n s left is)
+        (value_low c known b q.2 shapes.2 numbers.2 n s right is)
     value_low c known (join p es) q shape numbers n s fits is =
         let shapes = and_parts (has_part es) (are_shaped_parts es) shape in
         let more : 2 ^ joined_length names.scope es ≤ 2 ^ n = pow_mono fits in
@@ -302,10 +301,9 @@ module _ (names : Names) (lengths : HaveLengths names.scope) where
         ∙ result_at op n s (operand la sa (value names.scope nowhere a))
         (operand lb sb (value names.scope nowhere b))
     folded_same c known (choice p d a b) q shape numbers n s fits is =
-        let outer = and_parts (is_shaped_expression d && is_shaped_expression a)
+        let shapes = three_parts (is_shaped_expression d) (is_shaped_expression a)
         (is_shaped_expression b) shape in
-        let inner = and_parts (is_shaped_expression d) (is_shaped_expression a) outer.0 in
-        let own = own_length names lengths c known d q.0 inner.0 numbers.0 in
+        let own = own_length names lengths c known d q.0 shapes.0 numbers.0 in
         let left : length_of names.scope a ≤ n = omega arith in
         let right : length_of names.scope b ≤ n = omega arith in
         let A : ℕ = folded_of (measured_of names a) n s in
@@ -313,16 +311,16 @@ module _ (names : Names) (lengths : HaveLengths names.scope) where
         ap (λ x. if is_true x then A else B)
         (ap (λ (o : OwnForm).
         folded_of (measured_of names d) o.width o.signed) (own_measured names d)
-        ∙ folded_same c known d q.0 inner.0 numbers.0 (length_of names.scope d)
+        ∙ folded_same c known d q.0 shapes.0 numbers.0 (length_of names.scope d)
         (signed_of names.scope d) (omega arith) own)
         ∙ ap (λ x. if is_true
         (value names.scope nowhere d (length_of names.scope d) (signed_of names.scope d))
         then x else B)
-        (folded_same c known a q.1 inner.1 numbers.1 n s left is)
+        (folded_same c known a q.1 shapes.1 numbers.1 n s left is)
         ∙ ap (λ x. if is_true
         (value names.scope nowhere d (length_of names.scope d) (signed_of names.scope d))
         then value names.scope nowhere a n s else x)
-        (folded_same c known b q.2 outer.1 numbers.2 n s right is)
+        (folded_same c known b q.2 shapes.2 numbers.2 n s right is)
     folded_same c known (join p es) q shape numbers n s fits is =
         let shapes = and_parts (has_part es) (are_shaped_parts es) shape in
         let more : 2 ^ joined_length names.scope es ≤ 2 ^ n = pow_mono fits in
@@ -332,8 +330,8 @@ module _ (names : Names) (lengths : HaveLengths names.scope) where
         (zero_sum (2 ^ joined_length names.scope es) (joined_value names.scope nowhere es))
         ∙ mod-eq_of_lt (omega (arith, more, low))
     folded_same c known (replication p k es) q shape numbers n s fits is =
-        let outer = and_parts (is_shaped_expression k && has_part es) (are_shaped_parts es) shape in
-        let inner = and_parts (is_shaped_expression k) (has_part es) outer.0 in
+        let shapes = three_parts (is_shaped_expression k) (has_part es)
+        (are_shaped_parts es) shape in
         let times : ℕ = natural (whole_number names.scope k) in
         let J : ℕ = joined_length names.scope es in
         let V : ℕ = joined_value names.scope nowhere es in
@@ -341,13 +339,13 @@ module _ (names : Names) (lengths : HaveLengths names.scope) where
         let once : J ≤ times * J = one_of_many times J count.0 in
         let fits_once : J ≤ n = omega (arith, once, fits) in
         let more : 2 ^ J ≤ 2 ^ n = pow_mono fits_once in
-        let low = parts_low names lengths c known es q.2 outer.1 numbers.1 in
+        let low = parts_low names lengths c known es q.2 shapes.2 numbers.1 in
         let whole : 2 ^ (times * J) ≤ 2 ^ n = pow_mono fits in
         let all_low = repeated_low times J V low in
         ap (λ x. behind_times n times x (joined_from (measured_parts names es) n 0))
         (joined_measured names es)
         ∙ ap (λ x. behind_times n times J x)
-        (joined_same c known es q.2 outer.1 numbers.1 n 0 (pow_pos n)
+        (joined_same c known es q.2 shapes.2 numbers.1 n 0 (pow_pos n)
         ∙ ap (λ x. x % 2 ^ n) (zero_sum (2 ^ J) V)
         ∙ mod-eq_of_lt (omega (arith, more, low)))
         ∙ behind_times_same n times J V

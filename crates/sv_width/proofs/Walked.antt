@@ -40,7 +40,7 @@ use Rattle.sv_width.specs.Pushed.{nodes_in, left_at, left_as, right_at, right_as
 use Rattle.sv_width.proofs.Sound.{Sound, SoundParts}
 use Rattle.sv_width.proofs.SameValue.{either, typed_reduction, typed_unary, typed_division}
 use Rattle.sv_width.proofs.SameValue.{typed_binary}
-use Rattle.sv_width.proofs.Lengths.{KnownIn, own_length, open_place}
+use Rattle.sv_width.proofs.Lengths.{KnownIn, three_parts, own_length, open_place}
 use Rattle.sv_width.proofs.WellFormed.{operand_lengths, kept_length}
 use Rattle.sv_width.proofs.Constants.{own_measured, folded_same}
 
@@ -264,10 +264,9 @@ module _ (names : Names) (lengths : HaveLengths names.scope) where
         (typed_same c known b q.1 shapes.1 numbers.1 RL RS stand.3 stand.2)
         ∙ sym (typed_binary names p n s op a b h))
     typed_same c known (choice p d a b) q shape numbers n s fits is =
-        let outer = and_parts (is_shaped_expression d && is_shaped_expression a)
+        let shapes = three_parts (is_shaped_expression d) (is_shaped_expression a)
         (is_shaped_expression b) shape in
-        let inner = and_parts (is_shaped_expression d) (is_shaped_expression a) outer.0 in
-        let own = own_length names lengths c known d q.0 inner.0 numbers.0 in
+        let own = own_length names lengths c known d q.0 shapes.0 numbers.0 in
         let left : length_of names.scope a ≤ n = omega arith in
         let right : length_of names.scope b ≤ n = omega arith in
         ap (λ t. typed n s (flat.choice p t (typed n s (node_of (measured_of names a) n s))
@@ -275,16 +274,16 @@ module _ (names : Names) (lengths : HaveLengths names.scope) where
         (ap (λ (o : OwnForm).
         typed o.width o.signed (node_of (measured_of names d) o.width o.signed))
         (own_measured names d)
-        ∙ typed_same c known d q.0 inner.0 numbers.0 (length_of names.scope d)
+        ∙ typed_same c known d q.0 shapes.0 numbers.0 (length_of names.scope d)
         (signed_of names.scope d) (omega arith) own)
         ∙ ap (λ t. typed n s
         (flat.choice p (typed_of names d (length_of names.scope d) (signed_of names.scope d)) t
         (typed n s (node_of (measured_of names b) n s))))
-        (typed_same c known a q.1 inner.1 numbers.1 n s left is)
+        (typed_same c known a q.1 shapes.1 numbers.1 n s left is)
         ∙ ap (λ t. typed n s
         (flat.choice p (typed_of names d (length_of names.scope d) (signed_of names.scope d))
         (typed_of names a n s) t))
-        (typed_same c known b q.2 outer.1 numbers.2 n s right is)
+        (typed_same c known b q.2 shapes.2 numbers.2 n s right is)
     typed_same c known (join p es) q shape numbers n s fits is =
         let shapes = and_parts (has_part es) (are_shaped_parts es) shape in
         ap (λ t. typed n s (flat.join t)) (parts_same c known es q.0 shapes.1 numbers)
@@ -396,21 +395,20 @@ module _ (names : Names) (lengths : HaveLengths names.scope) where
         ∙ ap (λ k. value names.scope nowhere b (right_length k n la lb) (right_signed k s sa sb))
         (division_class op h))))
     divisors_same c known (choice p d a b) q shape numbers n s fits is =
-        let outer = and_parts (is_shaped_expression d && is_shaped_expression a)
+        let shapes = three_parts (is_shaped_expression d) (is_shaped_expression a)
         (is_shaped_expression b) shape in
-        let inner = and_parts (is_shaped_expression d) (is_shaped_expression a) outer.0 in
-        let own = own_length names lengths c known d q.0 inner.0 numbers.0 in
+        let own = own_length names lengths c known d q.0 shapes.0 numbers.0 in
         let D : MeasuredTree = measured_of names d in
         let left : length_of names.scope a ≤ n = omega arith in
         let right : length_of names.scope b ≤ n = omega arith in
         ends_same (divisors_of D (own_form D).width (own_form D).signed)
         (divisors names.scope d (length_of names.scope d) (signed_of names.scope d)) _ _
         (ap (λ (o : OwnForm). (divisors_of D o.width o.signed).end) (own_measured names d)
-        ∙ divisors_same c known d q.0 inner.0 numbers.0 (length_of names.scope d)
+        ∙ divisors_same c known d q.0 shapes.0 numbers.0 (length_of names.scope d)
         (signed_of names.scope d) (omega arith) own)
         (ends_same (divisors_of (measured_of names a) n s) (divisors names.scope a n s) _ _
-        (divisors_same c known a q.1 inner.1 numbers.1 n s left is)
-        (divisors_same c known b q.2 outer.1 numbers.2 n s right is))
+        (divisors_same c known a q.1 shapes.1 numbers.1 n s left is)
+        (divisors_same c known b q.2 shapes.2 numbers.2 n s right is))
     divisors_same c known (join p es) q shape numbers n s fits is =
         let shapes = and_parts (has_part es) (are_shaped_parts es) shape in
         part_divisors_same c known es q.0 shapes.1 numbers

@@ -43,7 +43,7 @@ use Rattle.sv_width.proofs.Sound.{Sound, SoundParts}
 use Rattle.sv_width.proofs.SameValue.{type_of_typed, typed_reduction, typed_unary, typed_division}
 use Rattle.sv_width.proofs.SameValue.{typed_binary, parts_width_of, result_at, reached, meant}
 use Rattle.sv_width.proofs.SameValue.{either}
-use Rattle.sv_width.proofs.Lengths.{own_length, part_inside, count_inside}
+use Rattle.sv_width.proofs.Lengths.{three_parts, own_length, part_inside, count_inside}
 
 pub reduced_low : (n : ℕ) (z : ℤ) → reduced n z < 2 ^ n
 reduced_low n (pos a) = mod_below a (2 ^ n) (pow_pos n)
@@ -262,16 +262,15 @@ module _ (names : Names) (declared : AllDeclared names) (lengths : HaveLengths n
         (typed_formed c b q.1 shapes.1 numbers.1 _ _ stand.3 stand.2)
         (is_length_test n is)
     typed_formed c (choice p d a b) q shape numbers n s fits is =
-        let outer = and_parts (is_shaped_expression d && is_shaped_expression a)
+        let shapes = three_parts (is_shaped_expression d) (is_shaped_expression a)
         (is_shaped_expression b) shape in
-        let inner = and_parts (is_shaped_expression d) (is_shaped_expression a) outer.0 in
         let left : length_of names.scope a ≤ n = omega arith in
         let right : length_of names.scope b ≤ n = omega arith in
         and_from (is_one_to 64 n) _ (is_length_test n is)
         (all_of_five _ _ _ _ _ (pushed_type names a n s) (pushed_type names b n s)
-        (alone c d q.0 inner.0 numbers.0 (typed_formed c d q.0 inner.0 numbers.0))
-        (typed_formed c a q.1 inner.1 numbers.1 n s left is)
-        (typed_formed c b q.2 outer.1 numbers.2 n s right is))
+        (alone c d q.0 shapes.0 numbers.0 (typed_formed c d q.0 shapes.0 numbers.0))
+        (typed_formed c a q.1 shapes.1 numbers.1 n s left is)
+        (typed_formed c b q.2 shapes.2 numbers.2 n s right is))
     typed_formed c (join p es) q shape numbers n s fits is =
         let shapes = and_parts (has_part es) (are_shaped_parts es) shape in
         and_from (is_one_to 64 n) _ (is_length_test n is)

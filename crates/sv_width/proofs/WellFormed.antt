@@ -42,8 +42,8 @@ use Rattle.sv_width.specs.Agreement.{NumbersHaveLengths, PartsHaveLengths}
 use Rattle.sv_width.proofs.Sound.{Sound, SoundParts}
 use Rattle.sv_width.proofs.SameValue.{type_of_typed, typed_reduction, typed_unary, typed_division}
 use Rattle.sv_width.proofs.SameValue.{typed_binary, parts_width_of, result_at, reached, meant}
-use Rattle.sv_width.proofs.SameValue.{either}
-use Rattle.sv_width.proofs.Lengths.{three_parts, own_length, part_inside, count_inside}
+use Rattle.sv_width.proofs.SameValue.{either, left_standing, right_standing}
+use Rattle.sv_width.proofs.Lengths.{KnownIn, three_parts, own_length, part_inside, count_inside}
 
 pub reduced_low : (n : ℕ) (z : ℤ) → reduced n z < 2 ^ n
 reduced_low n (pos a) = mod_below a (2 ^ n) (pow_pos n)
@@ -114,6 +114,23 @@ operand_lengths Compare n a b p q r h =
     ((omega arith, omega arith), omega arith, (omega arith, omega arith), omega arith)
 operand_lengths Logical n a b p q r h = (p, omega arith, q, omega arith)
 operand_lengths Shift n a b p q r h = (r, h, q, omega arith)
+
+-- so sound operands stand
+pub both_stand : (names : Names) → HaveLengths names.scope → (c : Bool) → KnownIn names c
+    → (op : BinOp) (a b : ExpressionTree) → Sound names c a × Sound names c b
+    → IsTrue (is_shaped_expression a) × IsTrue (is_shaped_expression b)
+    → NumbersHaveLengths a × NumbersHaveLengths b
+    → (n : ℕ) (s : Bool)
+    → binary_length (class_of op) (length_of names.scope a) (length_of names.scope b) ≤ n
+    → IsLength n
+    → IsLength (left_standing names op a b n s).length
+    × (length_of names.scope a ≤ (left_standing names op a b n s).length)
+    × IsLength (right_standing names op a b n s).length
+    × (length_of names.scope b ≤ (right_standing names op a b n s).length)
+both_stand names lengths c known op a b q shapes numbers n s fits is =
+    operand_lengths (class_of op) n (length_of names.scope a) (length_of names.scope b)
+    (own_length names lengths c known a q.0 shapes.0 numbers.0)
+    (own_length names lengths c known b q.1 shapes.1 numbers.1) is fits
 
 -- the operands have the types that the operator gives them
 operands_typed : (names : Names) (c : OpClass) (n : ℕ) (s : Bool) (a b : ExpressionTree) (la lb : ℕ)

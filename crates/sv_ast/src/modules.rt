@@ -162,16 +162,6 @@ impl Text {
     }
 }
 
-impl Copied for Overrides {
-    ghost Plain = { OverrideTrees };
-
-    ghost plain = { override_trees };
-
-    fn copy(&self, alloc: Global) -> Result<Overrides, AllocError> {
-        Overrides::copy(self, alloc)
-    }
-}
-
 impl Copied for Links {
     ghost Plain = { LinkTrees };
 

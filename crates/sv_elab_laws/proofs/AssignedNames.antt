@@ -19,7 +19,7 @@ use Rattle.sv_ast.specs.Instances.{is_empty, is_signal}
 use Rattle.sv_ast.specs.Reach.{holds}
 use Rattle.sv_ast.specs.Runs.{targets_width, assigned, assigned_in, assigned_by}
 use Rattle.sv_flat.specs.Design.{SignalForm, TypedTree, PieceForm, FlatStatement, nothing, after}
-use Rattle.sv_flat.specs.Design.{assign, branch}
+use Rattle.sv_flat.specs.Design.{assign}
 use Rattle.sv_flat.specs.Assigned.{assigns}
 use Rattle.sv_flat.proofs.LeastSets.{from_some}
 use Rattle.sv_elab_rules.specs.Names.{Names}

@@ -5,14 +5,13 @@ use Rattle.std.specs.Prelude.{not, ◌==◌, flat_map, filter, Contains, IsTrue}
 use Rattle.std.specs.List.{list_any, AllZip}
 use Rattle.std.proofs.lemmas.Bool.{and_left, ltb-true}
 use Rattle.std.proofs.lemmas.List.{map-append}
-use Rattle.sv_system.specs.System.{System, Environment, last_update}
-use Rattle.sv_system.specs.Joining.{Agree}
+use Rattle.sv_system.specs.System.{Environment, last_update}
 use Rattle.sv_system.proofs.Lists.{Contains-head, Contains-later}
 use Rattle.sv_system.proofs.Lists.{Contains-from_map}
 use Rattle.sv_ast.specs.Tree.{StatementTree, TextTree}
 use Rattle.sv_ast.specs.Instances.{is_signal}
 use Rattle.sv_ast.specs.Runs.{run as source_run}
-use Rattle.sv_ast.specs.Parts.{Path, same_path, Part, within, parts, PartSignal, signal_path}
+use Rattle.sv_ast.specs.Parts.{Path, same_path, Part, within, parts, signal_path}
 use Rattle.sv_ast.specs.Parts.{PortLink}
 use Rattle.sv_ast.specs.Processes.{Process, combinational, clocked, linking, processes, values_in}
 use Rattle.sv_ast.specs.Processes.{updates_by, updates_of, links_one_of}

@@ -10,7 +10,7 @@ use Rattle.std.proofs.lemmas.Bool.{false≢true, both_ways, and_parts, and_from,
 use Rattle.std.proofs.lemmas.Bool.{or_left, or_cases, eqb-true, eq-eqb, cond-false}
 use Rattle.std.proofs.lemmas.Bool.{ltb-true, false_from_ne_true, not-true}
 use Rattle.sv_system.specs.System.{System, Environment, Run, put}
-use Rattle.sv_system.specs.Joining.{Agree, SameRun}
+use Rattle.sv_system.specs.Joining.{SameRun}
 use Rattle.sv_system.proofs.Lists.{Contains-head, Contains-later, Contains-map}
 use Rattle.sv_system.proofs.Lists.{Contains-filter}
 use Rattle.sv_ast.specs.Scopes.{width_of}

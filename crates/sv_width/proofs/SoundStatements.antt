@@ -21,7 +21,7 @@ use Rattle.sv_ast.specs.Shape.{is_shaped_statement, are_shaped_statements, has_a
 use Rattle.sv_ast.specs.Shape.{are_shaped_arms}
 use Rattle.sv_ast.specs.Values.{natural, length_of, joined_length, signed_of, whole_number}
 use Rattle.sv_flat.specs.Design.{SignalForm, TypedTree, typed, binary, FlatStatement, nothing}
-use Rattle.sv_flat.specs.Design.{after, assign, branch}
+use Rattle.sv_flat.specs.Design.{after, assign}
 use Rattle.sv_flat.specs.Values.{signal_width, expression_width, expression_signed}
 use Rattle.sv_flat.specs.Soundness.{is_whole as is_whole_piece, is_part_of, piece_fits, well_formed}
 use Rattle.sv_flat.specs.Soundness.{statement_sound, is_signal as is_number_of_signal}

@@ -1,11 +1,10 @@
 use Rattle.std.proofs.Common.{◌≡◌, Bool, true, false, sym, ap, subst, ◌∙◌}
-use Rattle.std.specs.Prelude.{Option, option_map, Ok, Err}
+use Rattle.std.specs.Prelude.{Ok, Err}
 use Rattle.sv_ast.specs.Tree.{named}
 use Rattle.sv_elab_rules.specs.Rules.{not_constant}
 use Rattle.sv_elab_rules.specs.ExpressionSteps.{asked}
-use Rattle.sv_width.specs.declared.meanings.Meaning.{Meaning}
 use Rattle.sv_width.specs.Measured as measured
-use Rattle.sv_width.specs.Scopes.{binding_of, number_of, signal_number}
+use Rattle.sv_width.specs.Scopes.{number_of, signal_number}
 use Rattle.sv_width.specs.Settings.{names_in, is_constant}
 use Rattle.sv_width.proofs.Named.{stands_for, number_at, later_constant, parameter_asked}
 use Rattle.sv_width.proofs.Named.{parameter_measured, signal_asked, signal_refused, signal_measured}

@@ -519,6 +519,10 @@ module _ (signals : List SignalForm) where
         (either (can_assign whole) later) in
         let in_first = readings signals first before later in
         let in_second = readings signals second before later in
+        let first1 = run signals first now1 in
+        let first2 = run signals first now2 in
+        let second1 = run signals second now1 in
+        let second2 = run signals second now2 in
         let front = first_of (well_formed signals condition && statement_sound signals first)
         (statement_sound signals second) sound in
         ⊎_elim
@@ -527,8 +531,7 @@ module _ (signals : List SignalForm) where
         same_arm (is_true (value signals now1.0 condition))
         (is_true (value signals now2.0 condition))
         (either (always_assigns whole) before)
-        (run signals first now1) (run signals second now1) (run signals first now2)
-        (run signals second now2)
+        first1 second1 first2 second2
         (ap is_true (right_same condition (assigns whole) before (either (can_assign whole) later)
         target.0 now1.0 now2.0
         (first_of (well_formed signals condition) (statement_sound signals first) front)
@@ -536,7 +539,8 @@ module _ (signals : List SignalForm) where
         ready r (Contains-left (here ++ in_first) in_second r
         (Contains-left here in_first r at)))
         target.1 target.2 agrees))
-        (weaken (either (always_assigns whole) before) (either (always_assigns first) before) _ _
+        (weaken (either (always_assigns whole) before) (either (always_assigns first) before)
+        first1.0 first2.0
         (λ t b h. both_or_first (always_assigns first t b) (always_assigns second t b)
         (before t b) h)
         (runs_agree first before later now1 now2
@@ -547,7 +551,8 @@ module _ (signals : List SignalForm) where
         ready r (Contains-left (here ++ in_first) in_second r
         (Contains-right here in_first r at)))
         agrees))
-        (weaken (either (always_assigns whole) before) (either (always_assigns second) before) _ _
+        (weaken (either (always_assigns whole) before) (either (always_assigns second) before)
+        second1.0 second2.0
         (λ t b h. both_or_second (always_assigns first t b) (always_assigns second t b)
         (before t b) h)
         (runs_agree second before later now1 now2

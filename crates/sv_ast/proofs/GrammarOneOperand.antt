@@ -189,8 +189,8 @@ span_clash : (e : Written) → IsOne IsAny ends_expression e
     → in_brackets (IsWritten k m g ⨾ a_sign signs.Colon ⨾ IsWritten k m h) ts s → ⊥
 span_clash e one l k n m g h ts r s first second =
     let theirs = second.2.1 in
-    let clash = one_end signs.CloseBracket signs.Colon refl refl e one l k n m g first.0 r theirs.2.0
-    first.2
+    let clash = one_end signs.CloseBracket signs.Colon refl refl e one l k n m g first.0 r
+    theirs.2.0 first.2
     (behind_sign signs.OpenBracket (IsWritten k m g ⨾ a_sign signs.Colon) ts first.0 second.0
     theirs.2.0 first.1 second.1 (theirs.0, theirs.1, theirs.2.1)) in
     cc

@@ -154,8 +154,8 @@ module _ (text : TextTree) (top : Option (List ℕ)) (design : FlatDesign)
           let n = v.0.0 in
           subst (λ k. k < length design.signals) (ap (λ (z : ℕ × ℕ). z.0) v.2)
           (number_below text top design side (within p n) (body.names.number n)
-          (number_of_name side.tables (sources_of text top) (parts text top) p body.names body.named n
-          (update_signal v.0 v.1)))
+          (number_of_name side.tables (sources_of text top) (parts text top) p body.names body.named
+          n (update_signal v.0 v.1)))
 
     flat_of : List ProcessForm → Updates
     flat_of fs = flat_map (λ (p : ProcessForm). flat_updates_of design.signals p.body numbers)

@@ -9,7 +9,7 @@ use Rattle.sv_num.specs.declared.faults.Place.{Place}
 use Rattle.sv_token.specs.declared.signs.SignKind.{SignKind}
 use Rattle.sv_token.specs.declared.signs.SignKind.TheVariants as signs
 use Rattle.sv_token.specs.Lexemes.{Lexeme, identifier, numeral, sign, Literal, Placed}
-use Rattle.sv_ast.specs.GrammarForms.{◌⨾◌, name_at, a_sign, in_brackets}
+use Rattle.sv_ast.specs.GrammarForms.{Form, ◌⨾◌, name_at, a_sign, in_brackets}
 use Rattle.sv_ast.specs.GrammarGroups.{Written, literal, named, bit_of, part_of, group, unary}
 use Rattle.sv_ast.specs.GrammarGroups.{binary, choice, join, replication, WrittenList, no_more}
 use Rattle.sv_ast.specs.GrammarGroups.{more, precedence_of, binding}
@@ -116,6 +116,17 @@ one_named x p l k n m v ts r s kind first second ends ends_too =
     operands_of_one_class l k n m (named x p) v ts r s tt kind first second in
     absurd (grind arith)
 
+sign_clash : (o c : SignKind) (ts r s : List Placed) → a_sign o ts r → a_sign c ts s →
+    sign o ≡ sign c
+sign_clash o c ts r s first second =
+    (one_lexeme (sign o) (sign c) first.0 second.0 ts r s first.1 second.1).0
+
+-- what stands behind a sign stands behind it wherever it was read
+behind_sign : (o : SignKind) (P : Form) (ts us vs ws : List Placed) → a_sign o ts us
+    → a_sign o ts vs → P vs ws → P us ws
+behind_sign o P ts us vs ws first second is =
+    subst (λ xs. P xs ws) (sym (one_sign o ts us vs first second)) is
+
 -- an expression between two signs
 one_between : (o c : SignKind) → ends_expression (sign c) ≡ true → (e : Written)
     → IsOne IsAny ends_expression e
@@ -123,9 +134,8 @@ one_between : (o c : SignKind) → ends_expression (sign c) ≡ true → (e : Wr
     → (a_sign o ⨾ IsWritten l n e ⨾ a_sign c) ts r → (a_sign o ⨾ IsWritten k m f ⨾ a_sign c) ts s
     → (e ≡ f) × (r ≡ s)
 one_between o c ends e one l k n m f ts r s first second =
-    let opened : first.0 ≡ second.0 = one_sign o ts first.0 second.0 first.1 second.1 in
-    let inner : (IsWritten k m f ⨾ a_sign c) first.0 s =
-    subst (λ us. (IsWritten k m f ⨾ a_sign c) us s) (sym opened) second.2 in
+    let inner =
+    behind_sign o (IsWritten k m f ⨾ a_sign c) ts first.0 second.0 s first.1 second.1 second.2 in
     let same = one l k n m f first.0 first.2.0 inner.0 tt first.2.1 inner.1
     (next_at ends_expression (sign c) first.2.2.0 first.2.0 r first.2.2.1 ends)
     (next_at ends_expression (sign c) inner.2.0 inner.0 s inner.2.1 ends) in
@@ -138,12 +148,9 @@ one_span : (e f : Written) → IsOne IsAny ends_expression e → IsOne IsAny end
     → in_brackets (IsWritten k m g ⨾ a_sign signs.Colon ⨾ IsWritten k m h) ts s
     → (e ≡ g) × (f ≡ h) × (r ≡ s)
 one_span e f one two l k n m g h ts r s first second =
-    let opened : first.0 ≡ second.0 =
-    one_sign signs.OpenBracket ts first.0 second.0 first.1 second.1 in
-    let others : ((IsWritten k m g ⨾ a_sign signs.Colon ⨾ IsWritten k m h)
-    ⨾ a_sign signs.CloseBracket) first.0 s =
-    subst (λ us. ((IsWritten k m g ⨾ a_sign signs.Colon ⨾ IsWritten k m h)
-    ⨾ a_sign signs.CloseBracket) us s) (sym opened) second.2 in
+    let others =
+    behind_sign signs.OpenBracket ((IsWritten k m g ⨾ a_sign signs.Colon ⨾ IsWritten k m h)
+    ⨾ a_sign signs.CloseBracket) ts first.0 second.0 s first.1 second.1 second.2 in
     let mine = first.2.1 in
     let theirs = others.1 in
     let highs = one l k n m g first.0 mine.0 theirs.0 tt mine.1 theirs.1
@@ -164,25 +171,28 @@ one_span e f one two l k n m g h ts r s first second =
           (subst (λ us. a_sign signs.CloseBracket us s) (sym lows.1) others.2),
     )
 
+-- an expression that is one ends before one sign
+one_end : (c d : SignKind) → ends_expression (sign c) ≡ true → ends_expression (sign d) ≡ true
+    → (e : Written) → IsOne IsAny ends_expression e
+    → (l k : Limits) (n m : ℕ) (f : Written) (ts r s : List Placed)
+    → (IsWritten l n e ⨾ a_sign c) ts r → (IsWritten k m f ⨾ a_sign d) ts s → sign c ≡ sign d
+one_end c d ends ends_too e one l k n m f ts r s first second =
+    let same = one l k n m f ts first.0 second.0 tt first.1 second.1
+    (next_at ends_expression (sign c) first.2.0 first.0 r first.2.1 ends)
+    (next_at ends_expression (sign d) second.2.0 second.0 s second.2.1 ends_too) in
+    sign_clash c d first.0 r s first.2 (subst (λ us. a_sign d us s) (sym same.1) second.2)
+
 -- one expression in brackets is not two
 span_clash : (e : Written) → IsOne IsAny ends_expression e
     → (l k : Limits) (n m : ℕ) (g h : Written) (ts r s : List Placed)
     → in_brackets (IsWritten l n e) ts r
     → in_brackets (IsWritten k m g ⨾ a_sign signs.Colon ⨾ IsWritten k m h) ts s → ⊥
 span_clash e one l k n m g h ts r s first second =
-    let opened : first.0 ≡ second.0 =
-    one_sign signs.OpenBracket ts first.0 second.0 first.1 second.1 in
     let theirs = second.2.1 in
-    let high : IsWritten k m g first.0 theirs.0 =
-    subst (λ us. IsWritten k m g us theirs.0) (sym opened) theirs.1 in
-    let highs = one l k n m g first.0 first.2.0 theirs.0 tt first.2.1 high
-    (next_at ends_expression (sign signs.CloseBracket) first.2.2.0 first.2.0 r first.2.2.1 refl)
-    (next_at ends_expression (sign signs.Colon) theirs.2.1.0 theirs.0 theirs.2.0 theirs.2.1.1
-    refl) in
-    let colon : a_sign signs.Colon first.2.0 theirs.2.0 =
-    subst (λ us. a_sign signs.Colon us theirs.2.0) (sym highs.1) theirs.2.1 in
-    let clash = (one_lexeme (sign signs.CloseBracket) (sign signs.Colon) first.2.2.0 colon.0
-    first.2.0 r theirs.2.0 first.2.2.1 colon.1).0 in
+    let clash = one_end signs.CloseBracket signs.Colon refl refl e one l k n m g first.0 r
+    theirs.2.0 first.2
+    (behind_sign signs.OpenBracket (IsWritten k m g ⨾ a_sign signs.Colon) ts first.0 second.0
+    theirs.2.0 first.1 second.1 (theirs.0, theirs.1, theirs.2.1)) in
     cc
 
 -- nor are two one
@@ -191,19 +201,11 @@ single_clash : (g : Written) → IsOne IsAny ends_expression g
     → in_brackets (IsWritten l n g ⨾ a_sign signs.Colon ⨾ IsWritten l n i) ts r
     → in_brackets (IsWritten k m j) ts s → ⊥
 single_clash g one l k n m i j ts r s first second =
-    let opened : first.0 ≡ second.0 =
-    one_sign signs.OpenBracket ts first.0 second.0 first.1 second.1 in
     let mine = first.2.1 in
-    let single : IsWritten k m j first.0 second.2.0 =
-    subst (λ us. IsWritten k m j us second.2.0) (sym opened) second.2.1 in
-    let highs = one l k n m j first.0 mine.0 second.2.0 tt mine.1 single
-    (next_at ends_expression (sign signs.Colon) mine.2.1.0 mine.0 mine.2.0 mine.2.1.1 refl)
-    (next_at ends_expression (sign signs.CloseBracket) second.2.2.0 second.2.0 s second.2.2.1
-    refl) in
-    let close : a_sign signs.CloseBracket mine.0 s =
-    subst (λ us. a_sign signs.CloseBracket us s) (sym highs.1) second.2.2 in
-    let clash = (one_lexeme (sign signs.Colon) (sign signs.CloseBracket) mine.2.1.0 close.0 mine.0
-    mine.2.0 s mine.2.1.1 close.1).0 in
+    let clash = one_end signs.Colon signs.CloseBracket refl refl g one l k n m j first.0 mine.2.0 s
+    (mine.0, mine.1, mine.2.1)
+    (behind_sign signs.OpenBracket (IsWritten k m j ⨾ a_sign signs.CloseBracket) ts first.0 second.0
+    s first.1 second.1 second.2) in
     cc
 
 pub one_bit : (x : List ℕ) (p : Place) (i : Written) → IsOne IsAny ends_expression i →
@@ -306,10 +308,21 @@ next_of_more l n no_more ts r x is close =
 next_of_more l n (more e es) ts r x is close =
     next_at ends_expression (sign signs.Comma) is.1.0 ts is.0 is.1.1 refl
 
-sign_clash : (o c : SignKind) (ts r s : List Placed) → a_sign o ts r → a_sign c ts s →
-    sign o ≡ sign c
-sign_clash o c ts r s first second =
-    (one_lexeme (sign o) (sign c) first.0 second.0 ts r s first.1 second.1).0
+-- one expression and the rest behind it, where the rest is one
+one_first : (e f : Written) (es fs : WrittenList) → IsOne IsAny ends_expression e
+    → (l k : Limits) (n m : ℕ) (ts r s x y : List Placed)
+    → (IsWritten l n e ⨾ AreMore l n es) ts r → (IsWritten k m f ⨾ AreMore k m fs) ts s
+    → a_sign signs.CloseBrace r x → a_sign signs.CloseBrace s y
+    → ((us : List Placed) → AreMore l n es us r → AreMore k m fs us s → (es ≡ fs) × (r ≡ s))
+    → (more e es ≡ more f fs) × (r ≡ s)
+one_first e f es fs one l k n m ts r s x y first second close close_too one_rest =
+    let same = one l k n m f ts first.0 second.0 tt first.1 second.1
+    (next_of_more l n es first.0 r x first.2 close)
+    (next_of_more k m fs second.0 s y second.2 close_too) in
+    let rest = one_rest first.0 first.2 (subst (λ us. AreMore k m fs us s) (sym same.1) second.2) in
+    let heads = same.0 in
+    let tails = rest.0 in
+    (cc, rest.1)
 
 one_more : (es : WrittenList) → AreOne es
     → (l k : Limits) (n m : ℕ) (fs : WrittenList) (ts r s x y : List Placed)
@@ -327,16 +340,9 @@ one_more (more e es) ones l k n m no_more ts r s x y first second close close_to
     absurd cc
 one_more (more e es) ones l k n m (more f fs) ts r s x y first second close close_too =
     let commas = one_sign signs.Comma ts first.0 second.0 first.1 second.1 in
-    let theirs : (IsWritten k m f ⨾ AreMore k m fs) first.0 s =
-    subst (λ us. (IsWritten k m f ⨾ AreMore k m fs) us s) (sym commas) second.2 in
-    let same = ones.0 l k n m f first.0 first.2.0 theirs.0 tt first.2.1 theirs.1
-    (next_of_more l n es first.2.0 r x first.2.2 close)
-    (next_of_more k m fs theirs.0 s y theirs.2 close_too) in
-    let rest = one_more es ones.1 l k n m fs first.2.0 r s x y first.2.2
-    (subst (λ us. AreMore k m fs us s) (sym same.1) theirs.2) close close_too in
-    let heads = same.0 in
-    let tails = rest.0 in
-    (cc, rest.1)
+    one_first e f es fs ones.0 l k n m first.0 r s x y first.2
+    (subst (λ us. (IsWritten k m f ⨾ AreMore k m fs) us s) (sym commas) second.2) close close_too
+    (λ us rest rest_too. one_more es ones.1 l k n m fs us r s x y rest rest_too close close_too)
 
 one_written : (es : WrittenList) → AreOne es
     → (l k : Limits) (n m : ℕ) (fs : WrittenList) (ts r s x y : List Placed)
@@ -345,14 +351,8 @@ one_written : (es : WrittenList) → AreOne es
 one_written no_more ones l k n m fs ts r s x y first second close close_too = absurd first
 one_written (more e es) ones l k n m no_more ts r s x y first second close close_too = absurd second
 one_written (more e es) ones l k n m (more f fs) ts r s x y first second close close_too =
-    let same = ones.0 l k n m f ts first.0 second.0 tt first.1 second.1
-    (next_of_more l n es first.0 r x first.2 close)
-    (next_of_more k m fs second.0 s y second.2 close_too) in
-    let rest = one_more es ones.1 l k n m fs first.0 r s x y first.2
-    (subst (λ us. AreMore k m fs us s) (sym same.1) second.2) close close_too in
-    let heads = same.0 in
-    let tails = rest.0 in
-    (cc, rest.1)
+    one_first e f es fs ones.0 l k n m ts r s x y first second close close_too
+    (λ us rest rest_too. one_more es ones.1 l k n m fs us r s x y rest rest_too close close_too)
 
 -- behind the first expression of a join comes no `{`
 more_clash : (l : Limits) (n : ℕ) (es : WrittenList) (ts r x y : List Placed) →

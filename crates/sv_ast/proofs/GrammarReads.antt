@@ -16,7 +16,7 @@ use Rattle.sv_token.specs.Words.{is_refused_word}
 use Rattle.sv_ast.specs.GrammarForms.{Form, ◌⨾◌, optional, perhaps, each, some, lexeme_at, word_at}
 use Rattle.sv_ast.specs.GrammarForms.{sign_at, number_at, name_at, a_word, a_sign, a_number, a_name}
 use Rattle.sv_ast.specs.GrammarForms.{flag, binary_operator, unary_operator, binary_at, unary_at}
-use Rattle.sv_ast.specs.GrammarForms.{listed, later, commas}
+use Rattle.sv_ast.specs.GrammarForms.{somewhere, listed, later, commas}
 
 infixl 10 ◌>>=◌
 abbrev pub ◌>>=◌ : {A B : Type 0} → Option A → (A → Option B) → Option B
@@ -121,27 +121,31 @@ abbrev pub at_lexeme : (t : Placed) (ts : List Placed) {x : Lexeme} → t.lexeme
     lexeme_at x t.place (t ∷ ts) ts
 at_lexeme t ts e = ap (λ x. record { lexeme = x; place = t.place } ∷ ts) e
 
-abbrev pub read_word_at : (w : WordKind) (ts : List Placed) → Reads (word_at w) ts
-read_word_at w [] = None
-read_word_at w (t ∷ ts) = do
-  e ← as_word w t.lexeme
+-- the lexeme that a test finds
+abbrev pub read_exact : (x : Lexeme) → ((y : Lexeme) → Option (y ≡ x)) → (ts : List Placed) →
+    Reads (lexeme_at x) ts
+read_exact x test [] = None
+read_exact x test (t ∷ ts) = do
+  e ← test t.lexeme
   Some (t.place, ts, at_lexeme t ts e)
+
+abbrev pub without_place : {P : Place → Form} (ts : List Placed) → Reads P ts →
+    Stands (somewhere P) ts
+without_place ts read = do
+  r ← read
+  Some (r.1, (r.0, r.2))
+
+abbrev pub read_word_at : (w : WordKind) (ts : List Placed) → Reads (word_at w) ts
+read_word_at w ts = read_exact (word w) (as_word w) ts
 
 abbrev pub read_word : (w : WordKind) (ts : List Placed) → Stands (a_word w) ts
-read_word w ts = do
-  r ← read_word_at w ts
-  Some (r.1, (r.0, r.2))
+read_word w ts = without_place {P = word_at w} ts (read_word_at w ts)
 
 abbrev pub read_sign_at : (s : SignKind) (ts : List Placed) → Reads (sign_at s) ts
-read_sign_at s [] = None
-read_sign_at s (t ∷ ts) = do
-  e ← as_sign s t.lexeme
-  Some (t.place, ts, at_lexeme t ts e)
+read_sign_at s ts = read_exact (sign s) (as_sign s) ts
 
 abbrev pub read_sign : (s : SignKind) (ts : List Placed) → Stands (a_sign s) ts
-read_sign s ts = do
-  r ← read_sign_at s ts
-  Some (r.1, (r.0, r.2))
+read_sign s ts = without_place {P = sign_at s} ts (read_sign_at s ts)
 
 abbrev pub read_number_at : (ts : List Placed) →
     Option ((v : Literal) × (p : Place) × (rest : List Placed) × number_at v p ts rest)

@@ -5,7 +5,7 @@ use Rattle.std.proofs.Common.{◌⊎◌, inl, inr, ⊎_elim, refl, subst, arith}
 use Rattle.std.specs.Prelude.{codes, Contains}
 use Rattle.std.proofs.lemmas.Bool.{false≢true}
 use Rattle.sv_system.proofs.Lists.{Contains-head, Contains-later, Contains-cases, Contains-nil}
-use Rattle.sv_ast.specs.Tree.{LabelTree, point_label, table_label, MapTree, TextTree}
+use Rattle.sv_ast.specs.Tree.{LabelTree, point_label, table_label, KeyTree, MapTree, TextTree}
 use Rattle.sv_ast.specs.Reach.{Leads, here, step}
 use Rattle.sv_ast.specs.SourceLabels.{points, pairs, Flows, flows, least, IsJoin, IsMeet}
 use Rattle.sv_ast.specs.SourceLabels.{PointsAreLattice, is_key, row_at, map_named, label_point}
@@ -155,22 +155,17 @@ the_least_stands_last = refl
 pub one_point_is_least : least (with_lattice ("A" ∷ []) []) ≡ codes "A"
 one_point_is_least = refl
 
--- a key is read by its own signedness: 1'sb1 is -1
-pub a_negative_key :
-    is_key (record {
-      value = record { width = 1; signed = true; value = 1; sized = true };
+-- a 1 of one bit as a key
+abbrev a_bit : (signed : Bool) → KeyTree
+a_bit signed =
+    record {
+      value = record { width = 1; signed = signed; value = 1; sized = true };
       place = somewhere;
-    }) 1
-    ≡ false
-a_negative_key = refl
+    }
 
-pub an_unsigned_key :
-    is_key (record {
-      value = record { width = 1; signed = false; value = 1; sized = true };
-      place = somewhere;
-    }) 1
-    ≡ true
-an_unsigned_key = refl
+-- a key is read by its own signedness: 1'sb1 is -1
+pub by_signedness : map (λ signed. is_key (a_bit signed) 1) (true ∷ false ∷ []) ≡ false ∷ true ∷ []
+by_signedness = refl
 
 pub another_key : is_key (key 2) 1 ≡ false
 another_key = refl

@@ -81,34 +81,33 @@ assign scope blocking ts e r = fold (assign_piece scope blocking) r
 -- The common type of a case: selector and items are sized to the longest, and signed only if all
 -- are (clause 9.5).
 
--- the greatest length of some items
-abbrev pub items_length : Scope → List ExpressionTree → ℕ
-items_length scope [] = 0
-items_length scope (e ∷ es) = max (length_of scope e) (items_length scope es)
+-- the greatest length of some items, from what each has by itself
+abbrev pub items_length : (own : ExpressionTree → ℕ) → List ExpressionTree → ℕ
+items_length own [] = 0
+items_length own (e ∷ es) = max (own e) (items_length own es)
 
 -- whether all items are signed
-abbrev pub items_signed : Scope → List ExpressionTree → Bool
-items_signed scope [] = true
-items_signed scope (e ∷ es) = signed_of scope e && items_signed scope es
+abbrev pub items_signed : (own : ExpressionTree → Bool) → List ExpressionTree → Bool
+items_signed own [] = true
+items_signed own (e ∷ es) = own e && items_signed own es
 
 -- the greatest length of the items of all arms
-abbrev pub arms_length : Scope → ArmTrees → ℕ
-arms_length scope no_arms = 0
-arms_length scope (more_arms p items body arms) =
-    max (items_length scope items) (arms_length scope arms)
+abbrev pub arms_length : (own : ExpressionTree → ℕ) → ArmTrees → ℕ
+arms_length own no_arms = 0
+arms_length own (more_arms p items body arms) = max (items_length own items) (arms_length own arms)
 
 -- whether all items of all arms are signed
-abbrev pub arms_signed : Scope → ArmTrees → Bool
-arms_signed scope no_arms = true
-arms_signed scope (more_arms p items body arms) = items_signed scope items && arms_signed scope arms
+abbrev pub arms_signed : (own : ExpressionTree → Bool) → ArmTrees → Bool
+arms_signed own no_arms = true
+arms_signed own (more_arms p items body arms) = items_signed own items && arms_signed own arms
 
 -- the common length
 abbrev pub case_length : Scope → (selector : ExpressionTree) → ArmTrees → ℕ
-case_length scope e arms = max (length_of scope e) (arms_length scope arms)
+case_length scope e arms = max (length_of scope e) (arms_length (length_of scope) arms)
 
 -- the common signedness
 abbrev pub case_signed : Scope → (selector : ExpressionTree) → ArmTrees → Bool
-case_signed scope e arms = signed_of scope e && arms_signed scope arms
+case_signed scope e arms = signed_of scope e && arms_signed (signed_of scope) arms
 
 -- whether an item has the selector's value at the common length and signedness
 abbrev pub has_item : Scope → (environment : Environment (List ℕ)) → (length : ℕ) → (signed : Bool)

@@ -138,21 +138,6 @@ impl Overrides {
     }
 }
 
-impl Module {
-    /// A second tree that is equal. It fails where memory runs out.
-    pub fn copy(&self, alloc: Global) -> Result<Module, AllocError>
-        ensures { IfOk result (λ copy. module_tree copy ≡ module_tree self.now) }
-    {
-        Ok(Module {
-            name: self.name.copy(alloc)?,
-            place: self.place,
-            params: self.params.copy(alloc)?,
-            ports: self.ports.copy(alloc)?,
-            items: self.items.copy(alloc)?,
-        })
-    }
-}
-
 impl Text {
     /// A second tree that is equal. It fails where memory runs out.
     pub fn copy(&self, alloc: Global) -> Result<Text, AllocError>
@@ -174,16 +159,6 @@ impl Text {
         ensures { result ≡ is_shaped (text_tree self.now) }
     {
         self.maps.is_shaped() && self.modules.is_shaped()
-    }
-}
-
-impl Copied for Overrides {
-    ghost Plain = { OverrideTrees };
-
-    ghost plain = { override_trees };
-
-    fn copy(&self, alloc: Global) -> Result<Overrides, AllocError> {
-        Overrides::copy(self, alloc)
     }
 }
 
@@ -323,7 +298,13 @@ impl Copied for Module {
     ghost plain = { module_tree };
 
     fn copy(&self, alloc: Global) -> Result<Module, AllocError> {
-        Module::copy(self, alloc)
+        Ok(Module {
+            name: self.name.copy(alloc)?,
+            place: self.place,
+            params: self.params.copy(alloc)?,
+            ports: self.ports.copy(alloc)?,
+            items: self.items.copy(alloc)?,
+        })
     }
 }
 

@@ -5,7 +5,7 @@ ghost use Rattle.sv_ast.specs.Shape.{is_whole, is_whole_target, is_shaped_select
 ghost use Rattle.sv_ast.specs.Shape.{is_shaped_target, are_shaped_targets, are_whole_targets};
 ghost use Rattle.sv_ast.specs.Shape.{is_shaped_statement, are_shaped_statements, has_arm};
 ghost use Rattle.sv_ast.specs.Shape.{default_count, are_shaped_arms};
-ghost use Rattle.sv_ast.specs.Tree.{Selection, TargetTree, StatementTree, assignment, if_only};
+ghost use Rattle.sv_ast.specs.Tree.{Selection, TargetTree, assignment, if_only};
 ghost use Rattle.sv_ast.specs.Tree.{if_else, case_of};
 ghost use Rattle.sv_ast.specs.Views.{expression_tree, selection_of, target_tree, statement_tree};
 ghost use Rattle.sv_ast.specs.Views.{statement_trees};
@@ -262,16 +262,6 @@ impl Arm {
     }
 }
 
-impl Copied for Stmt {
-    ghost Plain = { StatementTree };
-
-    ghost plain = { statement_tree };
-
-    fn copy(&self, alloc: Global) -> Result<Stmt, AllocError> {
-        Stmt::copy(self, alloc)
-    }
-}
-
 impl Select {
     /// Whether it selects no bits: the target is the whole signal.
     pub(crate) fn is_whole(&self) -> bool
@@ -405,16 +395,4 @@ fn have_one_default(arms: &[Arm]) -> bool
         }
     }
     defaults <= 1
-}
-
-impl Shaped for Stmt {
-    ghost Form = { StatementTree };
-
-    ghost form = { statement_tree };
-
-    ghost shaped = { is_shaped_statement };
-
-    fn is_shaped(&self) -> bool {
-        Stmt::is_shaped(self)
-    }
 }

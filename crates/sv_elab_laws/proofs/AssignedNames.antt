@@ -19,7 +19,7 @@ use Rattle.sv_ast.specs.Instances.{is_empty, is_signal}
 use Rattle.sv_ast.specs.Reach.{holds}
 use Rattle.sv_ast.specs.Runs.{targets_width, assigned, assigned_in, assigned_by}
 use Rattle.sv_flat.specs.Design.{SignalForm, TypedTree, PieceForm, FlatStatement, nothing, after}
-use Rattle.sv_flat.specs.Design.{assign, branch}
+use Rattle.sv_flat.specs.Design.{assign}
 use Rattle.sv_flat.specs.Assigned.{assigns}
 use Rattle.sv_flat.proofs.LeastSets.{from_some}
 use Rattle.sv_elab_rules.specs.Names.{Names}
@@ -28,7 +28,8 @@ use Rattle.sv_elab_rules.specs.Targets.{pieces_of, targets_steps, assignment_wal
 use Rattle.sv_elab_rules.specs.CaseChains.{FlatArm, arm_items, common_length, common_signed, arm_branch}
 use Rattle.sv_elab_rules.specs.CaseChains.{chain, closed_chain, default_of, case_chain, is_complete}
 use Rattle.sv_elab_rules.specs.Statements.{statement_walk, statements_walk, arms_walk}
-use Rattle.sv_elab_rules.proofs.WalkLemmas.{parts_done}
+use Rattle.sv_elab_rules.proofs.WalkLemmas.{parts_done, if_only_done, if_else_done}
+use Rattle.sv_width.proofs.Lengths.{three_parts}
 use Rattle.sv_elab_laws.specs.Numbering.{IsNumbering}
 use Rattle.sv_elab_laws.proofs.Targets.{AreTargets, targets_found}
 use Rattle.sv_elab_laws.proofs.SameUpdates.{same_test}
@@ -171,22 +172,18 @@ module _ (names : Names) where
     assigned_same (block ss) f h shape k = assigned_in_same ss f h shape k
     assigned_same (if_only p c a) f h shape k =
         let shapes = and_parts (is_shaped_expression c) (is_shaped_statement a) shape in
-        let first = parts_done (expression_walk names c 0) _ f h in
-        let second = parts_done (statement_walk names a) _ f first.2 in
-        let is : branch p first.0 second.0 nothing ≡ f = cc second.2 in
-        ap (λ (g : FlatStatement). assigns g k) (sym is) ∙ or_none (assigns second.0 k)
-        ∙ assigned_same a second.0 second.1 shapes.1 k
+        let parts = if_only_done names p c a f h in
+        ap (λ (g : FlatStatement). assigns g k) (sym parts.is) ∙ or_none (assigns parts.first k)
+        ∙ assigned_same a parts.first parts.first_is shapes.1 k
     assigned_same (if_else p c a b) f h shape k =
-        let outer = and_parts (is_shaped_expression c && is_shaped_statement a)
+        let shapes = three_parts (is_shaped_expression c) (is_shaped_statement a)
         (is_shaped_statement b) shape in
-        let inner = and_parts (is_shaped_expression c) (is_shaped_statement a) outer.0 in
-        let first = parts_done (expression_walk names c 0) _ f h in
-        let second = parts_done (statement_walk names a) _ f first.2 in
-        let third = parts_done (statement_walk names b) _ f second.2 in
-        let is : branch p first.0 second.0 third.0 ≡ f = cc third.2 in
-        ap (λ (g : FlatStatement). assigns g k) (sym is)
-        ∙ appended k (assigns second.0 k) (assigns third.0 k) (assigned a) (assigned b)
-        (assigned_same a second.0 second.1 inner.1 k) (assigned_same b third.0 third.1 outer.1 k)
+        let other = if_else_done names p c a b f h in
+        let parts = other.2 in
+        ap (λ (g : FlatStatement). assigns g k) (sym parts.is)
+        ∙ appended k (assigns parts.first k) (assigns other.0 k) (assigned a) (assigned b)
+        (assigned_same a parts.first parts.first_is shapes.1 k)
+        (assigned_same b other.0 other.1 shapes.2 k)
     assigned_same (case_of p e arms) f h shape k =
         let n : ℕ = common_length names e arms in
         let s : Bool = common_signed names e arms in
@@ -245,10 +242,8 @@ module _ (names : Names) where
         (assigned_same body arm.first arm.first_is shapes.0 k)
         (assigned_by_same n s arms arm.rest arm.rest_is (omega (arith, none)) shapes.1 k)
     assigned_by_same n s (more_arms p (e ∷ es) body arms) found h few shape k =
-        let outer = and_parts (list_all is_shaped_expression (e ∷ es) && is_shaped_statement body)
+        let shapes = three_parts (list_all is_shaped_expression (e ∷ es)) (is_shaped_statement body)
         (are_shaped_arms arms) shape in
-        let inner = and_parts (list_all is_shaped_expression (e ∷ es)) (is_shaped_statement body)
-        outer.0 in
         let arm = arm_found names n s p (e ∷ es) body arms found h in
         ap (λ (xs : List FlatArm).
         some_assigns k (filter has_items xs) || default_assigns k (default_of xs)) (sym arm.is)
@@ -257,8 +252,8 @@ module _ (names : Names) where
         ∙ appended k (assigns arm.first k) (some_assigns k (filter has_items arm.rest)
         || default_assigns k (default_of arm.rest))
         (assigned body) (assigned_by arms)
-        (assigned_same body arm.first arm.first_is inner.1 k)
-        (assigned_by_same n s arms arm.rest arm.rest_is few outer.1 k)
+        (assigned_same body arm.first arm.first_is shapes.1 k)
+        (assigned_by_same n s arms arm.rest arm.rest_is few shapes.2 k)
 
   -- ---- assigned names are signals
 
@@ -296,15 +291,14 @@ module _ (names : Names) where
         assignment_signals ts p blocking e f h n at
     assigned_are_signals (block ss) f h n at = assigned_in_signals ss f h n at
     assigned_are_signals (if_only p c a) f h n at =
-        let first = parts_done (expression_walk names c 0) _ f h in
-        let second = parts_done (statement_walk names a) _ f first.2 in
-        assigned_are_signals a second.0 second.1 n at
+        let parts = if_only_done names p c a f h in
+        assigned_are_signals a parts.first parts.first_is n at
     assigned_are_signals (if_else p c a b) f h n at =
-        let first = parts_done (expression_walk names c 0) _ f h in
-        let second = parts_done (statement_walk names a) _ f first.2 in
-        let third = parts_done (statement_walk names b) _ f second.2 in
-        both_signals (assigned a) (assigned b) (assigned_are_signals a second.0 second.1)
-        (assigned_are_signals b third.0 third.1) n at
+        let other = if_else_done names p c a b f h in
+        let parts = other.2 in
+        both_signals (assigned a) (assigned b)
+        (assigned_are_signals a parts.first parts.first_is)
+        (assigned_are_signals b other.0 other.1) n at
     assigned_are_signals (case_of p e arms) f h n at =
         let first = parts_done
         (typed_walk names e (common_length names e arms) (common_signed names e arms)) _ f h in

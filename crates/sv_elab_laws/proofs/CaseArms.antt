@@ -118,8 +118,8 @@ module _ (names : Names) where
       done (signed_of names.scope e)) tt h)
 
   items_type : (es : List ExpressionTree) → ItemsPass names es
-      → (items_length names es ≡ source_items_length names.scope es)
-      × (items_signed names es ≡ source_items_sign names.scope es)
+      → (items_length names es ≡ source_items_length (length_of names.scope) es)
+      × (items_signed names es ≡ source_items_sign (signed_of names.scope) es)
   items_type [] pass = (refl, refl)
   items_type (e ∷ es) pass =
       let rest = items_type es pass.1 in (
@@ -132,17 +132,17 @@ module _ (names : Names) where
   -- of arms that break no rule
   pub arms_type : (n : ℕ) (s : Bool) (arms : ArmTrees) (flat : List FlatArm)
       → (arms_walk names n s arms).end ≡ Ok flat
-      → (arms_length names arms ≡ source_arms_length names.scope arms)
-      × (arms_signed names arms ≡ source_arms_sign names.scope arms)
+      → (arms_length names arms ≡ source_arms_length (length_of names.scope) arms)
+      × (arms_signed names arms ≡ source_arms_sign (signed_of names.scope) arms)
   arms_type n s no_arms flat h = (refl, refl)
   arms_type n s (more_arms p items body arms) flat h =
       let found = arm_found names n s p items body arms flat h in
       let first = items_type items found.items_pass in
       let rest = arms_type n s arms found.rest found.rest_is in (
         ap (λ k. max k (arms_length names arms)) first.0
-            ∙ ap (λ k. max (source_items_length names.scope items) k) rest.0,
+            ∙ ap (λ k. max (source_items_length (length_of names.scope) items) k) rest.0,
         ap (λ b. b && arms_signed names arms) first.1
-            ∙ ap (λ b. source_items_sign names.scope items && b) rest.1,
+            ∙ ap (λ b. source_items_sign (signed_of names.scope) items && b) rest.1,
       )
 
 -- ---- when an arm is taken

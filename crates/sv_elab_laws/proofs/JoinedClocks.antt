@@ -376,6 +376,34 @@ module _ (text : TextTree) (top : Option (List ℕ)) (design : FlatDesign)
       (or_cases (lists_pair (links_in design) a b || lists_pair (links_out design) b a)
       (lists_pair (links_in design) b a) h)
 
+  -- the ways in which a clock makes another one
+  by_input : (a b : ℕ) → lists_pair (links_in design) a b ≡ true → makes_clock design a b ≡ true
+  by_input a b h =
+      or_left (lists_pair (links_in design) a b || lists_pair (links_out design) b a)
+      (lists_pair (links_in design) b a)
+      (or_left (lists_pair (links_in design) a b) (lists_pair (links_out design) b a) h)
+
+  by_output : (a b : ℕ) → lists_pair (links_out design) b a ≡ true → makes_clock design a b ≡ true
+  by_output a b h =
+      or_left (lists_pair (links_in design) a b || lists_pair (links_out design) b a)
+      (lists_pair (links_in design) b a)
+      (or_right (lists_pair (links_in design) a b) (lists_pair (links_out design) b a) h)
+
+  by_outer : (a b : ℕ) → lists_pair (links_in design) b a ≡ true → makes_clock design a b ≡ true
+  by_outer a b h =
+      or_right (lists_pair (links_in design) a b || lists_pair (links_out design) b a)
+      (lists_pair (links_in design) b a) h
+
+  -- a number of a path is the one that it has there
+  made_from_number : (x y : Path) (a here_at there : ℕ) → IsNumber x a → IsNumber x here_at
+      → IsNumber y there → makes_clock design here_at there ≡ true
+      → (b : ℕ) × IsNumber y b × (makes_clock design a b ≡ true)
+  made_from_number x y a here_at there is x_is y_is made = (
+    there,
+    y_is,
+    subst (λ z. makes_clock design z there ≡ true) (number_same x here_at a x_is is) made,
+  )
+
   -- what links join has numbers, of which the first makes the second a clock
   paired_made : (x y : Path) → Contains (flat_map clock_pairs all_links) (x, y) → (a : ℕ)
       → IsNumber x a
@@ -407,36 +435,17 @@ module _ (text : TextTree) (top : Option (List ℕ)) (design : FlatDesign)
       (let e : Some output.name ≡ Some n.0 = sym output.whole ∙ whole in cc e))) in
       ⊎_elim
       (λ forth.
-      let a_is : here_at ≡ a =
-      number_same x here_at a (subst (λ z. IsNumber z here_at) (sym forth.0) port) is in (
-        there,
-        subst (λ z. IsNumber z there) (sym forth.1) outer,
-        subst (λ z. makes_clock design z there ≡ true) a_is (⊎_elim
-            (λ input. or_left (lists_pair (links_in design) here_at there
-            || lists_pair (links_out design) there here_at)
-            (lists_pair (links_in design) there here_at)
-            (or_left (lists_pair (links_in design) here_at there)
-            (lists_pair (links_out design) there here_at) (listed_in input.1)))
-            (λ output. or_left (lists_pair (links_in design) here_at there
-            || lists_pair (links_out design) there here_at)
-            (lists_pair (links_in design) there here_at)
-            (or_right (lists_pair (links_in design) here_at there)
-            (lists_pair (links_out design) there here_at) (listed_out output.1)))
-            (link_is side.tables sources (parts text top) l.0 f.0 link)),
-      ))
+      made_from_number x y a here_at there is (subst (λ z. IsNumber z here_at) (sym forth.0) port)
+      (subst (λ z. IsNumber z there) (sym forth.1) outer)
+      (⊎_elim (λ input. by_input here_at there (listed_in input.1))
+      (λ output. by_output here_at there (listed_out output.1))
+      (link_is side.tables sources (parts text top) l.0 f.0 link)))
       (λ back.
-      let a_is : there ≡ a =
-      number_same x there a (subst (λ z. IsNumber z there) (sym back.1) outer) is in (
-        here_at,
-        subst (λ z. IsNumber z here_at) (sym back.2) port,
-        subst (λ z. makes_clock design z here_at ≡ true) a_is (⊎_elim
-            (λ input. or_right (lists_pair (links_in design) there here_at
-            || lists_pair (links_out design) here_at there)
-            (lists_pair (links_in design) here_at there)
-            (listed_in input.1))
-            (λ output. absurd (false≢true (sym output.0 ∙ back.0)))
-            (link_is side.tables sources (parts text top) l.0 f.0 link)),
-      ))
+      made_from_number x y a there here_at is (subst (λ z. IsNumber z there) (sym back.1) outer)
+      (subst (λ z. IsNumber z here_at) (sym back.2) port)
+      (⊎_elim (λ input. by_outer there here_at (listed_in input.1))
+      (λ output. absurd (false≢true (sym output.0 ∙ back.0)))
+      (link_is side.tables sources (parts text top) l.0 f.0 link)))
       (pair_cases l.0 o.0 o.1 x y l.2)
 
   -- ---- clocks

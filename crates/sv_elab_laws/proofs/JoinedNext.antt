@@ -5,14 +5,13 @@ use Rattle.std.specs.Prelude.{not, ◌==◌, flat_map, filter, Contains, IsTrue}
 use Rattle.std.specs.List.{list_any, AllZip}
 use Rattle.std.proofs.lemmas.Bool.{and_left, ltb-true}
 use Rattle.std.proofs.lemmas.List.{map-append}
-use Rattle.sv_system.specs.System.{System, Environment, last_update}
-use Rattle.sv_system.specs.Joining.{Agree}
+use Rattle.sv_system.specs.System.{Environment, last_update}
 use Rattle.sv_system.proofs.Lists.{Contains-head, Contains-later}
 use Rattle.sv_system.proofs.Lists.{Contains-from_map}
 use Rattle.sv_ast.specs.Tree.{StatementTree, TextTree}
 use Rattle.sv_ast.specs.Instances.{is_signal}
 use Rattle.sv_ast.specs.Runs.{run as source_run}
-use Rattle.sv_ast.specs.Parts.{Path, same_path, Part, within, parts, PartSignal, signal_path}
+use Rattle.sv_ast.specs.Parts.{Path, same_path, Part, within, parts, signal_path}
 use Rattle.sv_ast.specs.Parts.{PortLink}
 use Rattle.sv_ast.specs.Processes.{Process, combinational, clocked, linking, processes, values_in}
 use Rattle.sv_ast.specs.Processes.{updates_by, updates_of, links_one_of}
@@ -37,7 +36,7 @@ use Rattle.sv_elab_laws.proofs.JoinedClocks.{IsNumber, number_below, clocked_no_
 use Rattle.sv_elab_laws.proofs.JoinedNumbers.{to_is, At, at_number, flat_signals, signal_below}
 use Rattle.sv_elab_laws.proofs.JoinedNumbers.{is_flat_signal, clocked_of}
 use Rattle.sv_elab_laws.proofs.JoinedRegisters.{register_within}
-use Rattle.sv_elab_laws.proofs.JoinedRuns.{source_system, path_to, unclocked_values}
+use Rattle.sv_elab_laws.proofs.JoinedRuns.{source_system, path_to, Joins, unclocked_values}
 use Rattle.sv_elab_laws.proofs.JoinedRuns.{numbered_values, numbered_same}
 use Rattle.sv_elab_laws.proofs.JoinedRuns.{numbering, have_values, values_fit, to_name}
 use Rattle.sv_elab_laws.proofs.JoinedProcesses.{same_place, link_unclocked}
@@ -72,20 +71,11 @@ skip_link g l false qs = refl
 module _ (text : TextTree) (top : Option (List ℕ)) (design : FlatDesign)
     (side : SideBySide text top design)
     (is_sound : IsTrue (sound design)) (admitted : IsAdmitted design) where
-  abbrev sources : List PartSignal
-  sources = sources_of text top
-
-  abbrev second : System Path (List ℕ)
-  second = source_system text top design side
-
   abbrev toward : ℕ → Path
   toward = path_to text top design side
 
-  abbrev Joins : Environment ℕ → Environment Path → Type 0
-  Joins e g = Agree (flat_system design) second toward e g
-
   abbrev Flat : Process → ProcessForm → Type 0
-  Flat q f = IsFlat side.tables sources (parts text top) q f
+  Flat q f = IsFlat side.tables (sources_of text top) (parts text top) q f
 
   abbrev Given : ℕ → Type 0
   Given k = Contains (flat_signals text top design side) k
@@ -109,7 +99,7 @@ module _ (text : TextTree) (top : Option (List ℕ)) (design : FlatDesign)
   abbrev pathed : ℕ × ℕ → Path × ℕ
   pathed u = (toward u.0, u.1)
 
-  module _ (e : Environment ℕ) (g : Environment Path) (agree : Joins e g) where
+  module _ (e : Environment ℕ) (g : Environment Path) (agree : Joins text top design side e g) where
     abbrev free : Environment Path
     free = unclocked_values text top design side g
 
@@ -117,7 +107,7 @@ module _ (text : TextTree) (top : Option (List ℕ)) (design : FlatDesign)
     numbers = numbered_values text top design side g
 
     module _ (p : Part) (s : StatementTree) (f : ProcessForm)
-        (body : IsBody side.tables sources (parts text top) p s f) where
+        (body : IsBody side.tables (sources_of text top) (parts text top) p s f) where
       abbrev source_updates : List (List ℕ × ℕ)
       source_updates =
           (source_run body.names.scope s (record {
@@ -164,8 +154,8 @@ module _ (text : TextTree) (top : Option (List ℕ)) (design : FlatDesign)
           let n = v.0.0 in
           subst (λ k. k < length design.signals) (ap (λ (z : ℕ × ℕ). z.0) v.2)
           (number_below text top design side (within p n) (body.names.number n)
-          (number_of_name side.tables sources (parts text top) p body.names body.named n
-          (update_signal v.0 v.1)))
+          (number_of_name side.tables (sources_of text top) (parts text top) p body.names body.named
+          n (update_signal v.0 v.1)))
 
     flat_of : List ProcessForm → Updates
     flat_of fs = flat_map (λ (p : ProcessForm). flat_updates_of design.signals p.body numbers)
@@ -239,7 +229,8 @@ module _ (text : TextTree) (top : Option (List ℕ)) (design : FlatDesign)
         (cond (same_path (toward u.0) (toward k)) u.1 old)
 
     pub next_same : (k : ℕ) → IsTrue ((flat_system design).is_register k) →
-        (flat_system design).next e k ≡ second.next g (toward k)
+        (flat_system design).next e k ≡
+        (source_system text top design side).next g (toward k)
     unfolding flat_of source_of
     next_same k register =
         let inside = register_within text top design side is_sound admitted k register in

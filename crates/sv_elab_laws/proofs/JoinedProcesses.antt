@@ -10,7 +10,7 @@ use Rattle.std.proofs.lemmas.Bool.{false≢true, both_ways, and_parts, and_from,
 use Rattle.std.proofs.lemmas.Bool.{or_left, or_cases, eqb-true, eq-eqb, cond-false}
 use Rattle.std.proofs.lemmas.Bool.{ltb-true, false_from_ne_true, not-true}
 use Rattle.sv_system.specs.System.{System, Environment, Run, put}
-use Rattle.sv_system.specs.Joining.{Agree, SameRun}
+use Rattle.sv_system.specs.Joining.{SameRun}
 use Rattle.sv_system.proofs.Lists.{Contains-head, Contains-later, Contains-map}
 use Rattle.sv_system.proofs.Lists.{Contains-filter}
 use Rattle.sv_ast.specs.Scopes.{width_of}
@@ -70,9 +70,6 @@ module _ (text : TextTree) (top : Option (List ℕ)) (design : FlatDesign)
 
   abbrev toward : ℕ → Path
   toward = path_to text top design side
-
-  abbrev Joins : Environment ℕ → Environment Path → Type 0
-  Joins e g = Agree (flat_system design) second toward e g
 
   -- a run of the source, where it sees no clock
   abbrev pub seen_run : Run Path → Run Path

@@ -106,7 +106,7 @@ module _ (text : TextTree) (top : Option (List ℕ)) (design : FlatDesign)
       (to_is text top design side (signal_path a.source) k a.number)
       ∙ sym (clock_at text top design side k a) ∙ signal_no_clock text top design side k at
 
-  abbrev Joins : Environment ℕ → Environment Path → Type 0
+  abbrev pub Joins : Environment ℕ → Environment Path → Type 0
   Joins e f = Agree (flat_system design) source_system path_to e f
 
   pub numbered_same : (e : Environment ℕ) (f : Environment Path) → Joins e f → (k : ℕ)

@@ -39,6 +39,19 @@ stays_same : (s : Bool) (m n v : ℕ) → (s ≡ true → false ≡ true) → m 
 stays_same s m n v h wider low =
     sym (unsigned_extended m n v wider low) ∙ ap (λ b. extended b m n v) (sym (taken_unsigned s h))
 
+-- `+` alone keeps its operand
+is_plus : (op : UnOp) → keeps_operand op ≡ true → op ≡ unop.Plus
+is_plus unop.Plus h = refl
+is_plus unop.Minus h = absurd (cc h)
+is_plus unop.Invert h = absurd (cc h)
+is_plus unop.LogicNot h = absurd (cc h)
+is_plus unop.And h = absurd (cc h)
+is_plus unop.Nand h = absurd (cc h)
+is_plus unop.Or h = absurd (cc h)
+is_plus unop.Nor h = absurd (cc h)
+is_plus unop.Xor h = absurd (cc h)
+is_plus unop.Xnor h = absurd (cc h)
+
 unary_kept : (op : UnOp) (own m n : ℕ) (signed s kept : Bool) (f : ℕ → Bool → ℕ)
     → (gives_one_bit op || keeps_operand op && kept) ≡ true
     → (s ≡ true → (if gives_one_bit op then false else signed) ≡ true)
@@ -48,23 +61,20 @@ unary_kept : (op : UnOp) (own m n : ℕ) (signed s kept : Bool) (f : ℕ → Boo
     else unary_value op n s (f n s))
     ≡ extended s m n (if gives_one_bit op then unary_value op own signed (f own signed)
     else unary_value op m s (f m s))
-unary_kept unop.Plus own m n signed s kept f keeps signs fits wider same = same keeps signs fits
-unary_kept unop.Minus own m n signed s kept f keeps signs fits wider same = absurd (cc keeps)
-unary_kept unop.Invert own m n signed s kept f keeps signs fits wider same = absurd (cc keeps)
-unary_kept unop.LogicNot own m n signed s kept f keeps signs fits wider same =
-    stays_same s m n _ signs wider (bit_low unop.LogicNot refl m own signed (f own signed) fits)
-unary_kept unop.And own m n signed s kept f keeps signs fits wider same =
-    stays_same s m n _ signs wider (bit_low unop.And refl m own signed (f own signed) fits)
-unary_kept unop.Nand own m n signed s kept f keeps signs fits wider same =
-    stays_same s m n _ signs wider (bit_low unop.Nand refl m own signed (f own signed) fits)
-unary_kept unop.Or own m n signed s kept f keeps signs fits wider same =
-    stays_same s m n _ signs wider (bit_low unop.Or refl m own signed (f own signed) fits)
-unary_kept unop.Nor own m n signed s kept f keeps signs fits wider same =
-    stays_same s m n _ signs wider (bit_low unop.Nor refl m own signed (f own signed) fits)
-unary_kept unop.Xor own m n signed s kept f keeps signs fits wider same =
-    stays_same s m n _ signs wider (bit_low unop.Xor refl m own signed (f own signed) fits)
-unary_kept unop.Xnor own m n signed s kept f keeps signs fits wider same =
-    stays_same s m n _ signs wider (bit_low unop.Xnor refl m own signed (f own signed) fits)
+unary_kept op own m n signed s kept f keeps signs fits wider same =
+    by_kind (gives_one_bit op) refl keeps signs fits
+  where
+    by_kind : (one : Bool) → gives_one_bit op ≡ one → (one || keeps_operand op && kept) ≡ true
+        → (s ≡ true → (if one then false else signed) ≡ true) → (if one then 1 else own) ≤ m
+        → (if one then unary_value op own signed (f own signed) else unary_value op n s (f n s))
+        ≡ extended s m n (if one then unary_value op own signed (f own signed)
+        else unary_value op m s (f m s))
+    by_kind true one keeps signs fits =
+        stays_same s m n _ signs wider (bit_low op one m own signed (f own signed) fits)
+    by_kind false one keeps signs fits =
+        let both = and_parts (keeps_operand op) kept keeps in
+        subst (λ (o : UnOp). unary_value o n s (f n s) ≡ extended s m n (unary_value o m s (f m s)))
+        (sym (is_plus op both.0)) (same both.1 signs fits)
 
 choice_kept : (t : Bool) (s : Bool) (m n an am bn bm : ℕ) → an ≡ extended s m n am
     → bn ≡ extended s m n bm

@@ -25,7 +25,7 @@ use Rattle.sv_elab_rules.specs.ExpressionSteps.{typed_walk, expression_walk}
 use Rattle.sv_elab_rules.specs.CaseChains.{FlatArm, arm_items, arms_signed, common_length, common_signed}
 use Rattle.sv_elab_rules.specs.CaseChains.{arm_branch, chain, default_of, case_chain, is_complete}
 use Rattle.sv_elab_rules.specs.Statements.{statement_walk, statements_walk, arms_walk}
-use Rattle.sv_elab_rules.proofs.WalkLemmas.{parts_done}
+use Rattle.sv_elab_rules.proofs.WalkLemmas.{parts_done, if_only_done, if_else_done}
 use Rattle.sv_width.specs.Agreement.{HaveValues}
 use Rattle.sv_elab_laws.specs.Numbers.{NumbersFit, SelectorsFit, SelectorsFitIn, SelectorsFitBy}
 use Rattle.sv_elab_laws.specs.Numbering.{IsNumbering}
@@ -214,13 +214,18 @@ module _ (names : Names) (signals : List SignalForm) (numbering : IsNumbering na
           (chosen_same (is_complete names.scope e (arm_items arms) length signedness) refl
           (default_of found) d))
 
+  -- both runs keep what is the same
+  abbrev RunSame : FlatStatement → (Running → Running) → Type 0
+  RunSame f run_source =
+      (flat : Environment ℕ × Updates) (source : Running) → AreSame names flat source
+      → AreSame names (run signals f flat) (run_source source)
+
   mutual
     unfolding source_run run_each run_arms run_default statement_walk statements_walk
 
     pub statement_same : (statement : StatementTree) (f : FlatStatement)
         → (statement_walk names statement).end ≡ Ok f → SelectorsFit statement
-        → (flat : Environment ℕ × Updates) (source : Running) → AreSame names flat source
-        → AreSame names (run signals f flat) (source_run names.scope statement source)
+        → RunSame f (source_run names.scope statement)
     statement_same null f h fit flat source before =
         let is : nothing ≡ f = cc h in
         subst (λ (g : FlatStatement). AreSame names (run signals g flat) source) is before
@@ -229,25 +234,22 @@ module _ (names : Names) (signals : List SignalForm) (numbering : IsNumbering na
     statement_same (block ss) f h fit flat source before =
         statements_same ss f h fit flat source before
     statement_same (if_only p c a) f h fit flat source before =
-        let first = parts_done (expression_walk names c 0) _ f h in
-        let second = parts_done (statement_walk names a) _ f first.2 in
-        let is : branch p first.0 second.0 nothing ≡ f = cc second.2 in
+        let parts = if_only_done names p c a f h in
         subst (λ (g : FlatStatement).
-        AreSame names (run signals g flat) (source_run names.scope (if_only p c a) source)) is
-        (branch_same flat source before p c first.0 second.0 nothing
-        (source_run names.scope a source) source first.1
-        (statement_same a second.0 second.1 fit flat source before) before)
+        AreSame names (run signals g flat) (source_run names.scope (if_only p c a) source)) parts.is
+        (branch_same flat source before p c parts.condition parts.first nothing
+        (source_run names.scope a source) source parts.condition_is
+        (statement_same a parts.first parts.first_is fit flat source before) before)
     statement_same (if_else p c a b) f h fit flat source before =
-        let first = parts_done (expression_walk names c 0) _ f h in
-        let second = parts_done (statement_walk names a) _ f first.2 in
-        let third = parts_done (statement_walk names b) _ f second.2 in
-        let is : branch p first.0 second.0 third.0 ≡ f = cc third.2 in
+        let other = if_else_done names p c a b f h in
+        let parts = other.2 in
         subst (λ (g : FlatStatement).
-        AreSame names (run signals g flat) (source_run names.scope (if_else p c a b) source)) is
-        (branch_same flat source before p c first.0 second.0 third.0
-        (source_run names.scope a source) (source_run names.scope b source) first.1
-        (statement_same a second.0 second.1 fit.0 flat source before)
-        (statement_same b third.0 third.1 fit.1 flat source before))
+        AreSame names (run signals g flat) (source_run names.scope (if_else p c a b) source))
+        parts.is
+        (branch_same flat source before p c parts.condition parts.first other.0
+        (source_run names.scope a source) (source_run names.scope b source) parts.condition_is
+        (statement_same a parts.first parts.first_is fit.0 flat source before)
+        (statement_same b other.0 other.1 fit.1 flat source before))
     statement_same (case_of p e arms) f h fit flat source before =
         let n : ℕ = common_length names e arms in
         let s : Bool = common_signed names e arms in
@@ -270,8 +272,7 @@ module _ (names : Names) (signals : List SignalForm) (numbering : IsNumbering na
 
     statements_same : (ss : StatementTrees) (f : FlatStatement)
         → (statements_walk names ss).end ≡ Ok f → SelectorsFitIn ss
-        → (flat : Environment ℕ × Updates) (source : Running) → AreSame names flat source
-        → AreSame names (run signals f flat) (run_each names.scope ss source)
+        → RunSame f (run_each names.scope ss)
     statements_same no_statements f h fit flat source before =
         let is : nothing ≡ f = cc h in
         subst (λ (g : FlatStatement). AreSame names (run signals g flat) source) is before

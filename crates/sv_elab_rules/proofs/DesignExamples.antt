@@ -1,6 +1,6 @@
 -- Flat designs of small texts, compared whole or in the part that an example is about.
 use Prim.Native.String.{String}
-use Rattle.std.proofs.Common.{◌≡◌, ℕ, ◌-◌, true, false, List, [], ◌∷◌, Option, Some, None, map}
+use Rattle.std.proofs.Common.{◌≡◌, ℕ, ◌+◌, ◌-◌, true, false, List, [], ◌∷◌, Option, Some, None, map}
 use Rattle.std.proofs.Common.{refl}
 use Rattle.std.specs.Prelude.{codes, option_map}
 use Rattle.sv_num.specs.declared.operators.UnOp.TheVariants as unop
@@ -8,7 +8,8 @@ use Rattle.sv_num.specs.declared.operators.BinOp.TheVariants as binop
 use Rattle.sv_lattice.specs.declared.labels.Label.{Label}
 use Rattle.sv_lattice.specs.declared.labels.Label.TheVariants as label
 use Rattle.sv_ast.specs.Tree.{unary, named_overrides, ordered_overrides, named_links, ordered_links}
-use Rattle.sv_ast.specs.Tree.{if_only, case_of, more_arms, no_arms, block, TextTree}
+use Rattle.sv_ast.specs.Tree.{ExpressionTree, ArmTrees, if_only, case_of, more_arms, no_arms, block}
+use Rattle.sv_ast.specs.Tree.{TextTree}
 use Rattle.sv_ast.specs.declared.declarations.DeclKind.TheVariants as kind
 use Rattle.sv_flat.specs.declared.signals.SigKind.{SigKind}
 use Rattle.sv_flat.specs.declared.signals.SigKind.TheVariants as signal_kind
@@ -23,7 +24,7 @@ use Rattle.sv_elab_rules.proofs.SmallTexts.{gets_later, in_order, range, declare
 use Rattle.sv_elab_rules.proofs.SmallTexts.{output_reg, wire_with, point_of, pair_table, sets_default}
 use Rattle.sv_elab_rules.proofs.SmallTexts.{parameter, assigns, always, on_edge, override, link, stands}
 use Rattle.sv_elab_rules.proofs.SmallTexts.{module_of, placed, pair, lattice_of, pair_row, map_tree, span}
-use Rattle.sv_elab_rules.proofs.SmallTexts.{text_of}
+use Rattle.sv_elab_rules.proofs.SmallTexts.{text_of, alone}
 
 -- point 0, the least one where the text has no lattice
 abbrev low : Label
@@ -135,10 +136,7 @@ two_counters = refl
 -- module m(input [1:0] s, output reg [1:0] y); always @* case (s) 0, 3: y = 1; default: y = 0; 1: y
 -- = 2; endcase endmodule
 abbrev chained : TextTree
-chained =
-    text_of None []
-    (module_of "m" 8 []
-    (input (range (decimal 1 17) (decimal 0 19)) "s" 22
+chained = alone (input (range (decimal 1 17) (decimal 0 19)) "s" 22
     ∷ output_reg (range (decimal 1 37) (decimal 0 39)) "y" 42 ∷ [])
     (always 46
     (case_of (at 56) (name "s" 62)
@@ -147,7 +145,7 @@ chained =
     (more_arms (at 78) [] (gets (target "y" 87 ∷ []) 87 (decimal 0 91))
     (more_arms (at 94) (decimal 1 94 ∷ [])
     (gets (target "y" 97 ∷ []) 97 (decimal 2 101))
-    no_arms)))) ∷ []) ∷ [])
+    no_arms)))) ∷ [])
 
 pub a_case_is_a_chain : processes chained ≡ Some (process 46 combinational
     (branch (at 65)
@@ -161,20 +159,23 @@ pub a_case_is_a_chain : processes chained ≡ Some (process 46 combinational
 unfolding computing
 a_case_is_a_chain = refl
 
+-- module m(input s, output reg y); always @* case (..) .. endcase endmodule
+abbrev cased : (selector : ExpressionTree) → ArmTrees → TextTree
+cased e arms = alone (input None "s" 16 ∷ output_reg None "y" 30 ∷ [])
+    (always 34 (case_of (at 44) e arms) ∷ [])
+
+-- n: y = v;
+abbrev sets_y : (column n v : ℕ) → ArmTrees → ArmTrees
+sets_y c n v arms =
+    more_arms (at c) (decimal n c ∷ [])
+    (gets (target "y" (c + 3) ∷ []) (c + 3) (decimal v (c + 7)))
+    arms
+
 -- A case whose items leave nothing out takes its last arm as its default.
 
 -- module m(input s, output reg y); always @* case (s) 0: y = 1; 1: y = 0; endcase endmodule
 abbrev complete : TextTree
-complete =
-    text_of None []
-    (module_of "m" 8 [] (input None "s" 16 ∷ output_reg None "y" 30 ∷ [])
-    (always 34
-    (case_of (at 44) (name "s" 50)
-    (more_arms (at 53) (decimal 0 53 ∷ [])
-    (gets (target "y" 56 ∷ []) 56 (decimal 1 60))
-    (more_arms (at 63) (decimal 1 63 ∷ [])
-    (gets (target "y" 66 ∷ []) 66 (decimal 0 70))
-    no_arms))) ∷ []) ∷ [])
+complete = cased (name "s" 50) (sets_y 53 0 1 (sets_y 63 1 0 no_arms))
 
 pub a_complete_case : processes complete ≡ Some (process 34 combinational
     (branch (at 53) (equal (reads 32 0 50) (constant_at 32 0))
@@ -187,14 +188,10 @@ a_complete_case = refl
 
 -- module m(input s, output reg y); always @* case (s) 0, 1: y = 1; endcase endmodule
 abbrev one_arm : TextTree
-one_arm =
-    text_of None []
-    (module_of "m" 8 [] (input None "s" 16 ∷ output_reg None "y" 30 ∷ [])
-    (always 34
-    (case_of (at 44) (name "s" 50)
+one_arm = cased (name "s" 50)
     (more_arms (at 53) (decimal 0 53 ∷ decimal 1 56 ∷ [])
     (gets (target "y" 59 ∷ []) 59 (decimal 1 63))
-    no_arms)) ∷ []) ∷ [])
+    no_arms)
 
 pub a_complete_case_with_one_arm : processes one_arm ≡ Some
     (process 34 combinational (now 1 59 1 (typed 32 true (constant 1))) ∷ [])
@@ -205,16 +202,8 @@ a_complete_case_with_one_arm = refl
 
 -- module m(input s, output reg y); always @* case (s + 1'b1) 0: y = 1; 1: y = 0; endcase endmodule
 abbrev carried : TextTree
-carried =
-    text_of None []
-    (module_of "m" 8 [] (input None "s" 16 ∷ output_reg None "y" 30 ∷ [])
-    (always 34
-    (case_of (at 44) (op binop.Add 52 (name "s" 50) (bits 1 1 54))
-    (more_arms (at 60) (decimal 0 60 ∷ [])
-    (gets (target "y" 63 ∷ []) 63 (decimal 1 67))
-    (more_arms (at 70) (decimal 1 70 ∷ [])
-    (gets (target "y" 73 ∷ []) 73 (decimal 0 77))
-    no_arms))) ∷ []) ∷ [])
+carried = cased (op binop.Add 52 (name "s" 50) (bits 1 1 54))
+    (sets_y 60 0 1 (sets_y 70 1 0 no_arms))
 
 pub a_carry_passes_the_own_bits : processes carried ≡ Some (process 34 combinational
     (branch (at 60) (equal (typed 32 false (binary binop.Add (reads 32 0 50) (constant_at 32 1)))
@@ -232,15 +221,12 @@ a_carry_passes_the_own_bits = refl
 -- module m(input [7:0] a, output [8:0] y); assign y = a + 8'd255 / 8'd2; wire [31:0] w = -7 / 2;
 -- endmodule
 abbrev divided : TextTree
-divided =
-    text_of None []
-    (module_of "m" 8 []
-    (input (range (decimal 7 17) (decimal 0 19)) "a" 22
+divided = alone (input (range (decimal 7 17) (decimal 0 19)) "a" 22
     ∷ output (range (decimal 8 33) (decimal 0 35)) "y" 38 ∷ [])
     (assigns (target "y" 49 ∷ []) 49
     (op binop.Add 55 (name "a" 53) (op binop.Div 64 (bits 8 255 57) (bits 8 2 66)))
     ∷ wire_with (range (decimal 31 78) (decimal 0 81)) "w" 84
-    (op binop.Div 91 (unary unop.Minus (at 88) (decimal 7 89)) (decimal 2 93)) ∷ []) ∷ [])
+    (op binop.Div 91 (unary unop.Minus (at 88) (decimal 7 89)) (decimal 2 93)) ∷ [])
 
 pub divisions_are_values : processes divided ≡ Some
     (process 49 continuous
@@ -255,10 +241,7 @@ divisions_are_values = refl
 -- module m(input [3:0] a, input [3:0] b, output reg [3:0] s, output reg c, output reg [3:0] p);
 -- always @* {c, s} = a + b; always @* begin p[1:0] = a; p[3:2] = b; end endmodule
 abbrev carrying : TextTree
-carrying =
-    text_of None []
-    (module_of "m" 8 []
-    (input (range (decimal 3 17) (decimal 0 19)) "a" 22
+carrying = alone (input (range (decimal 3 17) (decimal 0 19)) "a" 22
     ∷ input (range (decimal 3 32) (decimal 0 34)) "b" 37
     ∷ output_reg (range (decimal 3 52) (decimal 0 54)) "s" 57
     ∷ output_reg None "c" 71
@@ -272,7 +255,7 @@ carrying =
     (gets (target_part "p" 137 (decimal 1 139) (decimal 0 141) ∷ []) 137
     (name "a" 146)
     ∷ gets (target_part "p" 149 (decimal 3 151) (decimal 2 153) ∷ []) 149
-    (name "b" 158) ∷ []))) ∷ []) ∷ [])
+    (name "b" 158) ∷ []))) ∷ [])
 
 pub pieces_of_a_sum : processes carrying ≡ Some
     (process 95 combinational (assign (piece 3 106 1 4 ∷ piece 2 109 4 0 ∷ []) (at 106) true
@@ -291,12 +274,10 @@ pieces_of_a_sum = refl
 
 -- module m(output [7:0] y); parameter [7:0] U = 4'hf + 4'h1; assign y = U; endmodule
 abbrev ranged : TextTree
-ranged =
-    text_of None []
-    (module_of "m" 8 [] (output (range (decimal 7 18) (decimal 0 20)) "y" 23 ∷ [])
+ranged = alone (output (range (decimal 7 18) (decimal 0 20)) "y" 23 ∷ [])
     (parameter (range (decimal 7 38) (decimal 0 40)) "U" 43
     (op binop.Add 52 (bits 4 15 47) (bits 4 1 54))
-    ∷ assigns (target "y" 67 ∷ []) 67 (name "U" 71) ∷ []) ∷ [])
+    ∷ assigns (target "y" 67 ∷ []) 67 (name "U" 71) ∷ [])
 
 pub a_carry_is_lost_before_the_range : processes ranged ≡
     Some (process 67 continuous (now 0 67 8 (constant_at 8 0)) ∷ [])

@@ -1,6 +1,6 @@
 -- Words for small texts that stand on one line: each part with the column of its place.
 use Prim.Native.String.{String}
-use Rattle.std.proofs.Common.{ℕ, true, false, Bool, List, [], ◌∷◌, Option, Some, None, map}
+use Rattle.std.proofs.Common.{◌≡◌, ℕ, true, false, Bool, List, [], ◌∷◌, Option, Some, None, map}
 use Rattle.std.specs.Prelude.{codes, Result, Err}
 use Rattle.sv_num.specs.declared.faults.Place.{Place}
 use Rattle.sv_num.specs.declared.operators.BinOp.{BinOp}
@@ -17,6 +17,7 @@ use Rattle.sv_ast.specs.Tree.{continuous, always_item, instance_item, ModuleTree
 use Rattle.sv_ast.specs.Tree.{LatticeTree, KeyTree, RowTree, MapTree, TextTree}
 use Rattle.sv_elab_rules.specs.Walks.{WalkStep}
 use Rattle.sv_elab_rules.specs.Rules.{step}
+use Rattle.sv_elab_rules.specs.Texts.{walk_of}
 use Rattle.sv_flat.specs.Design.{FlatDesign}
 
 abbrev pub at : (column : ℕ) → Place
@@ -206,6 +207,37 @@ span h l = record { high = h; low = l }
 abbrev pub text_of : Option LatticeTree → List MapTree → List ModuleTree → TextTree
 text_of l maps modules = record { lattice = l; maps = maps; modules = modules }
 
+-- a text of the module `m` alone
+abbrev pub alone : List DeclarationTree → List ItemTree → TextTree
+alone ports items = text_of None [] (module_of "m" 8 [] ports items ∷ [])
+
 -- a walk ends at that step of line 1
 abbrev pub breaks : (rule column : ℕ) → List String → Result FlatDesign WalkStep
 breaks rule c names = Err (step rule (at c) (map codes names))
+
+-- the walk of a text ends at that step
+abbrev pub Breaks : (rule column : ℕ) → List String → TextTree → Type 0
+Breaks rule column names text = (walk_of text None).end ≡ breaks rule column names
+
+-- that of a text of the module `m` alone
+abbrev pub ModuleBreaks : (rule column : ℕ) → List String → List DeclarationTree → List ItemTree →
+    Type 0
+ModuleBreaks rule column names ports items =
+    Breaks rule column names (alone ports items)
+
+-- and of a text of that module and another one
+abbrev pub ModulesBreak : (rule column : ℕ) → List String → List DeclarationTree → List ItemTree →
+    ModuleTree → Type 0
+ModulesBreak rule column names ports items next =
+    Breaks rule column names (text_of None [] (module_of "m" 8 [] ports items ∷ next ∷ []))
+
+-- a text of a lattice, or of some maps, before a module of nothing
+abbrev pub LatticeBreaks : (rule column : ℕ) → List String → (module_column : ℕ) →
+    List PlacedName → List PairTree → Type 0
+LatticeBreaks rule column names c points pairs =
+    Breaks rule column names
+    (text_of (lattice_of 1 points pairs) [] (module_of "m" c [] [] [] ∷ []))
+
+abbrev pub MapsBreak : (rule column : ℕ) → List String → (module_column : ℕ) → List MapTree → Type 0
+MapsBreak rule column names c maps =
+    Breaks rule column names (text_of None maps (module_of "m" c [] [] [] ∷ []))

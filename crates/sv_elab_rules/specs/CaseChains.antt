@@ -17,6 +17,8 @@ use Rattle.sv_ast.specs.Scopes.{Scope}
 use Rattle.sv_ast.specs.Tree.{ExpressionTree, literal, named, bit_of, part_of, unary, binary}
 use Rattle.sv_ast.specs.Tree.{choice, join, replication, ArmTrees, no_arms, more_arms}
 use Rattle.sv_ast.specs.Instances.{is_empty}
+use Rattle.sv_ast.specs.Runs.{items_length as greatest_of_items, items_signed as all_items_signed}
+use Rattle.sv_ast.specs.Runs.{arms_length as greatest_of_arms, arms_signed as all_arms_signed}
 use Rattle.sv_num.specs.Parts.{extended}
 use Rattle.sv_ast.specs.Values.{nowhere, length_of, signed_of, value}
 use Rattle.sv_flat.specs.Design.{TypedTree, typed, binary as binary_node, FlatStatement, nothing}
@@ -42,22 +44,17 @@ item_signed names e = value_or ((asked names true e >>= λ _. done
 
 -- the greatest length of some items
 abbrev pub items_length : Names → List ExpressionTree → ℕ
-items_length names [] = 0
-items_length names (e ∷ es) = max (item_length names e) (items_length names es)
+items_length names items = greatest_of_items (item_length names) items
 
 -- signed only if all of them are
 abbrev pub items_signed : Names → List ExpressionTree → Bool
-items_signed names [] = true
-items_signed names (e ∷ es) = item_signed names e && items_signed names es
+items_signed names items = all_items_signed (item_signed names) items
 
 abbrev pub arms_length : Names → ArmTrees → ℕ
-arms_length names no_arms = 0
-arms_length names (more_arms p items body arms) =
-    max (items_length names items) (arms_length names arms)
+arms_length names arms = greatest_of_arms (item_length names) arms
 
 abbrev pub arms_signed : Names → ArmTrees → Bool
-arms_signed names no_arms = true
-arms_signed names (more_arms p items body arms) = items_signed names items && arms_signed names arms
+arms_signed names arms = all_arms_signed (item_signed names) arms
 
 -- selector and items stand at the greatest of their lengths, and are signed only if all are
 abbrev pub common_length : Names → (selector : ExpressionTree) → ArmTrees → ℕ

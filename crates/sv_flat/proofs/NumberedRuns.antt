@@ -285,6 +285,18 @@ pub block_is : (s : FStmt) (v : Vec FStmt Global) (ss : List FStmt) → s ≡ st
     ss ≡ v.items → flat_statement s ≡ chain ss
 block_is s v ss is items = ap flat_statement is ∙ row_chain-hidden v ∙ sym (ap chain items)
 
+-- what a taken assignment puts, by whether it is blocking, is what the whole run does
+pub assigned_alone :
+    (signals : List SignalForm) (e : Environment ℕ) (ps : List PieceForm) (place : Place)
+    (blocking now : Bool) (right : TypedTree) (body taken : FlatStatement)
+    → blocking ≡ now → taken ≡ assign ps place blocking right
+    → run signals taken (e, []) ≡ run signals body (e, [])
+    → (fold (put_piece signals now (value signals e right)) (e, []) ps).0 ≡
+    run_alone signals body e
+assigned_alone signals e ps place blocking now right body taken same is runs =
+    ap (λ b. (fold (put_piece signals b (value signals e right)) (e, []) ps).0) (sym same)
+    ∙ ap (λ s. run_alone signals s e) (sym is) ∙ ap (λ z. z.0) runs
+
 pub nonblocking_run :
     (signals : List SignalForm) (ps : List PieceForm) (place : Place) (blocking : Bool)
     (right : TypedTree) (now : Environment ℕ × Updates)

@@ -31,6 +31,12 @@ pub in_order : values
     1 ∷ 0 ∷ 0 ∷ 1 ∷ []
 in_order = refl
 
+-- the rounds under a number leave all quiet, with these values
+abbrev Settles : (number rounds : ℕ) → Environment ℕ → List ℕ → Type 0
+Settles number rounds e settled =
+    (is_quiet inverters (after_rounds inverters number rounds e) ≡ true)
+    × (values (after_rounds inverters number rounds e) ≡ settled)
+
 -- cycle 0 takes one round under the number 10
 abbrev begun : Environment ℕ
 begun = with_inputs inverters (λ s. 0) (starting inverters (λ s. 0))
@@ -38,11 +44,8 @@ begun = with_inputs inverters (λ s. 0) (starting inverters (λ s. 0))
 pub not_quiet_before : is_quiet inverters begun ≡ false
 not_quiet_before = refl
 
-pub one_round : is_quiet inverters (after_rounds inverters 10 1 begun) ≡ true
-one_round = refl
-
-pub settled : values (after_rounds inverters 10 1 begun) ≡ 0 ∷ 1 ∷ 1 ∷ 0 ∷ []
-settled = refl
+pub one_round : Settles 10 1 begun (0 ∷ 1 ∷ 1 ∷ 0 ∷ [])
+one_round = (refl, refl)
 
 -- cycle 1 goes on from there with a = 1, and takes two
 abbrev next : Environment ℕ
@@ -51,11 +54,8 @@ next = with_inputs inverters (λ s. 1) (after_rounds inverters 10 1 begun)
 pub not_quiet_after_one : is_quiet inverters (after_rounds inverters 11 1 next) ≡ false
 not_quiet_after_one = refl
 
-pub two_rounds : is_quiet inverters (after_rounds inverters 11 2 next) ≡ true
-two_rounds = refl
-
-pub settled_again : values (after_rounds inverters 11 2 next) ≡ 1 ∷ 0 ∷ 0 ∷ 1 ∷ []
-settled_again = refl
+pub two_rounds : Settles 11 2 next (1 ∷ 0 ∷ 0 ∷ 1 ∷ [])
+two_rounds = (refl, refl)
 
 -- ---- the ordered run of both cycles
 

@@ -49,13 +49,6 @@ row_chain-hidden v =
     row_chain-items _ (hidden-the_row-FStmt-0 v)
     ∙ ap (λ ss. chain_of (flat_statements ss)) (items_hidden-the_row-FStmt-0 v)
 
--- so vectors with equal plain forms give equal chains
-pub same_chains :
-    (v w : Vec FStmt Global) →
-    flat_statements v.items ≡ flat_statements w.items →
-    row_chain (hidden-the_row-FStmt-0 v) ≡ row_chain (hidden-the_row-FStmt-0 w)
-same_chains v w same = row_chain-hidden v ∙ ap chain_of same ∙ sym (row_chain-hidden w)
-
 -- a block is no assignment
 pub no_assignment : (signals : List SignalForm) (n : _) (row : Row_of-FStmt n) →
     is_one_assignment signals (row_chain row) ≡ false

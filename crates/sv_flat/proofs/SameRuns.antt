@@ -487,6 +487,8 @@ module _ (signals : List SignalForm) where
     runs_agree (after first second) before later now1 now2 sound blocking owned ready agrees =
         let mid = either (always_assigns first) before in
         let late = either (can_assign second) later in
+        let in_first = readings signals first before late in
+        let in_second = readings signals second mid later in
         weaken (either (always_assigns (after first second)) before)
         (either (always_assigns second) mid)
         (run signals (after first second) now1).0 (run signals (after first second) now2).0
@@ -495,16 +497,12 @@ module _ (signals : List SignalForm) where
         (second_of (statement_sound signals first) (statement_sound signals second) sound)
         (second_of (all_blocking first) (all_blocking second) blocking)
         (λ t h. owned t (or_right (assigns first t) (assigns second t) h))
-        (λ r at.
-        ready r (Contains-right (readings signals first before late)
-        (readings signals second mid later) r at))
+        (λ r at. ready r (Contains-right in_first in_second r at))
         (runs_agree first before late now1 now2
         (first_of (statement_sound signals first) (statement_sound signals second) sound)
         (first_of (all_blocking first) (all_blocking second) blocking)
         (λ t h. owned t (or_left (assigns first t) (assigns second t) h))
-        (λ r at.
-        ready r (Contains-left (readings signals first before late)
-        (readings signals second mid later) r at))
+        (λ r at. ready r (Contains-left in_first in_second r at))
         agrees))
     runs_agree (assign pieces place true right) before later now1 now2 sound blocking owned ready
         agrees =
@@ -521,6 +519,10 @@ module _ (signals : List SignalForm) where
         (either (can_assign whole) later) in
         let in_first = readings signals first before later in
         let in_second = readings signals second before later in
+        let first1 = run signals first now1 in
+        let first2 = run signals first now2 in
+        let second1 = run signals second now1 in
+        let second2 = run signals second now2 in
         let front = first_of (well_formed signals condition && statement_sound signals first)
         (statement_sound signals second) sound in
         ⊎_elim
@@ -529,8 +531,7 @@ module _ (signals : List SignalForm) where
         same_arm (is_true (value signals now1.0 condition))
         (is_true (value signals now2.0 condition))
         (either (always_assigns whole) before)
-        (run signals first now1) (run signals second now1) (run signals first now2)
-        (run signals second now2)
+        first1 second1 first2 second2
         (ap is_true (right_same condition (assigns whole) before (either (can_assign whole) later)
         target.0 now1.0 now2.0
         (first_of (well_formed signals condition) (statement_sound signals first) front)
@@ -539,8 +540,7 @@ module _ (signals : List SignalForm) where
         (Contains-left here in_first r at)))
         target.1 target.2 agrees))
         (weaken (either (always_assigns whole) before) (either (always_assigns first) before)
-        (run signals first now1).0
-        (run signals first now2).0
+        first1.0 first2.0
         (λ t b h. both_or_first (always_assigns first t b) (always_assigns second t b)
         (before t b) h)
         (runs_agree first before later now1 now2
@@ -552,8 +552,7 @@ module _ (signals : List SignalForm) where
         (Contains-right here in_first r at)))
         agrees))
         (weaken (either (always_assigns whole) before) (either (always_assigns second) before)
-        (run signals second now1).0
-        (run signals second now2).0
+        second1.0 second2.0
         (λ t b h. both_or_second (always_assigns first t b) (always_assigns second t b)
         (before t b) h)
         (runs_agree second before later now1 now2

@@ -20,9 +20,8 @@ is_top_kind _ = false
 
 -- an input port, of the top module or of an instance
 abbrev pub is_input_kind : SigKind → Bool
-is_input_kind TopInput = true
 is_input_kind Input = true
-is_input_kind _ = false
+is_input_kind kind = is_top_kind kind
 
 -- declared as a `reg`
 abbrev pub is_reg_kind : SigKind → Bool

@@ -107,6 +107,9 @@ piece_fits signals e piece =
     && is_part_of (signal_width signals piece.signal) (expression_width e - piece.from) piece.high
     piece.low
 
+abbrev pub pieces_fit : List SignalForm → TypedTree → List PieceForm → Bool
+pieces_fit signals e pieces = list_all (piece_fits signals e) pieces
+
 abbrev pub statement_sound : List SignalForm → FlatStatement → Bool
 statement_sound signals nothing = true
 statement_sound signals (after first second) =

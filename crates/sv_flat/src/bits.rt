@@ -67,8 +67,16 @@ pub fn replaced_bits(value: u64, width: u8, high: u8, low: u8, piece: u64) -> u6
     ensures range { result < 2 ^ width }
 {
     let above = shifted(low_bits(value, width), u64::from(high + 1));
-    let inside = low_bits(piece, high - low + 1);
-    beside(above, beside(inside, low_bits(value, low), low), high + 1)
+    beside(above, lower_bits(value, high, low, piece), high + 1)
+}
+
+// The bits of a value up to `high`, of which those from `low` up are the low bits of a piece.
+fn lower_bits(value: u64, high: u8, low: u8, piece: u64) -> u64
+    requires order { low ≤ high }
+    requires inside { high < 64 }
+    ensures { result ≡ piece % 2 ^ (high - low + 1) * 2 ^ low + value % 2 ^ low }
+{
+    beside(low_bits(piece, high - low + 1), low_bits(value, low), low)
 }
 
 /// A value, given after its width, at another, no smaller one: the new bits are copies of the

@@ -1,13 +1,12 @@
 // Runs of processes, on values by signal number.
 ghost use Rattle.std.specs.Prelude.{◌≡◌, ◌<◌, ◌≤◌, ◌/◌, ◌^◌, ◌==◌, true, false, [], fold, map};
 ghost use Rattle.std.specs.Prelude.{length, IsTrue, IsFalse};
-ghost use Rattle.std.specs.List.{list_all};
 ghost use Rattle.sv_flat.specs.ByNumber.{signal_forms, by_number, FitSignals, AreWords, updated};
 ghost use Rattle.sv_flat.specs.ByNumber.{is_nonblocking, is_branch};
 ghost use Rattle.sv_flat.specs.declared.statements.FStmt.{size-FStmt};
 ghost use Rattle.sv_flat.specs.Design.{TypedTree};
 ghost use Rattle.sv_flat.specs.Runs.{Updates, with_piece, put_piece, run, run_alone};
-ghost use Rattle.sv_flat.specs.Soundness.{piece_fits, well_formed, statement_sound};
+ghost use Rattle.sv_flat.specs.Soundness.{pieces_fit, well_formed, statement_sound};
 ghost use Rattle.sv_flat.specs.Values.{value, signal_width};
 ghost use Rattle.sv_flat.specs.Views.{typed_tree, piece_form, flat_statement, flat_statements};
 ghost use Rattle.sv_flat.specs.Views.{chain_of};
@@ -91,8 +90,7 @@ fn run_all(stmts: &[FStmt], signals: &[Signal], values: &mut [u64])
 // A blocking assignment: the value is taken once, and the pieces are put in textual order.
 fn assign(pieces: &[Piece], expr: &FExpr, signals: &[Signal], values: &mut [u64])
     requires formed { IsTrue (well_formed (signal_forms signals.now) (typed_tree expr.now)) }
-    requires inside { IsTrue
-        (list_all (piece_fits (signal_forms signals.now) (typed_tree expr.now))
+    requires inside { IsTrue (pieces_fit (signal_forms signals.now) (typed_tree expr.now)
         (map piece_form pieces.now)) }
     requires words { AreWords (signal_forms signals.now) }
     requires fit { FitSignals (signal_forms signals.now) values.old }
@@ -110,7 +108,7 @@ fn assign(pieces: &[Piece], expr: &FExpr, signals: &[Signal], values: &mut [u64]
 // Puts the pieces of a right side's value in textual order.
 fn put_pieces(pieces: &[Piece], right: u64, signals: &[Signal], values: &mut [u64])
     requires inside { (e : TypedTree) × IsTrue
-        (list_all (piece_fits (signal_forms signals.now) e) (map piece_form pieces.now)) }
+        (pieces_fit (signal_forms signals.now) e (map piece_form pieces.now)) }
     requires words { AreWords (signal_forms signals.now) }
     requires fit { FitSignals (signal_forms signals.now) values.old }
     ensures run { by_number values.new ≡ (fold (put_piece (signal_forms signals.now) true right)
@@ -189,8 +187,7 @@ fn update_all(stmts: &[FStmt], signals: &[Signal], values: &[u64], next: &mut [u
 // A nonblocking assignment: a piece keeps what is pending of the signal's other bits.
 fn update(pieces: &[Piece], expr: &FExpr, signals: &[Signal], values: &[u64], next: &mut [u64])
     requires formed { IsTrue (well_formed (signal_forms signals.now) (typed_tree expr.now)) }
-    requires inside { IsTrue
-        (list_all (piece_fits (signal_forms signals.now) (typed_tree expr.now))
+    requires inside { IsTrue (pieces_fit (signal_forms signals.now) (typed_tree expr.now)
         (map piece_form pieces.now)) }
     requires words { AreWords (signal_forms signals.now) }
     requires fit { FitSignals (signal_forms signals.now) values.now }

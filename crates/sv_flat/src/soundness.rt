@@ -2,7 +2,8 @@
 ghost use Rattle.std.specs.Prelude.{◌≡◌, ◌&&◌, map};
 ghost use Rattle.std.specs.List.{list_all};
 ghost use Rattle.sv_flat.specs.ByNumber.{signal_forms};
-ghost use Rattle.sv_flat.specs.Soundness.{piece_fits, statement_sound, is_whole, is_one_assignment};
+ghost use Rattle.sv_flat.specs.Soundness.{piece_fits, pieces_fit, statement_sound, is_whole};
+ghost use Rattle.sv_flat.specs.Soundness.{is_one_assignment};
 ghost use Rattle.sv_flat.specs.Soundness.{is_point, kind_sound, process_sound};
 ghost use Rattle.sv_flat.specs.Soundness.{selector_fits, second_fits, label_sound, signal_sound};
 ghost use Rattle.sv_flat.specs.Soundness.{map_sound, invariant_sound, sound};
@@ -214,7 +215,7 @@ fn are_statements_sound(stmts: &[FStmt], signals: &[Signal]) -> bool
 }
 
 fn do_pieces_fit(pieces: &[Piece], value: &FExpr, signals: &[Signal]) -> bool
-    ensures { result ≡ list_all (piece_fits (signal_forms signals.now) (typed_tree value.now))
+    ensures { result ≡ pieces_fit (signal_forms signals.now) (typed_tree value.now)
         (map piece_form pieces.now) }
 {
     pieces

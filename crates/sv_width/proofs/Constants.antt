@@ -28,9 +28,9 @@ use Rattle.sv_width.specs.Measured.{OwnForm, MeasuredTree, own_form, own_of}
 use Rattle.sv_width.specs.Measured.{measured_name, measured_of, measured_parts}
 use Rattle.sv_width.specs.Pushed.{behind, behind_times, joined_width, folded_of, joined_from}
 use Rattle.sv_width.proofs.Sound.{Sound, SoundParts}
-use Rattle.sv_width.proofs.SameValue.{result_at, either}
-use Rattle.sv_width.proofs.Lengths.{KnownIn, own_length, count_inside}
-use Rattle.sv_width.proofs.WellFormed.{reduced_low, operand_lengths, kept_length}
+use Rattle.sv_width.proofs.SameValue.{result_at, either, left_standing, right_standing}
+use Rattle.sv_width.proofs.Lengths.{KnownIn, three_parts, own_length, count_inside}
+use Rattle.sv_width.proofs.WellFormed.{reduced_low, operand_lengths, both_stand, kept_length}
 use Rattle.sv_width.proofs.Low.{one_low, bit_low, unary_low, binary_low, odd_low}
 
 -- ---- values of constants are low
@@ -102,15 +102,14 @@ module _ (names : Names) (lengths : HaveLengths names.scope) where
         (value_low c known a q.0 shapes.0 numbers.0 _ _ stand.1 stand.0)
         (value_low c known b q.1 shapes.1 numbers.1 _ _ stand.3 stand.2))
     value_low c known (choice p d a b) q shape numbers n s fits is =
-        let outer = and_parts (is_shaped_expression d && is_shaped_expression a)
+        let shapes = three_parts (is_shaped_expression d) (is_shaped_expression a)
         (is_shaped_expression b) shape in
-        let inner = and_parts (is_shaped_expression d) (is_shaped_expression a) outer.0 in
         let left : length_of names.scope a ≤ n = omega arith in
         let right : length_of names.scope b ≤ n = omega arith in
         chosen_low (is_true (value names.scope nowhere d (length_of names.scope d)
         (signed_of names.scope d))) _ _ (2 ^ n)
-        (value_low c known a q.1 inner.1 numbers.1 n s left is)
-        (value_low c known b q.2 outer.1 numbers.2 n s right is)
+        (value_low c known a q.1 shapes.1 numbers.1 n s left is)
+        (value_low c known b q.2 shapes.2 numbers.2 n s right is)
     value_low c known (join p es) q shape numbers n s fits is =
         let shapes = and_parts (has_part es) (are_shaped_parts es) shape in
         let more : 2 ^ joined_length names.scope es ≤ 2 ^ n = pow_mono fits in
@@ -274,55 +273,45 @@ module _ (names : Names) (lengths : HaveLengths names.scope) where
         else unary_value op n s (value names.scope nowhere e n s)) h))
     folded_same c known (binary op p a b) q shape numbers n s fits is =
         let shapes = and_parts (is_shaped_expression a) (is_shaped_expression b) shape in
-        let A : MeasuredTree = measured_of names a in
-        let B : MeasuredTree = measured_of names b in
-        let la : ℕ = length_of names.scope a in
-        let lb : ℕ = length_of names.scope b in
-        let sa : Bool = signed_of names.scope a in
-        let sb : Bool = signed_of names.scope b in
-        let LL : ℕ = left_length (class_of op) n la lb in
-        let LS : Bool = left_signed (class_of op) s sa sb in
-        let RL : ℕ = right_length (class_of op) n la lb in
-        let RS : Bool = right_signed (class_of op) s sa sb in
-        let stand = operand_lengths (class_of op) n la lb
-        (own_length names lengths c known a q.0 shapes.0 numbers.0)
-        (own_length names lengths c known b q.1 shapes.1 numbers.1) is fits in
+        let l = left_standing names op a b n s in
+        let r = right_standing names op a b n s in
+        let stand = both_stand names lengths c known op a b (q.0, q.1) shapes numbers n s fits is in
         ap₂ (λ (x y : OwnForm).
         binary_value op (left_length (class_of op) n x.width y.width)
         (left_signed (class_of op) s x.signed y.signed)
-        (folded_of A (left_length (class_of op) n x.width y.width)
+        (folded_of (measured_of names a) (left_length (class_of op) n x.width y.width)
         (left_signed (class_of op) s x.signed y.signed))
-        (folded_of B (right_length (class_of op) n x.width y.width)
+        (folded_of (measured_of names b) (right_length (class_of op) n x.width y.width)
         (right_signed (class_of op) s x.signed y.signed)))
         (own_measured names a) (own_measured names b)
-        ∙ ap (λ x. binary_value op LL LS x (folded_of B RL RS))
-        (folded_same c known a q.0 shapes.0 numbers.0 LL LS stand.1 stand.0)
-        ∙ ap (λ x. binary_value op LL LS (value names.scope nowhere a LL LS) x)
-        (folded_same c known b q.1 shapes.1 numbers.1 RL RS stand.3 stand.2)
-        ∙ result_at op n s (operand la sa (value names.scope nowhere a))
-        (operand lb sb (value names.scope nowhere b))
+        ∙ ap (λ x. binary_value op l.length l.signed x
+        (folded_of (measured_of names b) r.length r.signed))
+        (folded_same c known a q.0 shapes.0 numbers.0 l.length l.signed stand.1 stand.0)
+        ∙ ap (λ x. binary_value op l.length l.signed
+        (value names.scope nowhere a l.length l.signed) x)
+        (folded_same c known b q.1 shapes.1 numbers.1 r.length r.signed stand.3 stand.2)
+        ∙ result_at op n s (operand (length_of names.scope a) (signed_of names.scope a)
+        (value names.scope nowhere a))
+        (operand (length_of names.scope b) (signed_of names.scope b) (value names.scope nowhere b))
     folded_same c known (choice p d a b) q shape numbers n s fits is =
-        let outer = and_parts (is_shaped_expression d && is_shaped_expression a)
+        let shapes = three_parts (is_shaped_expression d) (is_shaped_expression a)
         (is_shaped_expression b) shape in
-        let inner = and_parts (is_shaped_expression d) (is_shaped_expression a) outer.0 in
-        let own = own_length names lengths c known d q.0 inner.0 numbers.0 in
-        let left : length_of names.scope a ≤ n = omega arith in
-        let right : length_of names.scope b ≤ n = omega arith in
+        let own = own_length names lengths c known d q.0 shapes.0 numbers.0 in
         let A : ℕ = folded_of (measured_of names a) n s in
         let B : ℕ = folded_of (measured_of names b) n s in
         ap (λ x. if is_true x then A else B)
         (ap (λ (o : OwnForm).
         folded_of (measured_of names d) o.width o.signed) (own_measured names d)
-        ∙ folded_same c known d q.0 inner.0 numbers.0 (length_of names.scope d)
+        ∙ folded_same c known d q.0 shapes.0 numbers.0 (length_of names.scope d)
         (signed_of names.scope d) (omega arith) own)
         ∙ ap (λ x. if is_true
         (value names.scope nowhere d (length_of names.scope d) (signed_of names.scope d))
         then x else B)
-        (folded_same c known a q.1 inner.1 numbers.1 n s left is)
+        (folded_same c known a q.1 shapes.1 numbers.1 n s (omega arith) is)
         ∙ ap (λ x. if is_true
         (value names.scope nowhere d (length_of names.scope d) (signed_of names.scope d))
         then value names.scope nowhere a n s else x)
-        (folded_same c known b q.2 outer.1 numbers.2 n s right is)
+        (folded_same c known b q.2 shapes.2 numbers.2 n s (omega arith) is)
     folded_same c known (join p es) q shape numbers n s fits is =
         let shapes = and_parts (has_part es) (are_shaped_parts es) shape in
         let more : 2 ^ joined_length names.scope es ≤ 2 ^ n = pow_mono fits in
@@ -332,8 +321,8 @@ module _ (names : Names) (lengths : HaveLengths names.scope) where
         (zero_sum (2 ^ joined_length names.scope es) (joined_value names.scope nowhere es))
         ∙ mod-eq_of_lt (omega (arith, more, low))
     folded_same c known (replication p k es) q shape numbers n s fits is =
-        let outer = and_parts (is_shaped_expression k && has_part es) (are_shaped_parts es) shape in
-        let inner = and_parts (is_shaped_expression k) (has_part es) outer.0 in
+        let shapes = three_parts (is_shaped_expression k) (has_part es)
+        (are_shaped_parts es) shape in
         let times : ℕ = natural (whole_number names.scope k) in
         let J : ℕ = joined_length names.scope es in
         let V : ℕ = joined_value names.scope nowhere es in
@@ -341,13 +330,13 @@ module _ (names : Names) (lengths : HaveLengths names.scope) where
         let once : J ≤ times * J = one_of_many times J count.0 in
         let fits_once : J ≤ n = omega (arith, once, fits) in
         let more : 2 ^ J ≤ 2 ^ n = pow_mono fits_once in
-        let low = parts_low names lengths c known es q.2 outer.1 numbers.1 in
+        let low = parts_low names lengths c known es q.2 shapes.2 numbers.1 in
         let whole : 2 ^ (times * J) ≤ 2 ^ n = pow_mono fits in
         let all_low = repeated_low times J V low in
         ap (λ x. behind_times n times x (joined_from (measured_parts names es) n 0))
         (joined_measured names es)
         ∙ ap (λ x. behind_times n times J x)
-        (joined_same c known es q.2 outer.1 numbers.1 n 0 (pow_pos n)
+        (joined_same c known es q.2 shapes.2 numbers.1 n 0 (pow_pos n)
         ∙ ap (λ x. x % 2 ^ n) (zero_sum (2 ^ J) V)
         ∙ mod-eq_of_lt (omega (arith, more, low)))
         ∙ behind_times_same n times J V

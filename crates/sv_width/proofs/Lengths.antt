@@ -22,6 +22,13 @@ use Rattle.sv_width.specs.Agreement.{PartsHaveLengths}
 use Rattle.sv_width.proofs.Sound.{Sound, SoundParts}
 use Rattle.sv_width.proofs.SameValue.{reached, meant}
 
+-- what holds of three holds of each
+pub three_parts : (a b c : Bool) → (a && b && c) ≡ true → (a ≡ true) × (b ≡ true) × (c ≡ true)
+three_parts a b c h =
+    let outer = and_parts (a && b) c h in
+    let inner = and_parts a b outer.0 in
+    (inner.0, inner.1, outer.1)
+
 pub bound_length : (scope : Scope) → HaveLengths scope → (m : List ℕ) (b : Option Binding) →
     scope m ≡ b → IsTrue (is_bound b) → IsLength (width_of b)
 bound_length scope lengths m (Some b) is bound = lengths m b is
@@ -113,11 +120,10 @@ module _ (names : Names) (lengths : HaveLengths names.scope) where
         result_length (class_of op) (length_of names.scope a) (length_of names.scope b)
         (own_length c known a q.0 shapes.0 numbers.0) (own_length c known b q.1 shapes.1 numbers.1)
     own_length c known (choice p d a b) q shape numbers =
-        let outer = and_parts (is_shaped_expression d && is_shaped_expression a)
+        let shapes = three_parts (is_shaped_expression d) (is_shaped_expression a)
         (is_shaped_expression b) shape in
-        let inner = and_parts (is_shaped_expression d) (is_shaped_expression a) outer.0 in
         result_length Context (length_of names.scope a) (length_of names.scope b)
-        (own_length c known a q.1 inner.1 numbers.1) (own_length c known b q.2 outer.1 numbers.2)
+        (own_length c known a q.1 shapes.1 numbers.1) (own_length c known b q.2 shapes.2 numbers.2)
     own_length c known (join p es) q shape numbers =
         let shapes = and_parts (has_part es) (are_shaped_parts es) shape in (
           some_length c known es q.0 shapes.0 shapes.1 numbers,
@@ -125,11 +131,11 @@ module _ (names : Names) (lengths : HaveLengths names.scope) where
               (joined_length names.scope es) 64 q.1,
         )
     own_length c known (replication p k es) q shape numbers =
-        let outer = and_parts (is_shaped_expression k && has_part es) (are_shaped_parts es) shape in
-        let inner = and_parts (is_shaped_expression k) (has_part es) outer.0 in
+        let shapes = three_parts (is_shaped_expression k) (has_part es)
+        (are_shaped_parts es) shape in
         let count = count_inside (whole_number names.scope k) q.5 in (
           product_some (natural (whole_number names.scope k)) (joined_length names.scope es) count.0
-              (some_length c known es q.2 inner.1 outer.1 numbers.1),
+              (some_length c known es q.2 shapes.1 shapes.2 numbers.1),
           leb-true (natural (whole_number names.scope k) * joined_length names.scope es) 64 q.3,
         )
 

@@ -1,5 +1,5 @@
 -- The steps at one name, by what it stands for.
-use Rattle.std.proofs.Common.{◌≡◌, ℕ, Bool, true, false, List, refl, sym, ap, subst}
+use Rattle.std.proofs.Common.{◌≡◌, ℕ, Bool, true, false, List, refl, sym, ap, subst, ◌∙◌}
 use Rattle.std.specs.Prelude.{not, ◌||◌, if◌then◌else◌, Option, Some, None, option_map}
 use Rattle.std.specs.Prelude.{Ok, Err}
 use Rattle.sv_num.specs.declared.faults.Place.{Place}
@@ -14,17 +14,23 @@ use Rattle.sv_elab_rules.specs.TypedExpressions.{names_signal, some_names_signal
 use Rattle.sv_elab_rules.specs.ExpressionSteps.{asked, asked_parts}
 use Rattle.sv_width.specs.declared.lookups.Setting.{Setting}
 use Rattle.sv_width.specs.declared.lookups.Setting.TheVariants.{Open, Constant, Declaring}
+use Rattle.sv_width.specs.declared.meanings.Meaning.{Meaning}
 use Rattle.sv_width.specs.Scopes.{Known, binding_of, meaning_of, number_in}
 use Rattle.sv_width.specs.Settings.{names_in, is_constant, absent_step, selected_steps}
 use Rattle.sv_width.specs.Measured as measured
 use Rattle.sv_width.specs.Measured.{measured_name, measured_of, measured_parts}
 
 -- what names stand for in each setting
-pub scope_in : (setting : Setting) (known : Known) (n : List ℕ) →
+scope_in : (setting : Setting) (known : Known) (n : List ℕ) →
     (names_in setting known).scope n ≡ option_map binding_of (meaning_of known n)
 scope_in Open known n = refl
 scope_in Constant known n = refl
 scope_in Declaring known n = refl
+
+pub stands_for : (setting : Setting) (known : Known) (n : List ℕ) (m : Option Meaning) →
+    m ≡ meaning_of known n → (names_in setting known).scope n ≡ option_map binding_of m
+stands_for setting known n m is =
+    scope_in setting known n ∙ ap (λ (x : Option Meaning). option_map binding_of x) (sym is)
 
 pub number_at : (setting : Setting) (known : Known) (n : List ℕ) →
     (names_in setting known).number n ≡ number_in known n

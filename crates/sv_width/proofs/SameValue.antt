@@ -42,6 +42,23 @@ either false f g = g refl
 abbrev own_typed : Names → ExpressionTree → TypedTree
 own_typed names e = typed_of names e (length_of names.scope e) (signed_of names.scope e)
 
+-- the length and the signedness at which an operand of an operator stands
+pub record Standing : Type 0 where
+  pub length : ℕ
+  pub signed : Bool
+
+abbrev pub left_standing : Names → BinOp → (a b : ExpressionTree) → ℕ → Bool → Standing
+left_standing names op a b n s = record {
+  length = left_length (class_of op) n (length_of names.scope a) (length_of names.scope b);
+  signed = left_signed (class_of op) s (signed_of names.scope a) (signed_of names.scope b);
+}
+
+abbrev pub right_standing : Names → BinOp → (a b : ExpressionTree) → ℕ → Bool → Standing
+right_standing names op a b n s = record {
+  length = right_length (class_of op) n (length_of names.scope a) (length_of names.scope b);
+  signed = right_signed (class_of op) s (signed_of names.scope a) (signed_of names.scope b);
+}
+
 -- what the typed forms of operators are
 module _ (names : Names) (p : Place) (n : ℕ) (s : Bool) where
   pub typed_reduction : (op : UnOp) (e : ExpressionTree) → gives_one_bit op ≡ true
@@ -66,13 +83,11 @@ module _ (names : Names) (p : Place) (n : ℕ) (s : Bool) where
   divided_form op a b = typed n s (constant (value names.scope nowhere (binary op p a b) n s))
 
   abbrev operated_form : BinOp → ExpressionTree → ExpressionTree → TypedTree
-  operated_form op a b = typed n s (binary_node op
-      (typed_of names a
-      (left_length (class_of op) n (length_of names.scope a) (length_of names.scope b))
-      (left_signed (class_of op) s (signed_of names.scope a) (signed_of names.scope b)))
-      (typed_of names b
-      (right_length (class_of op) n (length_of names.scope a) (length_of names.scope b))
-      (right_signed (class_of op) s (signed_of names.scope a) (signed_of names.scope b))))
+  operated_form op a b =
+      let l = left_standing names op a b n s in
+      let r = right_standing names op a b n s in
+      typed n s (binary_node op (typed_of names a l.length l.signed)
+      (typed_of names b r.length r.signed))
 
   typed_by_kind : (op : BinOp) (a b : ExpressionTree) (d : Bool) → is_division op ≡ d
       → typed_of names (binary op p a b) n s ≡ elim d as (λ y. TypedTree) [
@@ -387,10 +402,8 @@ module _ (names : Names) (declared : AllDeclared names) where
         (constant_operands names c op p a b q h) n s))
         (λ h. ap (λ t. flat_value signals by_number t) (typed_binary names p n s op a b h)
         ∙ operands_same op a b n s same_a same_b
-        (left_length (class_of op) n (length_of names.scope a) (length_of names.scope b))
-        (left_signed (class_of op) s (signed_of names.scope a) (signed_of names.scope b))
-        (right_length (class_of op) n (length_of names.scope a) (length_of names.scope b))
-        (right_signed (class_of op) s (signed_of names.scope a) (signed_of names.scope b))
+        (left_standing names op a b n s).length (left_standing names op a b n s).signed
+        (right_standing names op a b n s).length (right_standing names op a b n s).signed
         ∙ result_at op n s (operand (length_of names.scope a) (signed_of names.scope a)
         (value names.scope by_name a))
         (operand (length_of names.scope b) (signed_of names.scope b) (value names.scope by_name b)))

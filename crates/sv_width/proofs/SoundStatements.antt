@@ -21,7 +21,7 @@ use Rattle.sv_ast.specs.Shape.{is_shaped_statement, are_shaped_statements, has_a
 use Rattle.sv_ast.specs.Shape.{are_shaped_arms}
 use Rattle.sv_ast.specs.Values.{natural, length_of, joined_length, signed_of, whole_number}
 use Rattle.sv_flat.specs.Design.{SignalForm, TypedTree, typed, binary, FlatStatement, nothing}
-use Rattle.sv_flat.specs.Design.{after, assign, branch}
+use Rattle.sv_flat.specs.Design.{after, assign}
 use Rattle.sv_flat.specs.Values.{signal_width, expression_width, expression_signed}
 use Rattle.sv_flat.specs.Soundness.{is_whole as is_whole_piece, is_part_of, piece_fits, well_formed}
 use Rattle.sv_flat.specs.Soundness.{statement_sound, is_signal as is_number_of_signal}
@@ -36,12 +36,13 @@ use Rattle.sv_elab_rules.specs.CaseChains.{FlatArm, item_length, items_length, a
 use Rattle.sv_elab_rules.specs.CaseChains.{common_length, common_signed, equals, or_equals, arm_branch}
 use Rattle.sv_elab_rules.specs.CaseChains.{chain, closed_chain, default_of, case_chain, is_complete}
 use Rattle.sv_elab_rules.specs.Statements.{items_walk, statement_walk, statements_walk, arms_walk}
-use Rattle.sv_elab_rules.proofs.WalkLemmas.{end_after, end_broken, parts_done, asked_true}
+use Rattle.sv_elab_rules.proofs.WalkLemmas.{end_after, end_broken, parts_done, if_only_done}
+use Rattle.sv_elab_rules.proofs.WalkLemmas.{if_else_done, asked_true}
 use Rattle.sv_width.specs.Agreement.{AllDeclared, HaveSignals, HaveLengths, IsLength}
 use Rattle.sv_width.specs.Agreement.{NumbersHaveLengths}
 use Rattle.sv_width.proofs.Sound.{both_pass, passed_sound}
 use Rattle.sv_width.proofs.SameValue.{type_of_typed}
-use Rattle.sv_width.proofs.Lengths.{own_length, part_inside}
+use Rattle.sv_width.proofs.Lengths.{three_parts, own_length, part_inside}
 use Rattle.sv_width.proofs.WellFormed.{typed_formed}
 use Rattle.sv_width.specs.WrittenLengths.{ItemsHaveLengths, StatementHasLengths}
 use Rattle.sv_width.specs.WrittenLengths.{StatementsHaveLengths, ArmsHaveLengths}
@@ -381,11 +382,9 @@ module _ (names : Names) (declared : AllDeclared names) (lengths : HaveLengths n
       arms_length names arms ≤ 64
   arms_few no_arms shape numbers = omega arith
   arms_few (more_arms p items body arms) shape numbers =
-      let outer = and_parts (list_all is_shaped_expression items && is_shaped_statement body)
+      let shapes = three_parts (list_all is_shaped_expression items) (is_shaped_statement body)
       (are_shaped_arms arms) shape in
-      let inner = and_parts (list_all is_shaped_expression items) (is_shaped_statement body)
-      outer.0 in
-      omega (arith, items_few items inner.0 numbers.0, arms_few arms outer.1 numbers.2)
+      omega (arith, items_few items shapes.0 numbers.0, arms_few arms shapes.2 numbers.2)
 
   items_typed : (n : ℕ) (s : Bool) (es : List ExpressionTree)
       → list_all is_shaped_expression es ≡ true → ItemsHaveLengths es
@@ -436,26 +435,21 @@ module _ (names : Names) (declared : AllDeclared names) (lengths : HaveLengths n
     sound_of (block ss) f shape numbers h = statements_sound ss f shape numbers h
     sound_of (if_only p c a) f shape numbers h =
         let shapes = and_parts (is_shaped_expression c) (is_shaped_statement a) shape in
-        let first = parts_done (expression_walk names c 0) _ f h in
-        let second = parts_done (statement_walk names a) _ f first.2 in
-        let is : branch p first.0 second.0 nothing ≡ f = cc second.2 in
-        subst (λ x. statement_sound signals x ≡ true) is
+        let parts = if_only_done names p c a f h in
+        subst (λ x. statement_sound signals x ≡ true) parts.is
         (and_from _ _ (and_from _ _
-        (expression_sound c shapes.0 numbers.0 0 (omega arith) first.0 first.1).0
-        (sound_of a second.0 shapes.1 numbers.1 second.1)) refl)
+        (expression_sound c shapes.0 numbers.0 0 (omega arith) parts.condition parts.condition_is).0
+        (sound_of a parts.first shapes.1 numbers.1 parts.first_is)) refl)
     sound_of (if_else p c a b) f shape numbers h =
-        let outer = and_parts (is_shaped_expression c && is_shaped_statement a)
+        let shapes = three_parts (is_shaped_expression c) (is_shaped_statement a)
         (is_shaped_statement b) shape in
-        let shapes = and_parts (is_shaped_expression c) (is_shaped_statement a) outer.0 in
-        let first = parts_done (expression_walk names c 0) _ f h in
-        let second = parts_done (statement_walk names a) _ f first.2 in
-        let third = parts_done (statement_walk names b) _ f second.2 in
-        let is : branch p first.0 second.0 third.0 ≡ f = cc third.2 in
-        subst (λ x. statement_sound signals x ≡ true) is
+        let other = if_else_done names p c a b f h in
+        let parts = other.2 in
+        subst (λ x. statement_sound signals x ≡ true) parts.is
         (and_from _ _ (and_from _ _
-        (expression_sound c shapes.0 numbers.0 0 (omega arith) first.0 first.1).0
-        (sound_of a second.0 shapes.1 numbers.1 second.1))
-        (sound_of b third.0 outer.1 numbers.2 third.1))
+        (expression_sound c shapes.0 numbers.0 0 (omega arith) parts.condition parts.condition_is).0
+        (sound_of a parts.first shapes.1 numbers.1 parts.first_is))
+        (sound_of b other.0 shapes.2 numbers.2 other.1))
     sound_of (case_of p e arms) f shape numbers h =
         let outer = and_parts (is_shaped_expression e && has_arm arms
         && nat_le (default_count arms) 1) (are_shaped_arms arms) shape in
@@ -502,10 +496,8 @@ module _ (names : Names) (declared : AllDeclared names) (lengths : HaveLengths n
     arms_good n s long no_arms shape numbers fits flat h =
         let is : [] ≡ flat = cc h in subst (AreGood n s) is tt
     arms_good n s long (more_arms p items body arms) shape numbers fits flat h =
-        let outer = and_parts (list_all is_shaped_expression items && is_shaped_statement body)
+        let shapes = three_parts (list_all is_shaped_expression items) (is_shaped_statement body)
         (are_shaped_arms arms) shape in
-        let inner = and_parts (list_all is_shaped_expression items) (is_shaped_statement body)
-        outer.0 in
         let first = parts_done (items_walk names n s items) _ flat h in
         let second = parts_done (statement_walk names body) _ flat first.2 in
         let third = parts_done (arms_walk names n s arms) _ flat second.2 in
@@ -513,8 +505,8 @@ module _ (names : Names) (declared : AllDeclared names) (lengths : HaveLengths n
         cc third.2 in
         subst (AreGood n s) is (
           (
-            items_typed n s items inner.0 numbers.0 long (omega (arith, fits)) first.0 first.1,
-            sound_of body second.0 inner.1 numbers.1 second.1,
+            items_typed n s items shapes.0 numbers.0 long (omega (arith, fits)) first.0 first.1,
+            sound_of body second.0 shapes.1 numbers.1 second.1,
           ),
-          arms_good n s long arms outer.1 numbers.2 (omega (arith, fits)) third.0 third.1,
+          arms_good n s long arms shapes.2 numbers.2 (omega (arith, fits)) third.0 third.1,
         )

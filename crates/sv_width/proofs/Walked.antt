@@ -39,9 +39,9 @@ use Rattle.sv_width.specs.Pushed.{folded_of, divisors_of, divisors_in, node_of}
 use Rattle.sv_width.specs.Pushed.{nodes_in, left_at, left_as, right_at, right_as}
 use Rattle.sv_width.proofs.Sound.{Sound, SoundParts}
 use Rattle.sv_width.proofs.SameValue.{either, typed_reduction, typed_unary, typed_division}
-use Rattle.sv_width.proofs.SameValue.{typed_binary}
-use Rattle.sv_width.proofs.Lengths.{KnownIn, own_length, open_place}
-use Rattle.sv_width.proofs.WellFormed.{operand_lengths, kept_length}
+use Rattle.sv_width.proofs.SameValue.{typed_binary, left_standing, right_standing}
+use Rattle.sv_width.proofs.Lengths.{KnownIn, three_parts, own_length, open_place}
+use Rattle.sv_width.proofs.WellFormed.{both_stand, kept_length}
 use Rattle.sv_width.proofs.Constants.{own_measured, folded_same}
 
 -- ---- walks with equal ends
@@ -227,19 +227,11 @@ module _ (names : Names) (lengths : HaveLengths names.scope) where
         ∙ sym (typed_unary names p n s op e h))
     typed_same c known (binary op p a b) q shape numbers n s fits is =
         let shapes = and_parts (is_shaped_expression a) (is_shaped_expression b) shape in
+        let l = left_standing names op a b n s in
+        let r = right_standing names op a b n s in
+        let stand = both_stand names lengths c known op a b (q.0, q.1) shapes numbers n s fits is in
         let A : MeasuredTree = measured_of names a in
         let B : MeasuredTree = measured_of names b in
-        let la : ℕ = length_of names.scope a in
-        let lb : ℕ = length_of names.scope b in
-        let sa : Bool = signed_of names.scope a in
-        let sb : Bool = signed_of names.scope b in
-        let LL : ℕ = left_length (class_of op) n la lb in
-        let LS : Bool = left_signed (class_of op) s sa sb in
-        let RL : ℕ = right_length (class_of op) n la lb in
-        let RS : Bool = right_signed (class_of op) s sa sb in
-        let stand = operand_lengths (class_of op) n la lb
-        (own_length names lengths c known a q.0 shapes.0 numbers.0)
-        (own_length names lengths c known b q.1 shapes.1 numbers.1) is fits in
         either (is_division op)
         (λ h. ap (λ x. typed n s x)
         (node_division (own_of names (binary op p a b)) n s op (place_of b) A B h)
@@ -258,16 +250,16 @@ module _ (names : Names) (lengths : HaveLengths names.scope) where
         (node_of B (right_length (class_of op) n x.width y.width)
         (right_signed (class_of op) s x.signed y.signed)))))
         (own_measured names a) (own_measured names b)
-        ∙ ap (λ t. typed n s (flat.binary op t (typed RL RS (node_of B RL RS))))
-        (typed_same c known a q.0 shapes.0 numbers.0 LL LS stand.1 stand.0)
-        ∙ ap (λ t. typed n s (flat.binary op (typed_of names a LL LS) t))
-        (typed_same c known b q.1 shapes.1 numbers.1 RL RS stand.3 stand.2)
+        ∙ ap (λ t. typed n s
+        (flat.binary op t (typed r.length r.signed (node_of B r.length r.signed))))
+        (typed_same c known a q.0 shapes.0 numbers.0 l.length l.signed stand.1 stand.0)
+        ∙ ap (λ t. typed n s (flat.binary op (typed_of names a l.length l.signed) t))
+        (typed_same c known b q.1 shapes.1 numbers.1 r.length r.signed stand.3 stand.2)
         ∙ sym (typed_binary names p n s op a b h))
     typed_same c known (choice p d a b) q shape numbers n s fits is =
-        let outer = and_parts (is_shaped_expression d && is_shaped_expression a)
+        let shapes = three_parts (is_shaped_expression d) (is_shaped_expression a)
         (is_shaped_expression b) shape in
-        let inner = and_parts (is_shaped_expression d) (is_shaped_expression a) outer.0 in
-        let own = own_length names lengths c known d q.0 inner.0 numbers.0 in
+        let own = own_length names lengths c known d q.0 shapes.0 numbers.0 in
         let left : length_of names.scope a ≤ n = omega arith in
         let right : length_of names.scope b ≤ n = omega arith in
         ap (λ t. typed n s (flat.choice p t (typed n s (node_of (measured_of names a) n s))
@@ -275,16 +267,16 @@ module _ (names : Names) (lengths : HaveLengths names.scope) where
         (ap (λ (o : OwnForm).
         typed o.width o.signed (node_of (measured_of names d) o.width o.signed))
         (own_measured names d)
-        ∙ typed_same c known d q.0 inner.0 numbers.0 (length_of names.scope d)
+        ∙ typed_same c known d q.0 shapes.0 numbers.0 (length_of names.scope d)
         (signed_of names.scope d) (omega arith) own)
         ∙ ap (λ t. typed n s
         (flat.choice p (typed_of names d (length_of names.scope d) (signed_of names.scope d)) t
         (typed n s (node_of (measured_of names b) n s))))
-        (typed_same c known a q.1 inner.1 numbers.1 n s left is)
+        (typed_same c known a q.1 shapes.1 numbers.1 n s left is)
         ∙ ap (λ t. typed n s
         (flat.choice p (typed_of names d (length_of names.scope d) (signed_of names.scope d))
         (typed_of names a n s) t))
-        (typed_same c known b q.2 outer.1 numbers.2 n s right is)
+        (typed_same c known b q.2 shapes.2 numbers.2 n s right is)
     typed_same c known (join p es) q shape numbers n s fits is =
         let shapes = and_parts (has_part es) (are_shaped_parts es) shape in
         ap (λ t. typed n s (flat.join t)) (parts_same c known es q.0 shapes.1 numbers)
@@ -353,64 +345,58 @@ module _ (names : Names) (lengths : HaveLengths names.scope) where
         (kept_length op (length_of names.scope e) n h fits) is)
     divisors_same c known (binary op p a b) q shape numbers n s fits is =
         let shapes = and_parts (is_shaped_expression a) (is_shaped_expression b) shape in
+        let l = left_standing names op a b n s in
+        let r = right_standing names op a b n s in
+        let stand = both_stand names lengths c known op a b (q.0, q.1) shapes numbers n s fits is in
         let A : MeasuredTree = measured_of names a in
         let B : MeasuredTree = measured_of names b in
-        let la : ℕ = length_of names.scope a in
-        let lb : ℕ = length_of names.scope b in
-        let sa : Bool = signed_of names.scope a in
-        let sb : Bool = signed_of names.scope b in
-        let LL : ℕ = left_length (class_of op) n la lb in
-        let LS : Bool = left_signed (class_of op) s sa sb in
-        let RL : ℕ = right_length (class_of op) n la lb in
-        let RS : Bool = right_signed (class_of op) s sa sb in
-        let lefts : left_at op n A B ≡ LL =
+        let lefts : left_at op n A B ≡ l.length =
         ap₂ (λ (x y : OwnForm). left_length (class_of op) n x.width y.width)
         (own_measured names a) (own_measured names b) in
-        let left_signs : left_as op s A B ≡ LS =
+        let left_signs : left_as op s A B ≡ l.signed =
         ap₂ (λ (x y : OwnForm). left_signed (class_of op) s x.signed y.signed)
         (own_measured names a) (own_measured names b) in
-        let rights : right_at op n A B ≡ RL =
+        let rights : right_at op n A B ≡ r.length =
         ap₂ (λ (x y : OwnForm). right_length (class_of op) n x.width y.width)
         (own_measured names a) (own_measured names b) in
-        let right_signs : right_as op s A B ≡ RS =
+        let right_signs : right_as op s A B ≡ r.signed =
         ap₂ (λ (x y : OwnForm). right_signed (class_of op) s x.signed y.signed)
         (own_measured names a) (own_measured names b) in
-        let stand = operand_lengths (class_of op) n la lb
-        (own_length names lengths c known a q.0 shapes.0 numbers.0)
-        (own_length names lengths c known b q.1 shapes.1 numbers.1) is fits in
         ends_same (divisors_of A (left_at op n A B) (left_as op s A B))
-        (divisors names.scope a LL LS) _ _
+        (divisors names.scope a l.length l.signed) _ _
         (ap (λ x. (divisors_of A x (left_as op s A B)).end) lefts
-        ∙ ap (λ x. (divisors_of A LL x).end) left_signs
-        ∙ divisors_same c known a q.0 shapes.0 numbers.0 LL LS stand.1 stand.0)
+        ∙ ap (λ x. (divisors_of A l.length x).end) left_signs
+        ∙ divisors_same c known a q.0 shapes.0 numbers.0 l.length l.signed stand.1 stand.0)
         (ends_same (divisors_of B (right_at op n A B) (right_as op s A B))
-        (divisors names.scope b RL RS) _ _
+        (divisors names.scope b r.length r.signed) _ _
         (ap (λ x. (divisors_of B x (right_as op s A B)).end) rights
-        ∙ ap (λ x. (divisors_of B RL x).end) right_signs
-        ∙ divisors_same c known b q.1 shapes.1 numbers.1 RL RS stand.3 stand.2)
+        ∙ ap (λ x. (divisors_of B r.length x).end) right_signs
+        ∙ divisors_same c known b q.1 shapes.1 numbers.1 r.length r.signed stand.3 stand.2)
         (asked_same (is_division op) (folded_of B (right_at op n A B) (right_as op s A B))
         (value names.scope nowhere b n s) (zero_divisor (place_of b))
         (λ h. ap (λ x. folded_of B x (right_as op s A B)) rights
-        ∙ ap (λ x. folded_of B RL x) right_signs
-        ∙ folded_same names lengths c known b q.1 shapes.1 numbers.1 RL RS stand.3 stand.2
-        ∙ ap (λ k. value names.scope nowhere b (right_length k n la lb) (right_signed k s sa sb))
+        ∙ ap (λ x. folded_of B r.length x) right_signs
+        ∙ folded_same names lengths c known b q.1 shapes.1 numbers.1 r.length r.signed stand.3
+        stand.2
+        ∙ ap (λ k. value names.scope nowhere b
+        (right_length k n (length_of names.scope a) (length_of names.scope b))
+        (right_signed k s (signed_of names.scope a) (signed_of names.scope b)))
         (division_class op h))))
     divisors_same c known (choice p d a b) q shape numbers n s fits is =
-        let outer = and_parts (is_shaped_expression d && is_shaped_expression a)
+        let shapes = three_parts (is_shaped_expression d) (is_shaped_expression a)
         (is_shaped_expression b) shape in
-        let inner = and_parts (is_shaped_expression d) (is_shaped_expression a) outer.0 in
-        let own = own_length names lengths c known d q.0 inner.0 numbers.0 in
+        let own = own_length names lengths c known d q.0 shapes.0 numbers.0 in
         let D : MeasuredTree = measured_of names d in
         let left : length_of names.scope a ≤ n = omega arith in
         let right : length_of names.scope b ≤ n = omega arith in
         ends_same (divisors_of D (own_form D).width (own_form D).signed)
         (divisors names.scope d (length_of names.scope d) (signed_of names.scope d)) _ _
         (ap (λ (o : OwnForm). (divisors_of D o.width o.signed).end) (own_measured names d)
-        ∙ divisors_same c known d q.0 inner.0 numbers.0 (length_of names.scope d)
+        ∙ divisors_same c known d q.0 shapes.0 numbers.0 (length_of names.scope d)
         (signed_of names.scope d) (omega arith) own)
         (ends_same (divisors_of (measured_of names a) n s) (divisors names.scope a n s) _ _
-        (divisors_same c known a q.1 inner.1 numbers.1 n s left is)
-        (divisors_same c known b q.2 outer.1 numbers.2 n s right is))
+        (divisors_same c known a q.1 shapes.1 numbers.1 n s left is)
+        (divisors_same c known b q.2 shapes.2 numbers.2 n s right is))
     divisors_same c known (join p es) q shape numbers n s fits is =
         let shapes = and_parts (has_part es) (are_shaped_parts es) shape in
         part_divisors_same c known es q.0 shapes.1 numbers

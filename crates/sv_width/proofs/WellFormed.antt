@@ -42,8 +42,8 @@ use Rattle.sv_width.specs.Agreement.{NumbersHaveLengths, PartsHaveLengths}
 use Rattle.sv_width.proofs.Sound.{Sound, SoundParts}
 use Rattle.sv_width.proofs.SameValue.{type_of_typed, typed_reduction, typed_unary, typed_division}
 use Rattle.sv_width.proofs.SameValue.{typed_binary, parts_width_of, result_at, reached, meant}
-use Rattle.sv_width.proofs.SameValue.{either}
-use Rattle.sv_width.proofs.Lengths.{own_length, part_inside, count_inside}
+use Rattle.sv_width.proofs.SameValue.{either, left_standing, right_standing}
+use Rattle.sv_width.proofs.Lengths.{KnownIn, three_parts, own_length, part_inside, count_inside}
 
 pub reduced_low : (n : ℕ) (z : ℤ) → reduced n z < 2 ^ n
 reduced_low n (pos a) = mod_below a (2 ^ n) (pow_pos n)
@@ -114,6 +114,23 @@ operand_lengths Compare n a b p q r h =
     ((omega arith, omega arith), omega arith, (omega arith, omega arith), omega arith)
 operand_lengths Logical n a b p q r h = (p, omega arith, q, omega arith)
 operand_lengths Shift n a b p q r h = (r, h, q, omega arith)
+
+-- so sound operands stand
+pub both_stand : (names : Names) → HaveLengths names.scope → (c : Bool) → KnownIn names c
+    → (op : BinOp) (a b : ExpressionTree) → Sound names c a × Sound names c b
+    → IsTrue (is_shaped_expression a) × IsTrue (is_shaped_expression b)
+    → NumbersHaveLengths a × NumbersHaveLengths b
+    → (n : ℕ) (s : Bool)
+    → binary_length (class_of op) (length_of names.scope a) (length_of names.scope b) ≤ n
+    → IsLength n
+    → IsLength (left_standing names op a b n s).length
+    × (length_of names.scope a ≤ (left_standing names op a b n s).length)
+    × IsLength (right_standing names op a b n s).length
+    × (length_of names.scope b ≤ (right_standing names op a b n s).length)
+both_stand names lengths c known op a b q shapes numbers n s fits is =
+    operand_lengths (class_of op) n (length_of names.scope a) (length_of names.scope b)
+    (own_length names lengths c known a q.0 shapes.0 numbers.0)
+    (own_length names lengths c known b q.1 shapes.1 numbers.1) is fits
 
 -- the operands have the types that the operator gives them
 operands_typed : (names : Names) (c : OpClass) (n : ℕ) (s : Bool) (a b : ExpressionTree) (la lb : ℕ)
@@ -262,16 +279,15 @@ module _ (names : Names) (declared : AllDeclared names) (lengths : HaveLengths n
         (typed_formed c b q.1 shapes.1 numbers.1 _ _ stand.3 stand.2)
         (is_length_test n is)
     typed_formed c (choice p d a b) q shape numbers n s fits is =
-        let outer = and_parts (is_shaped_expression d && is_shaped_expression a)
+        let shapes = three_parts (is_shaped_expression d) (is_shaped_expression a)
         (is_shaped_expression b) shape in
-        let inner = and_parts (is_shaped_expression d) (is_shaped_expression a) outer.0 in
         let left : length_of names.scope a ≤ n = omega arith in
         let right : length_of names.scope b ≤ n = omega arith in
         and_from (is_one_to 64 n) _ (is_length_test n is)
         (all_of_five _ _ _ _ _ (pushed_type names a n s) (pushed_type names b n s)
-        (alone c d q.0 inner.0 numbers.0 (typed_formed c d q.0 inner.0 numbers.0))
-        (typed_formed c a q.1 inner.1 numbers.1 n s left is)
-        (typed_formed c b q.2 outer.1 numbers.2 n s right is))
+        (alone c d q.0 shapes.0 numbers.0 (typed_formed c d q.0 shapes.0 numbers.0))
+        (typed_formed c a q.1 shapes.1 numbers.1 n s left is)
+        (typed_formed c b q.2 shapes.2 numbers.2 n s right is))
     typed_formed c (join p es) q shape numbers n s fits is =
         let shapes = and_parts (has_part es) (are_shaped_parts es) shape in
         and_from (is_one_to 64 n) _ (is_length_test n is)

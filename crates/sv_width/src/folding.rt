@@ -2,7 +2,7 @@
 ghost use Rattle.std.specs.Prelude.{◌≡◌, ◌+◌, ◌*◌, ◌%◌, ◌^◌, ◌<◌, ◌≤◌, min, Ok, IfOk, OnOk, IfErr};
 ghost use Rattle.sv_num.specs.Vectors.{width_of, is_signed, value_of, as_number, reduced};
 ghost use Rattle.sv_width.specs.Answers.{IsBreach};
-ghost use Rattle.sv_num.specs.BinaryValues.{class_of, binary_value, HasDivisor};
+ghost use Rattle.sv_num.specs.BinaryValues.{class_of, binary_value};
 ghost use Rattle.sv_elab_rules.specs.TypedExpressions.{left_length, left_signed, right_length};
 ghost use Rattle.sv_elab_rules.specs.TypedExpressions.{right_signed};
 ghost use Rattle.sv_width.specs.Outcomes.{IsFolded, zero_steps};
@@ -125,30 +125,10 @@ fn binary(
     ensures broken { IfErr result (IsBreach (zero_steps op place (value_of right)).end) }
 {
     if is_division(op) && right.value() == 0 {
-        Err(refusal(alloc, Rule::ZeroDivisor, place))
-    } else {
-        Ok(applied(op, left, right, types))
+        return Err(refusal(alloc, Rule::ZeroDivisor, place));
     }
-}
-
-// The value of a binary operator where no divisor is 0.
-fn applied(op: BinOp, left: Bits, right: Bits, types: Types) -> Bits
-    requires divisor { HasDivisor op right }
-    requires left { width_of left ≡
-        left_length (class_of op) types.to.width types.a.width types.b.width }
-    requires left_signed { is_signed left ≡
-        left_signed (class_of op) types.to.signed types.a.signed types.b.signed }
-    requires right { width_of right ≡
-        right_length (class_of op) types.to.width types.a.width types.b.width }
-    requires right_signed { is_signed right ≡
-        right_signed (class_of op) types.to.signed types.a.signed types.b.signed }
-    ensures width { width_of result ≡ types.to.width }
-    ensures signed { is_signed result ≡ types.to.signed }
-    ensures value { value_of result ≡
-        binary_value op (width_of left) (is_signed left) (value_of left) (value_of right) }
-{
     let value = apply_binary(op, left, right).value();
-    Bits::of_type(types.to.width, types.to.signed, value)
+    Ok(Bits::of_type(types.to.width, types.to.signed, value))
 }
 
 // The parts one behind the other, modulo 2 to the width.

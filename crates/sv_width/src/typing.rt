@@ -15,6 +15,7 @@ ghost use Rattle.sv_width.specs.Answers.{IsBreach};
 ghost use Rattle.sv_width.specs.Outcomes.{IsPushed, IsNode};
 ghost use Rattle.sv_width.specs.Pushed.{divisors_of, divisors_in, nodes_in};
 ghost use Rattle.sv_width.specs.Scopes.{number_of, names_of, names_ahead, bindings_of};
+ghost use Rattle.sv_width.specs.Settings.{names_in};
 ghost use Rattle.sv_width.specs.Views.{measured_tree, measured_trees, parts_of};
 
 use crate::folding::{at_type, folded};
@@ -74,11 +75,7 @@ pub fn constant(alloc: Global, expr: &Expr, scope: &Scope) -> Result<Bits, Fault
     ensures broken { IfErr result
         (IsBreach (constant_walk (names_ahead scope.now) (expression_tree expr.now)).end) }
 {
-    let reach = Reach {
-        scope,
-        setting: Setting::Declaring,
-    };
-    measured_constant(alloc, expr, &reach)
+    constant_at(alloc, expr, scope, Setting::Declaring)
 }
 
 /// The value of a constant at its own length and signedness, where all declarations are made.
@@ -89,10 +86,19 @@ pub fn constant_in_reach(alloc: Global, expr: &Expr, scope: &Scope) -> Result<Bi
     ensures broken { IfErr result
         (IsBreach (constant_walk (names_of scope.now) (expression_tree expr.now)).end) }
 {
-    let reach = Reach {
-        scope,
-        setting: Setting::Constant,
-    };
+    constant_at(alloc, expr, scope, Setting::Constant)
+}
+
+// The value of a constant at its own length and signedness, among the names of a setting.
+fn constant_at(alloc: Global, expr: &Expr, scope: &Scope, setting: Setting) -> Result<Bits, Fault>
+    requires { IsTrue (is_shaped_expression (expression_tree expr.now)) }
+    ensures found { IfOk result (λ bits.
+        (constant_walk (names_in setting scope.now) (expression_tree expr.now)).end ≡
+        Ok (number_of bits)) }
+    ensures broken { IfErr result
+        (IsBreach (constant_walk (names_in setting scope.now) (expression_tree expr.now)).end) }
+{
+    let reach = Reach { scope, setting };
     measured_constant(alloc, expr, &reach)
 }
 

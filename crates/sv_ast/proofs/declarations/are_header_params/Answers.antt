@@ -8,8 +8,7 @@ use Rattle.sv_ast.proofs.declarations.are_header_params.Goals as goal
 
 pub returns : goal.returns
 returns c =
-    let params = c.args.params.now in
-    let asked =
     all_from_yields_List (λ (p : Param). not (parameter_tree p).local) _ _ c.all.result
-    c.all.ensures.ran (YieldsList-from_slice params cc) (λ x b q k. search (rules, tests)) in
-    asked ∙ sym (list_all-map (λ p. not p.local) parameter_tree params)
+    c.all.ensures.ran (YieldsList-from_slice c.args.params.now cc)
+    (λ x b q k. search (rules, tests))
+    ∙ sym (list_all-map (λ p. not p.local) parameter_tree c.args.params.now)

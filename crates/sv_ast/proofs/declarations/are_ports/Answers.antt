@@ -9,8 +9,6 @@ use Rattle.sv_ast.proofs.declarations.are_ports.Goals as goal
 
 pub returns : goal.returns
 returns c =
-    let decls = c.args.decls.now in
-    let asked =
     all_from_yields_List (λ (d : Decl). is_port (declaration_tree d)) _ _ c.all.result
-    c.all.ensures.ran (YieldsList-from_slice decls cc) (λ x b q k. search (rules, tests)) in
-    asked ∙ sym (list_all-map is_port declaration_tree decls)
+    c.all.ensures.ran (YieldsList-from_slice c.args.decls.now cc) (λ x b q k. search (rules, tests))
+    ∙ sym (list_all-map is_port declaration_tree c.args.decls.now)

@@ -9,8 +9,7 @@ use Rattle.sv_ast.proofs.statements.are_whole.Goals as goal
 
 pub returns : goal.returns
 returns c =
-    let targets = c.args.targets.now in
-    let asked =
     all_from_yields_List (λ (t : Target). is_whole_target (target_tree t)) _ _ c.all.result
-    c.all.ensures.ran (YieldsList-from_slice targets cc) (λ x b q k. search (rules, tests)) in
-    asked ∙ sym (list_all-map is_whole_target target_tree targets)
+    c.all.ensures.ran (YieldsList-from_slice c.args.targets.now cc)
+    (λ x b q k. search (rules, tests))
+    ∙ sym (list_all-map is_whole_target target_tree c.args.targets.now)

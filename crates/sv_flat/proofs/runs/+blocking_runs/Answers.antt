@@ -1,4 +1,4 @@
-use Rattle.std.proofs.Common.{sym, ap, subst, refl, ◌∙◌, ◌+◌, Bool, true, List, [], map}
+use Rattle.std.proofs.Common.{sym, ap, subst, refl, ◌∙◌, ◌+◌, true, false, List, [], map}
 use Rattle.std.proofs.Common.{fold, drop}
 use Rattle.std.specs.Prelude.{IsTrue}
 use Rattle.sv_flat.specs.declared.statements.FStmt.{the_lemmas}
@@ -10,7 +10,7 @@ use Rattle.sv_flat.specs.Soundness.{statement_sound}
 use Rattle.sv_flat.specs.Values.{value}
 use Rattle.sv_flat.specs.Views.{typed_tree, piece_form, flat_statement}
 use Rattle.sv_flat.proofs.NumberedRuns.{chain, chain_at, holds_at, alone_after, block_is}
-use Rattle.sv_flat.proofs.NumberedRuns.{pieces_stay}
+use Rattle.sv_flat.proofs.NumberedRuns.{pieces_stay, assigned_alone}
 use Rattle.sv_flat.proofs.runs.+blocking_runs.Goals as goal
 
 pub run_all-run_body-requires : goal.run_all-run_body-requires
@@ -42,12 +42,11 @@ run_all-loop-stmt-preserved t c =
 
 pub run_body-run_all-requires : goal.run_body-run_all-requires
 run_body-run_all-requires t c =
-    let forms = signal_forms c.args.signals.now in
     let block = block_is c.selected.result.now c.in-Block.stmts c.deref-in-Block.result.now
     c.in-Block.is c.deref-in-Block.ensures.value in (
       search (rules, the_lemmas),
       (
-        subst (λ body. IsTrue (statement_sound forms body)) block
+        subst (λ body. IsTrue (statement_sound (signal_forms c.args.signals.now) body)) block
             c.selected.ensures.sound,
         (c.requires.words, c.requires.fit),
       ),
@@ -67,24 +66,23 @@ pub run_body-returns-then-blocking-clause-run : goal.run_body-returns-then-block
 run_body-returns-then-blocking-clause-run t c =
     let forms = signal_forms c.args.signals.now in
     let e = by_number c.args.values.now in
-    let right = value forms e (typed_tree c.in-Assign.value) in
     c.assign.ensures.run
-    ∙ ap (λ (ps : List Piece). (fold (put_piece forms true right) (e, []) (map piece_form ps)).0)
+    ∙ ap (λ (ps : List Piece).
+    (fold (put_piece forms true (value forms e (typed_tree c.in-Assign.value))) (e, [])
+    (map piece_form ps)).0)
     c.deref.ensures.value
-    ∙ ap (λ (b : Bool).
-    (fold (put_piece forms b right) (e, []) (map piece_form c.in-Assign.pieces.items)).0)
-    (sym c.if-blocking.true)
-    ∙ ap (λ s. run_alone forms (flat_statement s) e) (sym c.in-Assign.is)
-    ∙ ap (λ z. z.0) (c.selected.ensures.run [])
+    ∙ assigned_alone forms e (map piece_form c.in-Assign.pieces.items) c.in-Assign.place
+    c.in-Assign.blocking true (typed_tree c.in-Assign.value) (flat_statement c.args.body.now)
+    (flat_statement c.selected.result.now) c.if-blocking.true (ap flat_statement c.in-Assign.is)
+    (c.selected.ensures.run [])
 
 pub run_body-returns-else-blocking-clause-run : goal.run_body-returns-else-blocking-clause-run
 run_body-returns-else-blocking-clause-run t c =
     let forms = signal_forms c.args.signals.now in
     let e = by_number c.args.values.now in
-    let right = value forms e (typed_tree c.in-Assign.value) in
-    sym (pieces_stay forms right (map piece_form c.in-Assign.pieces.items) (e, []))
-    ∙ ap (λ (b : Bool).
-    (fold (put_piece forms b right) (e, []) (map piece_form c.in-Assign.pieces.items)).0)
-    (sym c.if-blocking.false)
-    ∙ ap (λ s. run_alone forms (flat_statement s) e) (sym c.in-Assign.is)
-    ∙ ap (λ z. z.0) (c.selected.ensures.run [])
+    let pieces = map piece_form c.in-Assign.pieces.items in
+    sym (pieces_stay forms (value forms e (typed_tree c.in-Assign.value)) pieces (e, []))
+    ∙ assigned_alone forms e pieces c.in-Assign.place c.in-Assign.blocking false
+    (typed_tree c.in-Assign.value) (flat_statement c.args.body.now)
+    (flat_statement c.selected.result.now) c.if-blocking.false (ap flat_statement c.in-Assign.is)
+    (c.selected.ensures.run [])

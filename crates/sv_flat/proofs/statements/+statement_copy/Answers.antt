@@ -1,10 +1,10 @@
 use Rattle.std.proofs.Common.{sym, ap, ◌∙◌, rules}
 use Rattle.sv_flat.specs.Branches.{branches_around}
-use Rattle.sv_flat.specs.Views.{flat_statement, flat_statements}
+use Rattle.sv_flat.specs.Views.{flat_statement, flat_statements, chain_of}
 use Rattle.sv_flat.specs.declared.statements.FStmt.{the_lemmas}
 use Rattle.sv_flat.proofs.BranchFacts.{branches_more, same_branch}
 use Rattle.sv_flat.proofs.NumberedRuns.{no_branch}
-use Rattle.sv_flat.proofs.Rows.{same_chains}
+use Rattle.sv_flat.proofs.Rows.{row_chain-hidden}
 use Rattle.sv_flat.proofs.statements.+statement_copy.Goals as goal
 
 pub FStmt::copy-plain_copy-requires : goal.FStmt::copy-plain_copy-requires
@@ -30,5 +30,7 @@ FStmt::copy-loop-rest-preserved t c =
 pub plain_copy-returns-in_ok-copies-in-Block : goal.plain_copy-returns-in_ok-copies-in-Block
 plain_copy-returns-in_ok-copies-in-Block t c =
     let stmts = c.in_ok-copies-in-Block.ensures ∙ ap flat_statements c.deref.ensures.value in
-    same_chains c.in_ok-copies-in-Block.field-0 c.in-Block.stmts stmts
+    row_chain-hidden c.in_ok-copies-in-Block.field-0
+    ∙ ap chain_of stmts
+    ∙ sym (row_chain-hidden c.in-Block.stmts)
     ∙ ap flat_statement (sym c.in-Block.is)

@@ -85,11 +85,11 @@ node_value-joined-requires-in-Repeat t c =
 
 pub node_value-repeated-requires-clause-few : goal.node_value-repeated-requires-clause-few
 node_value-repeated-requires-clause-few t c =
-    let is = c.deref-in-Repeat.ensures.value in
     let form = repeat_few (signal_forms c.args.self.now.signals.now) c.args.width c.args.signed
     (node_tree c.args.node.now) c.in-Repeat.count c.in-Repeat.parts
     (ap node_tree c.in-Repeat.is) c.requires.formed in
-    rw (c.joined-in-Repeat.ensures.width, is) (omega (arith, form.1, c.requires.few))
+    rw (c.joined-in-Repeat.ensures.width, c.deref-in-Repeat.ensures.value)
+    (omega (arith, form.1, c.requires.few))
 
 pub node_value-returns-in-Join-clause-value : goal.node_value-returns-in-Join-clause-value
 node_value-returns-in-Join-clause-value t c =

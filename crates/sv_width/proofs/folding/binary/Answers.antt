@@ -1,7 +1,7 @@
 use Rattle.std.proofs.Common.{◌^◌, ◌<◌, subst}
 use Rattle.sv_width.proofs.Folds.{one_type}
 use Rattle.sv_width.proofs.Low.{binary_low}
-use Rattle.sv_width.proofs.folding.applied.Goals as goal
+use Rattle.sv_width.proofs.folding.binary.Goals as goal
 
 pub apply_binary-requires-clause-types : goal.apply_binary-requires-clause-types
 apply_binary-requires-clause-types c =

@@ -1,7 +1,7 @@
 -- What the paths of a target tell in a settled environment: the value of a combinational signal,
 -- and the next value of a register.
 use Rattle.std.proofs.Common.{◌≡◌, ℕ, ◌<◌, ◌≤◌, ◌^◌, Bool, true, false, cond, not, ◌&&◌, ◌==◌}
-use Rattle.std.proofs.Common.{nat_le, is_none, List, [], ◌∷◌, ◌++◌, fold, map, ◌⊎◌, inl, inr}
+use Rattle.std.proofs.Common.{nat_le, is_none, List, [], ◌∷◌, ◌++◌, fold, ◌⊎◌, inl, inr}
 use Rattle.std.proofs.Common.{⊎_elim, refl, sym, ap, subst, ◌∙◌, arith, Some, None, ◌/◌, ◌%◌}
 use Rattle.std.specs.Prelude.{Contains, IsTrue, IsFalse, filter, flat_map, slice_get}
 use Rattle.std.specs.Int.{bit_at}
@@ -16,15 +16,14 @@ use Rattle.sv_system.specs.System.{Environment, Fits, IsStill, last_update}
 use Rattle.sv_system.proofs.Lists.{Contains-head, Contains-nil, Contains-cases, Contains-filter}
 use Rattle.sv_system.proofs.Lists.{Contains-map}
 use Rattle.sv_flat.specs.Design.{SignalForm, TypedTree, PieceForm, FlatStatement, nothing, after}
-use Rattle.sv_flat.specs.Design.{assign, branch, ProcessKind, continuous, port_in, port_out}
-use Rattle.sv_flat.specs.Design.{combinational, clocked, release, ProcessForm, FlatDesign}
+use Rattle.sv_flat.specs.Design.{assign, branch}
+use Rattle.sv_flat.specs.Design.{ProcessForm, FlatDesign}
 use Rattle.sv_flat.specs.Values.{signal_of, signal_width, value}
 use Rattle.sv_flat.specs.Runs.{Updates, with_piece, put_piece, run, updates_of}
 use Rattle.sv_flat.specs.Soundness.{is_signal, kind_sound, piece_fits}
 use Rattle.sv_flat.specs.Soundness.{well_formed, statement_sound, sound}
 use Rattle.sv_flat.specs.Assigned.{assigns}
-use Rattle.sv_flat.specs.Assignments.{TargetForm, targets, targets_after, is_wrong_sign}
-use Rattle.sv_flat.specs.Assignments.{is_wrong_target, target_breach}
+use Rattle.sv_flat.specs.Assignments.{TargetForm, targets, targets_after}
 use Rattle.sv_flat.specs.Readings.{Reading, no_bits, is_followed}
 use Rattle.sv_flat.specs.Processes.{is_clocked, is_block, is_top_input, is_register, drivers}
 use Rattle.sv_flat.specs.Clocks.{is_clock, processes_of}
@@ -38,12 +37,13 @@ use Rattle.sv_flat.proofs.LeastSets.{either_way, range_has, some_from, from_some
 use Rattle.sv_flat.proofs.Depths.{first_of, second_of}
 use Rattle.sv_flat.proofs.SameRuns.{or_none_left, or_none_right, none_found, all_blocking}
 use Rattle.sv_flat.proofs.SameRuns.{piece_lies_inside}
-use Rattle.sv_flat.proofs.AdmittedFacts.{and_true, none_pass, empty_part, is_process}
+use Rattle.sv_flat.proofs.AdmittedFacts.{and_true, is_process}
 use Rattle.sv_flat.proofs.AdmittedFacts.{process_is_sound, some_width, body_is_sound}
-use Rattle.sv_flat.proofs.AdmittedFacts.{targets_are_combinational, no_wrong_assigns}
+use Rattle.sv_flat.proofs.AdmittedFacts.{targets_are_combinational}
 use Rattle.sv_flat.proofs.BlockFacts.{one_kind, one_serves, follows_itself, follows_targets}
 use Rattle.sv_flat.proofs.BlockFacts.{settled_is_lower, is_blocking}
 use Rattle.sv_flat.proofs.FlatScheduled.{in_processes, unclocked, to_system, parts_of, same_target}
+use Rattle.sv_design.proofs.ClockedTargets.{is_by_edge}
 use Rattle.sv_obl.specs.Wanted.{with_copies, copy_of, is_copy, original, marked}
 use Rattle.sv_obl.specs.Wanted.{wanted_name}
 use Rattle.sv_obl.specs.Paths.{Path, open_path, before, closed, paths}
@@ -100,15 +100,6 @@ nonblocking_targets (branch place condition first second) each =
     each t (Contains-left (targets first) (targets second) t at)))
     (nonblocking_targets second (λ t at.
     each t (Contains-right (targets first) (targets second) t at)))
-
-clocked_sign : (k : ProcessKind) (b : Bool) → IsTrue (is_clocked k) → IsFalse (is_wrong_sign k b) →
-    IsFalse b
-clocked_sign (clocked clock) b h fine = fine
-clocked_sign continuous b h fine = absurd (false≢true h)
-clocked_sign port_in b h fine = absurd (false≢true h)
-clocked_sign port_out b h fine = absurd (false≢true h)
-clocked_sign combinational b h fine = absurd (false≢true h)
-clocked_sign (release point) b h fine = absurd (false≢true h)
 
 module _ (signals : List SignalForm) where
   -- ---- updates
@@ -559,15 +550,8 @@ module _ (design : FlatDesign) (is_sound : IsTrue (sound design))
 
   pub clocked_waits : (p : ProcessForm) → Contains (processes_of design) p →
       IsTrue (is_clocked p.kind) → IsTrue (all_are false p.body)
-  clocked_waits p at clock = nonblocking_targets p.body (λ t t_at.
-      let right = none_pass target_breach (is_wrong_target design p.kind) (targets p.body)
-      (empty_part (λ (q : ProcessForm).
-      map target_breach (filter (is_wrong_target design q.kind) (targets q.body)))
-      design.processes
-      (no_wrong_assigns design is_sound admitted) p (is_process design is_sound admitted p at))
-      t t_at in
-      clocked_sign p.kind t.blocking clock
-      (or_none_left (is_wrong_sign p.kind t.blocking) _ (or_none_left _ _ right)))
+  clocked_waits p at clock =
+      nonblocking_targets p.body (is_by_edge design is_sound admitted p at clock)
 
   module _ (p : ProcessForm) (s : ℕ) (at : Contains (processes_of design) p)
       (clock : IsTrue (is_clocked p.kind))

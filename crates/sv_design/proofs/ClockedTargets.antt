@@ -1,5 +1,5 @@
 -- What a clocked process of an admitted design assigns.
-use Rattle.std.proofs.Common.{Bool, map}
+use Rattle.std.proofs.Common.{◌≡◌, Bool, [], map}
 use Rattle.std.specs.Prelude.{Contains, IsTrue, IsFalse, filter}
 use Rattle.std.proofs.lemmas.Bool.{false≢true}
 use Rattle.sv_flat.specs.Admission.{IsAdmitted}
@@ -22,16 +22,22 @@ clocked_sign port_out b h fine = absurd (false≢true h)
 clocked_sign combinational b h fine = absurd (false≢true h)
 clocked_sign (release point) b h fine = absurd (false≢true h)
 
+-- it has no assignment of a kind that is not its own
+none_wrong : (design : FlatDesign) → IsTrue (sound design) → IsAdmitted design → (p : ProcessForm)
+    → Contains (processes_of design) p
+    → map target_breach (filter (is_wrong_target design p.kind) (targets p.body)) ≡ []
+none_wrong design is_sound admitted p at =
+    empty_part (λ (q : ProcessForm).
+    map target_breach (filter (is_wrong_target design q.kind) (targets q.body)))
+    design.processes (no_wrong_assigns design is_sound admitted) p
+    (is_process design is_sound admitted p at)
+
 -- it assigns each target by `<=`
 pub is_by_edge : (design : FlatDesign) → IsTrue (sound design) → IsAdmitted design
     → (p : ProcessForm) → Contains (processes_of design) p → IsTrue (is_clocked p.kind)
     → (t : TargetForm) → Contains (targets p.body) t → IsFalse t.blocking
 is_by_edge design is_sound admitted p at clock t t_at =
     let right = none_pass target_breach (is_wrong_target design p.kind) (targets p.body)
-    (empty_part (λ (q : ProcessForm).
-    map target_breach (filter (is_wrong_target design q.kind) (targets q.body)))
-    design.processes
-    (no_wrong_assigns design is_sound admitted) p (is_process design is_sound admitted p at))
-    t t_at in
+    (none_wrong design is_sound admitted p at) t t_at in
     clocked_sign p.kind t.blocking clock
     (or_none_left (is_wrong_sign p.kind t.blocking) _ (or_none_left _ _ right))

@@ -97,9 +97,7 @@ module _ (signals : List SignalForm) (sought : Sought) (s t : ℕ) where
       list_any serves (readings signals body a f) ≡ feeds signals sought body f s t
   fed nothing a f = refl
   fed (after first second) a f =
-      any_after signals serves first second a f
-      ∙ ap₂ ◌||◌ (fed first a (either (can_assign second) f))
-      (fed second (either (always_assigns first) a) f)
+      any_after signals serves first second a f (fed first a _) (fed second _ f)
   fed (assign pieces place blocking right) a f =
       let whole = assign pieces place blocking right in
       named right whole a (either (can_assign whole) f)

@@ -12,7 +12,7 @@ use Rattle.sv_rules.specs.First.{FindsFirst}
 use Rattle.sv_graph.specs.Marks.{IsTable}
 use Rattle.sv_rules.proofs.ClockFaults.{is_fault, faults_are, proper_is}
 use Rattle.sv_rules.proofs.ClockLinks.{at_table}
-use Rattle.sv_rules.proofs.DriverFacts.{signal_at, inside_design, clock_inside}
+use Rattle.sv_rules.proofs.DriverFacts.{signal_at, inside_design, clock_at}
 use Rattle.sv_rules.proofs.Firsts.{finds_more}
 use Rattle.sv_rules.proofs.clock_rule.wrong_clock_by.Goals as goal
 
@@ -24,8 +24,7 @@ in_table n slice items test i same table inside =
 
 pub bounds-clocks-i : goal.bounds-clocks-i
 bounds-clocks-i c =
-    clock_inside c.args.flat.now c.deref-signal-items.result.now c.args.clocks.now c.loop-i.i
-    c.deref-signal-items.ensures.value c.loop-i-test.true c.requires.clocks
+    clock_at c.args.flat.now c.deref-signal-items.ensures.value c.loop-i-test.true c.requires.clocks
 
 pub loop-i-preserved : goal.loop-i-preserved
 loop-i-preserved c =

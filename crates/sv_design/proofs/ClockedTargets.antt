@@ -1,17 +1,48 @@
 -- What a clocked process of an admitted design assigns.
-use Rattle.std.proofs.Common.{◌≡◌, Bool, [], map}
+use Rattle.std.proofs.Common.{◌≡◌, Bool, not, [], ◌∷◌, map, refl, ap}
 use Rattle.std.specs.Prelude.{Contains, IsTrue, IsFalse, filter}
 use Rattle.std.proofs.lemmas.Bool.{false≢true}
+use Rattle.sv_system.proofs.Lists.{Contains-head}
 use Rattle.sv_flat.specs.Admission.{IsAdmitted}
-use Rattle.sv_flat.specs.Assignments.{TargetForm, targets, is_wrong_sign, is_wrong_target}
-use Rattle.sv_flat.specs.Assignments.{target_breach}
+use Rattle.sv_flat.specs.Assignments.{TargetForm, targets, targets_after, is_wrong_sign}
+use Rattle.sv_flat.specs.Assignments.{is_wrong_target, target_breach}
+use Rattle.sv_flat.specs.ByNumber.{is_nonblocking}
 use Rattle.sv_flat.specs.Clocks.{processes_of}
-use Rattle.sv_flat.specs.Design.{ProcessKind, continuous, port_in, port_out, combinational, clocked}
-use Rattle.sv_flat.specs.Design.{release, ProcessForm, FlatDesign}
+use Rattle.sv_flat.specs.Design.{FlatStatement, nothing, after, assign, branch, ProcessKind}
+use Rattle.sv_flat.specs.Design.{continuous, port_in, port_out, combinational, clocked, release}
+use Rattle.sv_flat.specs.Design.{ProcessForm, FlatDesign}
 use Rattle.sv_flat.specs.Processes.{is_clocked}
 use Rattle.sv_flat.specs.Soundness.{sound}
-use Rattle.sv_flat.proofs.AdmittedFacts.{none_pass, empty_part, no_wrong_assigns, is_process}
+use Rattle.sv_flat.proofs.AdmittedFacts.{and_true, none_pass, empty_part, no_wrong_assigns}
+use Rattle.sv_flat.proofs.AdmittedFacts.{is_process}
+use Rattle.sv_flat.proofs.Members.{Contains-left, Contains-right}
 use Rattle.sv_flat.proofs.SameRuns.{or_none_left}
+
+not_true : (b : Bool) → IsFalse b → IsTrue (not b)
+not_true b h = ap not h
+
+-- where no target's assignment is `=`, none is
+pub nonblocking_targets : (body : FlatStatement)
+    → ((t : TargetForm) → Contains (targets body) t → IsFalse t.blocking)
+    → IsTrue (is_nonblocking body)
+nonblocking_targets nothing each = refl
+nonblocking_targets (after first second) each = and_true (is_nonblocking first)
+    (is_nonblocking second)
+    (nonblocking_targets first
+    (λ t at. each t (Contains-left (targets first) (targets second) t at)))
+    (nonblocking_targets second
+    (λ t at. each t (Contains-right (targets first) (targets second) t at)))
+nonblocking_targets (assign [] place blocking right) each = refl
+nonblocking_targets (assign (p ∷ pieces) place blocking right) each = not_true blocking
+    (each (record { piece = p; before = []; blocking = blocking })
+    (Contains-head (record { piece = p; before = []; blocking = blocking })
+    (targets_after (p ∷ []) pieces blocking)))
+nonblocking_targets (branch place condition first second) each = and_true (is_nonblocking first)
+    (is_nonblocking second)
+    (nonblocking_targets first
+    (λ t at. each t (Contains-left (targets first) (targets second) t at)))
+    (nonblocking_targets second
+    (λ t at. each t (Contains-right (targets first) (targets second) t at)))
 
 clocked_sign : (k : ProcessKind) (b : Bool) → IsTrue (is_clocked k) → IsFalse (is_wrong_sign k b) →
     IsFalse b

@@ -1,4 +1,4 @@
-use Rattle.std.proofs.Common.{◌≡◌, ◌+◌, ◌-◌, ◌<◌, ◌||◌, ◌&&◌, length, get_or, drop, sym, ap}
+use Rattle.std.proofs.Common.{◌≡◌, ◌+◌, ◌-◌, ◌<◌, ◌||◌, ◌&&◌, length, drop, sym, ap}
 use Rattle.std.proofs.Common.{refl, subst, arith, rules}
 use Rattle.std.proofs.lemmas.Bool.{and_parts}
 use Rattle.std.proofs.lemmas.List.{drop_all}
@@ -22,7 +22,7 @@ use Rattle.sv_rules.proofs.BlockPasses.{targets_are}
 use Rattle.sv_rules.proofs.Passes.{sound_at, only_pieces}
 use Rattle.sv_design.proofs.ReadFacts.{both_edges, targets_below, gains_inside, bits_begin}
 use Rattle.sv_design.proofs.ReadFacts.{feeds_begin, bits_before, feeds_before}
-use Rattle.sv_rules.proofs.Sound.{branch_is, sound_as, block_is, next_statement}
+use Rattle.sv_rules.proofs.Sound.{branch_is, sound_as, block_is, next_last}
 use Rattle.sv_design.proofs.reads.+follow.Goals as goal
 
 pub follow-add_reads-requires-clause-targets : goal.follow-add_reads-requires-clause-targets
@@ -169,13 +169,12 @@ follow_all-loop-i-init t c =
 pub follow_all-follow-requires : goal.follow_all-follow-requires
 follow_all-follow-requires t c =
     let stmts = c.args.stmts.now in
-    let j = length stmts - 1 - c.loop-i.i in
-    let inside : j < length stmts = omega (arith, c.loop-i-test.true) in (
+    let inside : length stmts - 1 - c.loop-i.i < length stmts = omega (arith, c.loop-i-test.true) in (
       search (rules, the_lemmas),
       (
         c.requires.sound,
         (
-          sound_at (design_of c.args.flat.now).signals stmts j c.index-stmts-stmts.result inside
+          sound_at (design_of c.args.flat.now).signals stmts _ c.index-stmts-stmts.result inside
               c.index-stmts-stmts.is c.requires.body,
           c.loop-i.invariant.0,
         ),
@@ -191,14 +190,11 @@ follow_all-loop-i-preserved t c =
     let i = c.loop-i.i in
     let j = length stmts - (i + 1) in
     let stmt = c.index-stmts-stmts.result in
-    let inside : j < length stmts = omega (arith, c.loop-i-test.true) in
-    let same : length stmts - 1 - i ≡ j = omega (arith, c.loop-i-test.true) in
     let next : length stmts - i ≡ j + 1 = omega (arith, c.loop-i-test.true) in
     let left = chain_of (flat_statements (drop j stmts)) in
     let this = flat_statement stmt in
     let rest = chain_of (flat_statements (drop (j + 1) stmts)) in
-    let splits = next_statement stmts j stmt inside
-    (subst (λ k. stmt ≡ get_or stmts k stmt) same c.index-stmts-stmts.is) in
+    let splits = next_last stmts i stmt (omega (arith, c.loop-i-test.true)) c.index-stmts-stmts.is in
     let before = subst (λ k. SameBits (in_bits c.loop-i.here)
     (can_assign (chain_of (flat_statements (drop k stmts))))) next c.loop-i.invariant.1 in
     let gained = subst (λ k. GainsEdges c.args.graph.now c.loop-i.graph

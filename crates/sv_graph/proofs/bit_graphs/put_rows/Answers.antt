@@ -32,10 +32,10 @@ put_row-requires c =
     let graph = c.args.graph.now in
     let signals = c.args.signals.now in
     let i = c.loop-signal.signal-index in
-    let m = asked signals i in
     let inside = known signals i (size graph) c.loop-signal-test.true c.requires.signals in
-    let is = c.deref.ensures.value ∙ row_at graph m c.index.result.now inside c.index.ensures in
-    ap length is ∙ (c.requires.over.1 m inside).0
+    let is = c.deref.ensures.value ∙ row_at graph (asked signals i) c.index.result.now inside
+    c.index.ensures in
+    ap length is ∙ (c.requires.over.1 (asked signals i) inside).0
     ∙ sym (c.loop-signal.invariant.0 ∙ c.requires.size)
 
 pub loop-signal-preserved : goal.loop-signal-preserved

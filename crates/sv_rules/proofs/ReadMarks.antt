@@ -11,7 +11,7 @@ use Rattle.sv_flat.specs.Readings.{readings_of}
 use Rattle.sv_rules.specs.ReadMarks.{reads_in}
 use Rattle.sv_graph.proofs.MarkFacts.{any_append, any_map}
 
--- one of the readings of two statements, one after the other, passes a test where one of either does
+-- some reading of two statements, one after the other, passes a test where one of either does
 pub any_after : (signals : List SignalForm) (test : Reading → Bool) (first second : FlatStatement)
     (a f : BitSet) {x y : Bool}
     → list_any test (readings signals first a (either (can_assign second) f)) ≡ x

@@ -38,7 +38,8 @@ next_statement stmts i stmt inside is = chain_at stmts i stmt inside is
 pub next_last : (stmts : List FStmt) (i : ℕ) (stmt : FStmt) → i < length stmts
     → stmt ≡ get_or stmts (length stmts - 1 - i) stmt
     → chain_of (flat_statements (drop (length stmts - (i + 1)) stmts)) ≡
-    after (flat_statement stmt) (chain_of (flat_statements (drop (length stmts - (i + 1) + 1) stmts)))
+    after (flat_statement stmt)
+    (chain_of (flat_statements (drop (length stmts - (i + 1) + 1) stmts)))
 next_last stmts i stmt inside is =
     let j = length stmts - (i + 1) in
     let below : j < length stmts = omega (arith, inside) in

@@ -169,7 +169,8 @@ follow_all-loop-i-init t c =
 pub follow_all-follow-requires : goal.follow_all-follow-requires
 follow_all-follow-requires t c =
     let stmts = c.args.stmts.now in
-    let inside : length stmts - 1 - c.loop-i.i < length stmts = omega (arith, c.loop-i-test.true) in (
+    let inside : length stmts - 1 - c.loop-i.i < length stmts =
+    omega (arith, c.loop-i-test.true) in (
       search (rules, the_lemmas),
       (
         c.requires.sound,
@@ -194,7 +195,8 @@ follow_all-loop-i-preserved t c =
     let left = chain_of (flat_statements (drop j stmts)) in
     let this = flat_statement stmt in
     let rest = chain_of (flat_statements (drop (j + 1) stmts)) in
-    let splits = next_last stmts i stmt (omega (arith, c.loop-i-test.true)) c.index-stmts-stmts.is in
+    let splits = next_last stmts i stmt (omega (arith, c.loop-i-test.true))
+    c.index-stmts-stmts.is in
     let before = subst (λ k. SameBits (in_bits c.loop-i.here)
     (can_assign (chain_of (flat_statements (drop k stmts))))) next c.loop-i.invariant.1 in
     let gained = subst (λ k. GainsEdges c.args.graph.now c.loop-i.graph

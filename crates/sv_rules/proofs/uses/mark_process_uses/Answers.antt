@@ -34,8 +34,8 @@ loop-process-preserved c =
     let p = c.process-item.result in
     marks_more c.args.table.now c.loop-process.table c.mark_uses.new.table
     (used_by flat flat.processes.items) (used_by flat (drop i processes))
-    (λ s. uses_as_signal (design_of flat) s (process_form p)) (used_by flat (drop (i + 1) processes))
-    c.loop-process.auto.table
+    (λ s. uses_as_signal (design_of flat) s (process_form p))
+    (used_by flat (drop (i + 1) processes)) c.loop-process.auto.table
     (λ s. any_more process_form (uses_as_signal (design_of flat) s) processes i p
     c.loop-process-test.true c.process-item.is)
     c.in_ok-mark_uses.ensures c.loop-process.invariant

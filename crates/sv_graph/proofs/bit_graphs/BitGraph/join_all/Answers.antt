@@ -32,7 +32,8 @@ loop-middle-preserved c =
     let inside : m < size now = subst (λ k. m < k) (sym c.loop-middle.invariant.0.0) known in
     let is = c.deref-in-loop-middle.ensures.value ∙ c.in_ok-targets.ensures ∙ c.deref.ensures.value
     ∙ row_at now m c.index.result.now inside c.index.ensures in (
-      subst (λ k. IsOver k c.lead_all_on.new.self) c.loop-middle.invariant.0.0 c.lead_all_on.ensures.over,
+      subst (λ k. IsOver k c.lead_all_on.new.self) c.loop-middle.invariant.0.0
+          c.lead_all_on.ensures.over,
       λ first so_far.
           ways_more (size self) first (has_edge now) (has_edge c.lead_all_on.new.self) m known
           (λ a b. c.lead_all_on.ensures.gains a b

@@ -20,7 +20,8 @@ invariant_of-self c =
     ∙ ap (λ vs. (flat_system design).next (by_number vs)) c.deref-2.ensures.value in
     let old : c.swap.new.y.items ≡ now.values.items = ap (λ v. v.items) c.swap.ensures.y_after in
     let ticked = ticked_simulation design c.clock_edge.ensures.design.is_sound
-    c.clock_edge.ensures.design.is_admitted now.values.items new now.is_settled c.self.invariant.0 c.clock_edge.ensures.fit next in
+    c.clock_edge.ensures.design.is_admitted now.values.items new now.is_settled
+    c.self.invariant.0 c.clock_edge.ensures.fit next in
     let size = ap length old ∙ (c.self.invariant.0).fit.count
     ∙ sym c.clock_edge.ensures.fit.count in
     let both = subst (λ (vs : List ℕ).

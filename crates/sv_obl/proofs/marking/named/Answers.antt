@@ -11,11 +11,13 @@ bits_read-bits-requires c =
 pub returns-then-share : goal.returns-then-share
 returns-then-share c =
     named_copy c.args.signals.now c.index-signals-signal.result (read_form c.args.read)
-    c.requires.known (in_surrounding c.args.later.now) _ _ c.bits_read-bits.ensures c.of.ensures _
-    c.share.ensures c.if-share.true
+    c.requires.known (in_surrounding c.args.later.now) c.bits_read-bits.result
+    c.of.result c.bits_read-bits.ensures c.of.ensures c.share.result c.share.ensures
+    c.if-share.true
 
 pub returns-else-share : goal.returns-else-share
 returns-else-share c =
     named_itself c.args.signals.now c.index-signals-signal.result (read_form c.args.read)
-    c.requires.known (in_surrounding c.args.later.now) _ _ c.bits_read-bits.ensures c.of.ensures _
-    c.share.ensures c.if-share.false
+    c.requires.known (in_surrounding c.args.later.now) c.bits_read-bits.result
+    c.of.result c.bits_read-bits.ensures c.of.ensures c.share.result c.share.ensures
+    c.if-share.false

@@ -37,7 +37,8 @@ module _ (signals : List SignalForm) (s : ℕ) where
       list_any is_of (readings signals body a f) ≡ reads_in signals body s
   read_in nothing a f = refl
   read_in (after first second) a f =
-      any_after signals is_of first second a f (read_in first a _) (read_in second _ f)
+      any_after signals is_of first second a f (read_in first a (either (can_assign second) f))
+      (read_in second (either (always_assigns first) a) f)
   read_in (assign pieces place blocking right) a f =
       let whole = assign pieces place blocking right in
       named right (assigns whole) a (either (can_assign whole) f)

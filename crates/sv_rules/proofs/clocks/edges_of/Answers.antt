@@ -33,7 +33,8 @@ mark_edge-requires c =
 
 pub loop-process-init : goal.loop-process-init
 loop-process-init c =
-    (refl, all_left c.args.flat.now edges _ _ c.deref-process-items.ensures.value)
+    let table = c.in_ok-table.table.items in
+    (refl, all_left c.args.flat.now edges table _ c.deref-process-items.ensures.value)
 
 pub loop-process-preserved : goal.loop-process-preserved
 loop-process-preserved c =

@@ -46,6 +46,7 @@ use Rattle.sv_graph.specs.Graphs as graphs
 use Rattle.sv_graph.specs.Marks.{is_marked, IsTable}
 use Rattle.sv_design.specs.Numbers.{numbers}
 use Rattle.sv_rules.proofs.Passes.{or_turned}
+use Rattle.sv_rules.proofs.ReadMarks.{any_after}
 use Rattle.sv_rules.proofs.TableFacts.{filter_within}
 use Rattle.sv_graph.proofs.BitFacts.{same_answer}
 use Rattle.sv_graph.proofs.MarkFacts.{any_append, any_map}
@@ -96,10 +97,7 @@ module _ (signals : List SignalForm) (sought : Sought) (s t : ℕ) where
       list_any serves (readings signals body a f) ≡ feeds signals sought body f s t
   fed nothing a f = refl
   fed (after first second) a f =
-      let later = either (can_assign second) f in
-      let before = either (always_assigns first) a in
-      any_append serves (readings signals first a later) (readings signals second before f)
-      ∙ ap₂ ◌||◌ (fed first a later) (fed second before f)
+      any_after signals serves first second a f (fed first a _) (fed second _ f)
   fed (assign pieces place blocking right) a f =
       let whole = assign pieces place blocking right in
       named right whole a (either (can_assign whole) f)

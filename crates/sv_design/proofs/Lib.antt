@@ -12,6 +12,7 @@ pub mod FirstLoops
 pub mod OrderFacts
 pub mod FindMap
 pub mod ClockOrder
+pub mod ClockedTargets
 pub mod WholeOrders
 pub mod ReadTables
 pub mod ProcessCounts

@@ -24,15 +24,17 @@ use Rattle.sv_flat.proofs.Members.{Contains-left, Contains-right}
 use Rattle.sv_flat.proofs.LeastSets.{either_way}
 use Rattle.sv_flat.proofs.Depths.{first_of, second_of}
 use Rattle.sv_flat.proofs.ReplacedBits.{replaced_below, replaced_under, replaced_over}
+use Rattle.sv_flat.proofs.NumberedRuns.{run_stays}
 use Rattle.sv_flat.proofs.ReadSignals.{reads_signals}
 use Rattle.sv_flat.proofs.SameRuns.{or_none_left, or_none_right, put_other, put_there}
 use Rattle.sv_flat.proofs.SameRuns.{piece_lies_inside, run_leaves, all_blocking}
+use Rattle.sv_rules.proofs.Sound.{branch_sound}
 use Rattle.sv_obl.specs.Wanted.{with_copies, copy_of, is_copy, original, marked_tree}
 use Rattle.sv_obl.proofs.MarkedValues.{AllSameBits, renamed_value}
 use Rattle.sv_obl.proofs.PathLists.{cond_true, cond_false, neither}
 use Rattle.sv_obl.proofs.PathTells.{here, Follows}
-use Rattle.sv_obl.proofs.PutFacts.{State, all_are, running, width_settled, width_copy}
-use Rattle.sv_obl.proofs.PutFacts.{signal_is_settled, copy_is_copy, original_of_copy}
+use Rattle.sv_obl.proofs.PutFacts.{State, all_are, nonblocking_is, running, width_settled}
+use Rattle.sv_obl.proofs.PutFacts.{width_copy, signal_is_settled, copy_is_copy, original_of_copy}
 
 module _ (signals : List SignalForm) where
   abbrev Bit : State → ℕ → ℕ → ℕ
@@ -191,32 +193,10 @@ module _ (signals : List SignalForm) where
 
   -- ---- assignments that wait
 
-  either_now : (c : Bool) (x y : State) (n : Environment ℕ) → x.0 ≡ n → y.0 ≡ n → (cond c x y).0 ≡ n
-  either_now true x y n first second = first
-  either_now false x y n first second = second
-
-  pieces_keep_now : (v : ℕ) (pieces : List PieceForm) (now : State) →
-      (fold (put_piece signals false v) now pieces).0 ≡ now.0
-  pieces_keep_now v [] now = refl
-  pieces_keep_now v (p ∷ pieces) now = pieces_keep_now v pieces (put_piece signals false v now p)
-
   -- nonblocking assignments leave the environment
   pub keeps_now : (body : FlatStatement) (now : State) → IsTrue (all_are false body) →
       (run signals body now).0 ≡ now.0
-  keeps_now nothing now kind = refl
-  keeps_now (after first second) now kind =
-      keeps_now second (run signals first now)
-      (second_of (all_are false first) (all_are false second) kind)
-      ∙ keeps_now first now (first_of (all_are false first) (all_are false second) kind)
-  keeps_now (assign [] place blocking right) now kind = refl
-  keeps_now (assign (p ∷ pieces) place true right) now kind = absurd (false≢true kind)
-  keeps_now (assign (p ∷ pieces) place false right) now kind =
-      pieces_keep_now (value signals now.0 right) (p ∷ pieces) now
-  keeps_now (branch place condition first second) now kind =
-      either_now (is_true (value signals now.0 condition)) (run signals first now)
-      (run signals second now) now.0
-      (keeps_now first now (first_of (all_are false first) (all_are false second) kind))
-      (keeps_now second now (second_of (all_are false first) (all_are false second) kind))
+  keeps_now body now kind = run_stays signals body (nonblocking_is body ∙ kind) now
 
   -- ---- what is read
 
@@ -479,17 +459,14 @@ module _ (signals : List SignalForm) where
           (either (can_assign whole) later) in
           let in_first = readings signals first before later in
           let in_second = readings signals second before later in
-          let front = first_of (well_formed signals condition && statement_sound signals first)
-          (statement_sound signals second) sound in
+          let parts = branch_sound signals place condition first second sound in
           let c = is_true (value signals now.0 condition) in (
-            read_follows whole condition before later now
-                (first_of (well_formed signals condition) (statement_sound signals first) front)
+            read_follows whole condition before later now parts.0
                 sound blocking
                 (λ r at.
                 quiet r (Contains-left (here ++ in_first) in_second r
                 (Contains-left here in_first r at))) fits outside ends,
-            (λ holds. block_follows first before later now
-                (second_of (well_formed signals condition) (statement_sound signals first) front)
+            (λ holds. block_follows first before later now parts.1
                 (first_of (all_blocking first) (all_blocking second) blocking)
                 (λ t h. owned t (or_left (assigns first t) (assigns second t) h))
                 (λ r at.
@@ -498,9 +475,7 @@ module _ (signals : List SignalForm) where
                 (subst (λ (x : State).
                 Ends later x.0) (cond_true c (run signals first now) (run signals second now)
                 holds) ends)),
-            (λ fails. block_follows second before later now
-                (second_of (well_formed signals condition && statement_sound signals first)
-                (statement_sound signals second) sound)
+            (λ fails. block_follows second before later now parts.2
                 (second_of (all_blocking first) (all_blocking second) blocking)
                 (λ t h. owned t (or_right (assigns first t) (assigns second t) h))
                 (λ r at. quiet r (Contains-right (here ++ in_first) in_second r at)) fits outside

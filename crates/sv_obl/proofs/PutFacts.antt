@@ -18,6 +18,7 @@ use Rattle.sv_system.specs.System.{Environment, last_update}
 use Rattle.sv_system.proofs.Lists.{Contains-head, Contains-later, Contains-nil, Contains-filter}
 use Rattle.sv_flat.specs.Design.{SignalForm, TypedTree, typed, mend, slice, PieceForm}
 use Rattle.sv_flat.specs.Design.{FlatStatement, nothing, after, assign, branch}
+use Rattle.sv_flat.specs.ByNumber.{is_nonblocking}
 use Rattle.sv_flat.specs.Values.{signal_of, signal_width, expression_width, value}
 use Rattle.sv_flat.specs.Runs.{Updates, with_piece, put_piece, run}
 use Rattle.sv_flat.specs.Soundness.{is_signal, is_part_of, is_whole, piece_fits, well_formed}
@@ -45,6 +46,16 @@ all_are b (after first second) = all_are b first && all_are b second
 all_are b (assign [] place blocking right) = true
 all_are b (assign (p ∷ pieces) place blocking right) = beq blocking b
 all_are b (branch place condition first second) = all_are b first && all_are b second
+
+-- all are `<=`
+pub nonblocking_is : (body : FlatStatement) → is_nonblocking body ≡ all_are false body
+nonblocking_is nothing = refl
+nonblocking_is (after first second) = ap₂ ◌&&◌ (nonblocking_is first) (nonblocking_is second)
+nonblocking_is (assign [] place blocking right) = refl
+nonblocking_is (assign (p ∷ pieces) place true right) = refl
+nonblocking_is (assign (p ∷ pieces) place false right) = refl
+nonblocking_is (branch place condition first second) =
+    ap₂ ◌&&◌ (nonblocking_is first) (nonblocking_is second)
 
 -- the value of a signal that the statements that follow go on with
 abbrev pub running : Bool → State → Environment ℕ

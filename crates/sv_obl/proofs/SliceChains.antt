@@ -252,6 +252,14 @@ two_ends all middle front first second joined later earlier chain = record {
       ∙ ap (flat_map (chain_routes signals s front)) (sym (chain.routes signals s route));
 }
 
+-- so where memory may have run out
+pub ends_joined : {E : Type 0} (all middle front : List BodySlice) (first second : BodySlice)
+    (joined : Result BodySlice E) → EndsIn all middle second → EndsIn middle front first
+    → IfOk joined (IsChain first second) → IfOk joined (EndsIn all front)
+ends_joined all middle front first second joined later earlier chain =
+    on_ok joined (IsChain first second) (EndsIn all front)
+    (λ whole is. two_ends all middle front first second whole later earlier is) chain
+
 pub no_slices : (s : ℕ) → AreSlicesOf s nothing []
 no_slices s = record { nothing = refl; parts = λ rest. refl; routes = λ signals route. refl }
 

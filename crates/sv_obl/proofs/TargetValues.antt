@@ -1,11 +1,10 @@
 -- What the paths of a target tell in a settled environment: the value of a combinational signal,
 -- and the next value of a register.
 use Rattle.std.proofs.Common.{◌≡◌, ℕ, ◌<◌, ◌≤◌, ◌^◌, Bool, true, false, cond, not, ◌&&◌, ◌==◌}
-use Rattle.std.proofs.Common.{nat_le, is_none, List, [], ◌∷◌, ◌++◌, fold, map, ◌⊎◌, inl, inr}
+use Rattle.std.proofs.Common.{nat_le, is_none, List, [], ◌∷◌, ◌++◌, fold, ◌⊎◌, inl, inr}
 use Rattle.std.proofs.Common.{⊎_elim, refl, sym, ap, subst, ◌∙◌, arith, Some, None, ◌/◌, ◌%◌}
 use Rattle.std.specs.Prelude.{Contains, IsTrue, IsFalse, filter, flat_map, slice_get}
 use Rattle.std.specs.Int.{bit_at}
-use Rattle.std.specs.Bool.{beq}
 use Rattle.std.specs.List.{list_any, range_with_len, list_all}
 use Rattle.std.proofs.lemmas.Bool.{false≢true, le-leb}
 use Rattle.std.proofs.lemmas.Nat.{pow_pos}
@@ -13,37 +12,36 @@ use Rattle.std.proofs.Math.Nat.{mod-eq_of_lt}
 use Rattle.sv_num.specs.Parts.{extended}
 use Rattle.sv_num.specs.Vectors.{is_true}
 use Rattle.sv_system.specs.System.{Environment, Fits, IsStill, last_update}
-use Rattle.sv_system.proofs.Lists.{Contains-head, Contains-nil, Contains-cases, Contains-filter}
+use Rattle.sv_system.proofs.Lists.{Contains-nil, Contains-cases, Contains-filter}
 use Rattle.sv_system.proofs.Lists.{Contains-map}
 use Rattle.sv_flat.specs.Design.{SignalForm, TypedTree, PieceForm, FlatStatement, nothing, after}
-use Rattle.sv_flat.specs.Design.{assign, branch, ProcessKind, continuous, port_in, port_out}
-use Rattle.sv_flat.specs.Design.{combinational, clocked, release, ProcessForm, FlatDesign}
+use Rattle.sv_flat.specs.Design.{assign, branch}
+use Rattle.sv_flat.specs.Design.{ProcessForm, FlatDesign}
 use Rattle.sv_flat.specs.Values.{signal_of, signal_width, value}
 use Rattle.sv_flat.specs.Runs.{Updates, with_piece, put_piece, run, updates_of}
 use Rattle.sv_flat.specs.Soundness.{is_signal, kind_sound, piece_fits}
 use Rattle.sv_flat.specs.Soundness.{well_formed, statement_sound, sound}
 use Rattle.sv_flat.specs.Assigned.{assigns}
-use Rattle.sv_flat.specs.Assignments.{TargetForm, targets, targets_after, is_wrong_sign}
-use Rattle.sv_flat.specs.Assignments.{is_wrong_target, target_breach}
 use Rattle.sv_flat.specs.Readings.{Reading, no_bits, is_followed}
 use Rattle.sv_flat.specs.Processes.{is_clocked, is_block, is_top_input, is_register, drivers}
 use Rattle.sv_flat.specs.Clocks.{is_clock, processes_of}
 use Rattle.sv_flat.specs.Reads.{is_earlier, followed, process_readings}
 use Rattle.sv_flat.specs.FlatSystem.{flat_system, combinational_processes, run_of}
 use Rattle.sv_flat.specs.Admission.{IsAdmitted}
-use Rattle.sv_flat.proofs.Members.{Contains-left, Contains-right, Contains-either}
+use Rattle.sv_flat.proofs.Members.{Contains-either}
 use Rattle.sv_flat.proofs.ReplacedBits.{replaced_below}
 use Rattle.sv_flat.proofs.RunsFit.{UpdatesFit, last_update_fits}
 use Rattle.sv_flat.proofs.LeastSets.{either_way, range_has, some_from, from_some}
 use Rattle.sv_flat.proofs.Depths.{first_of, second_of}
 use Rattle.sv_flat.proofs.SameRuns.{or_none_left, or_none_right, none_found, all_blocking}
 use Rattle.sv_flat.proofs.SameRuns.{piece_lies_inside}
-use Rattle.sv_flat.proofs.AdmittedFacts.{and_true, none_pass, empty_part, is_process}
+use Rattle.sv_flat.proofs.AdmittedFacts.{and_true, is_process}
 use Rattle.sv_flat.proofs.AdmittedFacts.{process_is_sound, some_width, body_is_sound}
-use Rattle.sv_flat.proofs.AdmittedFacts.{targets_are_combinational, no_wrong_assigns}
+use Rattle.sv_flat.proofs.AdmittedFacts.{targets_are_combinational}
 use Rattle.sv_flat.proofs.BlockFacts.{one_kind, one_serves, follows_itself, follows_targets}
 use Rattle.sv_flat.proofs.BlockFacts.{settled_is_lower, is_blocking}
 use Rattle.sv_flat.proofs.FlatScheduled.{in_processes, unclocked, to_system, parts_of, same_target}
+use Rattle.sv_design.proofs.ClockedTargets.{nonblocking_targets, is_by_edge}
 use Rattle.sv_obl.specs.Wanted.{with_copies, copy_of, is_copy, original, marked}
 use Rattle.sv_obl.specs.Wanted.{wanted_name}
 use Rattle.sv_obl.specs.Paths.{Path, open_path, before, closed, paths}
@@ -54,8 +52,8 @@ use Rattle.sv_obl.proofs.PathLists.{both_true, cond_true, cond_false}
 use Rattle.sv_obl.proofs.PathNames.{PathFine}
 use Rattle.sv_obl.proofs.PathRuns.{steps_hold, Tidy}
 use Rattle.sv_obl.proofs.PathTells.{here, Follows, path_tells, some_path, one_path, stays_tidy}
-use Rattle.sv_obl.proofs.PutFacts.{State, all_are, running, width_copy, copy_is_copy}
-use Rattle.sv_obl.proofs.PutFacts.{original_of_copy, extended_same}
+use Rattle.sv_obl.proofs.PutFacts.{State, all_are, nonblocking_is, running, width_copy}
+use Rattle.sv_obl.proofs.PutFacts.{copy_is_copy, original_of_copy, extended_same}
 use Rattle.sv_obl.proofs.TargetReads.{clocked_is_no_block, Served, Member, member_inside}
 use Rattle.sv_obl.proofs.TargetReads.{clocked_alone, target_fine, Origin, origin, open_tidy}
 
@@ -73,42 +71,6 @@ blocking_are (branch place condition first second) h =
     both_true (all_are true first) (all_are true second)
     (blocking_are first (first_of (all_blocking first) (all_blocking second) h))
     (blocking_are second (second_of (all_blocking first) (all_blocking second) h))
-
-unblocking : (b : Bool) → IsFalse b → IsTrue (beq b false)
-unblocking true h = absurd (false≢true (sym h))
-unblocking false h = refl
-
--- every target's assignment is `<=`
-nonblocking_targets : (body : FlatStatement)
-    → ((t : TargetForm) → Contains (targets body) t → IsFalse t.blocking)
-    → IsTrue (all_are false body)
-nonblocking_targets nothing each = refl
-nonblocking_targets (after first second) each =
-    both_true (all_are false first) (all_are false second)
-    (nonblocking_targets first (λ t at.
-    each t (Contains-left (targets first) (targets second) t at)))
-    (nonblocking_targets second (λ t at.
-    each t (Contains-right (targets first) (targets second) t at)))
-nonblocking_targets (assign [] place blocking right) each = refl
-nonblocking_targets (assign (p ∷ pieces) place blocking right) each =
-    unblocking blocking (each (record { piece = p; before = []; blocking = blocking })
-    (Contains-head (record { piece = p; before = []; blocking = blocking })
-    (targets_after (p ∷ []) pieces blocking)))
-nonblocking_targets (branch place condition first second) each =
-    both_true (all_are false first) (all_are false second)
-    (nonblocking_targets first (λ t at.
-    each t (Contains-left (targets first) (targets second) t at)))
-    (nonblocking_targets second (λ t at.
-    each t (Contains-right (targets first) (targets second) t at)))
-
-clocked_sign : (k : ProcessKind) (b : Bool) → IsTrue (is_clocked k) → IsFalse (is_wrong_sign k b) →
-    IsFalse b
-clocked_sign (clocked clock) b h fine = fine
-clocked_sign continuous b h fine = absurd (false≢true h)
-clocked_sign port_in b h fine = absurd (false≢true h)
-clocked_sign port_out b h fine = absurd (false≢true h)
-clocked_sign combinational b h fine = absurd (false≢true h)
-clocked_sign (release point) b h fine = absurd (false≢true h)
 
 module _ (signals : List SignalForm) where
   -- ---- updates
@@ -559,15 +521,9 @@ module _ (design : FlatDesign) (is_sound : IsTrue (sound design))
 
   pub clocked_waits : (p : ProcessForm) → Contains (processes_of design) p →
       IsTrue (is_clocked p.kind) → IsTrue (all_are false p.body)
-  clocked_waits p at clock = nonblocking_targets p.body (λ t t_at.
-      let right = none_pass target_breach (is_wrong_target design p.kind) (targets p.body)
-      (empty_part (λ (q : ProcessForm).
-      map target_breach (filter (is_wrong_target design q.kind) (targets q.body)))
-      design.processes
-      (no_wrong_assigns design is_sound admitted) p (is_process design is_sound admitted p at))
-      t t_at in
-      clocked_sign p.kind t.blocking clock
-      (or_none_left (is_wrong_sign p.kind t.blocking) _ (or_none_left _ _ right)))
+  clocked_waits p at clock =
+      sym (nonblocking_is p.body)
+      ∙ nonblocking_targets p.body (is_by_edge design is_sound admitted p at clock)
 
   module _ (p : ProcessForm) (s : ℕ) (at : Contains (processes_of design) p)
       (clock : IsTrue (is_clocked p.kind))

@@ -201,10 +201,10 @@ module _ (flat : Flat) (s : ℕ) (signal : Signal) (inside : s < length flat.sig
       (sym (signal_at flat flat.signals.items s signal refl inside is))
 
 -- a table of clocks has a place for it
-pub clock_inside : (flat : Flat) (items : List Signal) (clocks : List Bool) (i : ℕ)
+pub clock_at : (flat : Flat) {items : List Signal} {clocks : List Bool} {i : ℕ}
     → items ≡ flat.signals.items → i < length items → AreClocks (design_of flat) clocks
     → i < length clocks
-clock_inside flat items clocks i same inside are =
+clock_at flat {items} {clocks} {i} same inside are =
     subst (λ n. i < n) (sym (clocks_count (design_of flat) clocks are))
     (inside_design flat items i same inside)
 

@@ -6,12 +6,14 @@ use Rattle.std.specs.Prelude.{IsTrue, Contains, ◌↔◌, filter}
 use Rattle.std.specs.List.{range_with_len}
 use Rattle.std.proofs.lemmas.List.{map-append, append-nil}
 use Rattle.std.proofs.lemmas.List.Elements.{filter-append}
+use Rattle.std.proofs.Math.ListN.{length-map}
 use Rattle.std.proofs.Math.Seq.{drop-cons}
 use Rattle.std.proofs.lemmas.List.Elements.{Contains-get_or}
 use Rattle.sv_system.proofs.Lists.{Contains-filter, Contains-map}
 use Rattle.sv_flat.specs.Soundness.{well_formed}
 use Rattle.sv_flat.proofs.ReadSignals.{reads_signals}
 use Rattle.sv_flat.specs.Breaches.{Breach, breach}
+use Rattle.sv_flat.specs.ByNumber.{signal_forms}
 use Rattle.sv_flat.specs.Assigned.{assigns}
 use Rattle.sv_flat.specs.Blocks.{is_out_of_phase, phase_breach}
 use Rattle.sv_flat.specs.Design.{SignalForm, TypedTree, FlatStatement}
@@ -20,6 +22,9 @@ use Rattle.sv_flat.specs.Values.{signal_width}
 use Rattle.sv_flat.proofs.LeastSets.{some_from, from_some, range_has, those_below}
 use Rattle.sv_flat.proofs.Depths.{first_of, second_of}
 use Rattle.sv_flat.proofs.AdmittedFacts.{and_true, negated_true}
+use Rattle.sv_flat.specs.Views.{design_of, signal_form}
+use Rattle.sv_flat.specs.declared.designs.Flat.{Flat}
+use Rattle.sv_flat.specs.declared.signals.Signal.{Signal}
 use Rattle.sv_graph.specs.declared.bit_sets.BitSet.{BitSet as Bits}
 use Rattle.sv_rules.specs.declared.found.Found.{Found}
 use Rattle.sv_rules.specs.declared.names.Read.{Read}
@@ -142,6 +147,24 @@ name_is_signal signals tree names i d formed same inside =
     (reads_signals signals tree formed (read_form (get_or names i d))
     (subst (λ rs. Contains rs (read_form (get_or names i d))) same
     (Contains-map read_form names (get_or names i d) (Contains-get_or names i d inside))))
+
+-- the names that `names_in` lists, as they are gone through, are those that the expression reads
+pub names_are : (given signals : List Signal) (tree : TypedTree) (items names : List Read)
+    → items ≡ names → read_forms names ≡ reads (signal_forms given) tree → given ≡ signals
+    → read_forms items ≡ reads (signal_forms signals) tree
+names_are given signals tree items names same are is =
+    ap read_forms same ∙ are ∙ ap (λ ss. reads (signal_forms ss) tree) is
+
+-- each of them is a signal
+pub name_inside : (flat : Flat) (tree : TypedTree) (given : List Signal)
+    (items names : List Read) (i : ℕ) → IsTrue (well_formed (design_of flat).signals tree)
+    → items ≡ names → read_forms names ≡ reads (signal_forms given) tree
+    → given ≡ flat.signals.items → i < length items
+    → (get_or items i no_read).signal.0 < length flat.signals.items
+name_inside flat tree given items names i formed same are is inside =
+    subst (λ n. (get_or items i no_read).signal.0 < n) (length-map flat.signals.items signal_form)
+    (name_is_signal (design_of flat).signals tree items i no_read formed
+    (names_are given flat.signals.items tree items names same are is) inside)
 
 -- some reads were looked at, and some are left
 abbrev pub ReadsSoFar : List SignalForm → Bits → BitSet →

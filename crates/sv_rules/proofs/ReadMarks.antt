@@ -11,6 +11,17 @@ use Rattle.sv_flat.specs.Readings.{readings_of}
 use Rattle.sv_rules.specs.ReadMarks.{reads_in}
 use Rattle.sv_graph.proofs.MarkFacts.{any_append, any_map}
 
+-- some reading of two statements, one after the other, passes a test where one of either does
+pub any_after : (signals : List SignalForm) (test : Reading → Bool) (first second : FlatStatement)
+    (a f : BitSet) {x y : Bool}
+    → list_any test (readings signals first a (either (can_assign second) f)) ≡ x
+    → list_any test (readings signals second (either (always_assigns first) a) f) ≡ y
+    → list_any test (readings signals (after first second) a f) ≡ (x || y)
+any_after signals test first second a f one two =
+    any_append test (readings signals first a (either (can_assign second) f))
+    (readings signals second (either (always_assigns first) a) f)
+    ∙ ap₂ ◌||◌ one two
+
 module _ (signals : List SignalForm) (s : ℕ) where
   abbrev is_of : Reading → Bool
   is_of r = r.name.signal == s
@@ -26,10 +37,8 @@ module _ (signals : List SignalForm) (s : ℕ) where
       list_any is_of (readings signals body a f) ≡ reads_in signals body s
   read_in nothing a f = refl
   read_in (after first second) a f =
-      let later = either (can_assign second) f in
-      let before = either (always_assigns first) a in
-      any_append is_of (readings signals first a later) (readings signals second before f)
-      ∙ ap₂ ◌||◌ (read_in first a later) (read_in second before f)
+      any_after signals is_of first second a f (read_in first a (either (can_assign second) f))
+      (read_in second (either (always_assigns first) a) f)
   read_in (assign pieces place blocking right) a f =
       let whole = assign pieces place blocking right in
       named right (assigns whole) a (either (can_assign whole) f)

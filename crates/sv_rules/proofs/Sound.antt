@@ -34,6 +34,18 @@ pub next_statement : (stmts : List FStmt) (i : ℕ) (stmt : FStmt) → i < lengt
     after (flat_statement stmt) (chain_of (flat_statements (drop (i + 1) stmts)))
 next_statement stmts i stmt inside is = chain_at stmts i stmt inside is
 
+-- the last statements and the one before them, where so many were gone through from the end
+pub next_last : (stmts : List FStmt) (i : ℕ) (stmt : FStmt) → i < length stmts
+    → stmt ≡ get_or stmts (length stmts - 1 - i) stmt
+    → chain_of (flat_statements (drop (length stmts - (i + 1)) stmts)) ≡
+    after (flat_statement stmt)
+    (chain_of (flat_statements (drop (length stmts - (i + 1) + 1) stmts)))
+next_last stmts i stmt inside is =
+    let j = length stmts - (i + 1) in
+    let below : j < length stmts = omega (arith, inside) in
+    let same : length stmts - 1 - i ≡ j = omega (arith, inside) in
+    next_statement stmts j stmt below (subst (λ k. stmt ≡ get_or stmts k stmt) same is)
+
 -- a block is the chain of the statements of its vector
 pub block_is : (stmt : FStmt) (stmts : Vec FStmt Global) (items : List FStmt) → stmt ≡ Block stmts
     → items ≡ stmts.items

@@ -1,9 +1,9 @@
 -- The clock edge: clocked processes that run one after the other update what each of them updates
 -- by itself, since no signal has two processes.
-use Rattle.std.proofs.Common.{◌≡◌, ℕ, ◌+◌, ◌<◌, Bool, true, false, cond, not, ◌||◌}
+use Rattle.std.proofs.Common.{◌≡◌, ℕ, ◌+◌, ◌<◌, Bool, true, false, cond, ◌||◌}
 use Rattle.std.proofs.Common.{◌==◌, List, [], ◌∷◌, ◌++◌, length, take, drop, fold, refl, sym, ap}
 use Rattle.std.proofs.Common.{subst, ◌∙◌, ⊎_elim, append-nil, append_assoc}
-use Rattle.std.specs.Prelude.{Contains, IsTrue, IsFalse, map, flat_map, filter, None, slice_get}
+use Rattle.std.specs.Prelude.{Contains, IsTrue, IsFalse, flat_map, filter, None, slice_get}
 use Rattle.std.specs.List.{list_any}
 use Rattle.std.proofs.lemmas.List.{take_more}
 use Rattle.std.proofs.lemmas.Bool.{false≢true, eq-eqb, or_left, or_right}
@@ -13,68 +13,30 @@ use Rattle.sv_system.proofs.Lists.{Contains-head, Contains-later, Contains-nil, 
 use Rattle.sv_system.proofs.Lists.{Contains-filter}
 use Rattle.sv_flat.specs.Admission.{IsAdmitted}
 use Rattle.sv_flat.specs.Assigned.{assigns}
-use Rattle.sv_flat.specs.Assignments.{TargetForm, targets, targets_after, is_wrong_sign}
-use Rattle.sv_flat.specs.Assignments.{is_wrong_target, target_breach}
 use Rattle.sv_flat.specs.ByNumber.{is_nonblocking, by_number, FitSignals}
 use Rattle.sv_flat.specs.Clocks.{is_clock, processes_of}
 use Rattle.sv_flat.specs.Design.{SignalForm, PieceForm, FlatStatement, nothing, after}
-use Rattle.sv_flat.specs.Design.{assign, branch, ProcessKind, continuous, port_in, port_out}
-use Rattle.sv_flat.specs.Design.{combinational, clocked, release, ProcessForm, FlatDesign}
+use Rattle.sv_flat.specs.Design.{assign, branch}
+use Rattle.sv_flat.specs.Design.{ProcessForm, FlatDesign}
 use Rattle.sv_flat.specs.FlatSystem.{flat_system, all_updates, clocked_processes}
 use Rattle.sv_flat.specs.Processes.{is_clocked, is_top_input, drivers}
 use Rattle.sv_flat.specs.Runs.{Updates, with_piece, put_piece, run, updates_of}
 use Rattle.sv_flat.specs.Soundness.{sound}
 use Rattle.sv_flat.specs.Values.{value}
 use Rattle.sv_flat.proofs.AdmittedFacts.{assigns_no_clock}
-use Rattle.sv_flat.proofs.AdmittedFacts.{some_is_some, and_true, none_pass, empty_part}
-use Rattle.sv_flat.proofs.AdmittedFacts.{no_wrong_assigns, is_process, extra_at}
+use Rattle.sv_flat.proofs.AdmittedFacts.{some_is_some}
+use Rattle.sv_flat.proofs.AdmittedFacts.{extra_at}
 use Rattle.sv_flat.proofs.AdmittedFacts.{body_is_sound, assigned_is_signal}
 use Rattle.sv_flat.proofs.Depths.{first_of, second_of}
 use Rattle.sv_flat.proofs.LeastSets.{either_way, Contains-from_filter}
-use Rattle.sv_flat.proofs.Members.{Contains-left, Contains-right}
+use Rattle.sv_flat.proofs.Members.{Contains-right}
 use Rattle.sv_flat.proofs.NumberedRuns.{run_is}
 use Rattle.sv_flat.proofs.SameRuns.{or_none_left, or_none_right, none_found}
+use Rattle.sv_design.proofs.ClockedTargets.{nonblocking_targets, is_by_edge}
 use Rattle.sv_sim.specs.Settling.{clocked_before}
 use Rattle.sv_sim.specs.Simulations.{process_at}
 use Rattle.sv_sim.specs.Simulations.{IsSimulation}
 use Rattle.sv_sim.proofs.AtPlace.{idle, cut_there}
-
--- ---- clocked blocks
-
-not_true : (b : Bool) → IsFalse b → IsTrue (not b)
-not_true b h = ap not h
-
--- where no target's assignment is `=`, none is
-nonblocking_targets : (body : FlatStatement)
-    → ((t : TargetForm) → Contains (targets body) t → IsFalse t.blocking)
-    → IsTrue (is_nonblocking body)
-nonblocking_targets nothing each = refl
-nonblocking_targets (after first second) each = and_true (is_nonblocking first)
-    (is_nonblocking second)
-    (nonblocking_targets first
-    (λ t at. each t (Contains-left (targets first) (targets second) t at)))
-    (nonblocking_targets second
-    (λ t at. each t (Contains-right (targets first) (targets second) t at)))
-nonblocking_targets (assign [] place blocking right) each = refl
-nonblocking_targets (assign (p ∷ pieces) place blocking right) each = not_true blocking
-    (each (record { piece = p; before = []; blocking = blocking })
-    (Contains-head (record { piece = p; before = []; blocking = blocking })
-    (targets_after (p ∷ []) pieces blocking)))
-nonblocking_targets (branch place condition first second) each = and_true (is_nonblocking first)
-    (is_nonblocking second)
-    (nonblocking_targets first
-    (λ t at. each t (Contains-left (targets first) (targets second) t at)))
-    (nonblocking_targets second
-    (λ t at. each t (Contains-right (targets first) (targets second) t at)))
-
-clocked_sign : (k : ProcessKind) (b : Bool) → IsTrue (is_clocked k) → IsFalse (is_wrong_sign k b)
-    → IsFalse b
-clocked_sign (clocked clock) b h fine = fine
-clocked_sign continuous b h fine = absurd (false≢true h)
-clocked_sign port_in b h fine = absurd (false≢true h)
-clocked_sign port_out b h fine = absurd (false≢true h)
-clocked_sign combinational b h fine = absurd (false≢true h)
-clocked_sign (release point) b h fine = absurd (false≢true h)
 
 -- ---- updates
 
@@ -273,15 +235,8 @@ module _ (design : FlatDesign) (is_sound : IsTrue (sound design))
   -- every assignment of a clocked process is `<=`
   pub clocked_is_nonblocking : (p : ProcessForm) → Contains (processes_of design) p
       → IsTrue (is_clocked p.kind) → IsTrue (is_nonblocking p.body)
-  clocked_is_nonblocking p at h = nonblocking_targets p.body (λ t t_at.
-      let right = none_pass target_breach (is_wrong_target design p.kind) (targets p.body)
-      (empty_part
-      (λ (q : ProcessForm). map target_breach
-      (filter (is_wrong_target design q.kind) (targets q.body))) design.processes
-      (no_wrong_assigns design is_sound admitted) p (is_process design is_sound admitted p at)) t
-      t_at in
-      clocked_sign p.kind t.blocking h
-      (or_none_left (is_wrong_sign p.kind t.blocking) _ (or_none_left _ _ right)))
+  clocked_is_nonblocking p at h =
+      nonblocking_targets p.body (is_by_edge design is_sound admitted p at h)
 
   module _ (before after' : List ProcessForm) (p : ProcessForm)
       (all : before ++ p ∷ after' ≡ processes_of design)

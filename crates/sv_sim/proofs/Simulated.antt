@@ -23,8 +23,6 @@ use Rattle.sv_system.proofs.Pointwise.{each}
 use Rattle.sv_flat.specs.declared.designs.Flat.{Flat}
 use Rattle.sv_flat.specs.declared.signals.SigId.{SigId}
 use Rattle.sv_flat.specs.declared.signals.Signal.{Signal}
-use Rattle.sv_flat.specs.declared.signals.SigKind.TheVariants.{Net}
-use Rattle.sv_lattice.specs.declared.labels.Label.TheVariants.{Point}
 use Rattle.sv_flat.specs.Design.{SignalForm, ProcessForm, FlatDesign}
 use Rattle.sv_flat.specs.Admission.{IsAdmitted}
 use Rattle.sv_flat.specs.Assigned.{assigns}
@@ -36,7 +34,7 @@ use Rattle.sv_flat.specs.Processes.{signals_that}
 use Rattle.sv_flat.specs.Reads.{is_combinational, order}
 use Rattle.sv_flat.specs.SignalLists.{inputs as inputs_of, driver_of}
 use Rattle.sv_flat.specs.Soundness.{sound}
-use Rattle.sv_flat.specs.Values.{signal_width}
+use Rattle.sv_flat.specs.Values.{signal_of, signal_width}
 use Rattle.sv_flat.specs.Views.{signal_form, design_of}
 use Rattle.sv_flat.proofs.AdmittedFacts.{and_true, negated_true, is_process}
 use Rattle.sv_flat.proofs.AdmittedFacts.{combinational_is_driven}
@@ -215,14 +213,8 @@ input_inside : (design : FlatDesign) (s : ℕ) → IsTrue (is_top_input design s
 input_inside design s top = ⊎_elim
     (λ below. ltb-true s (length design.signals) below)
     (λ past. absurd (false≢true (ap (λ (z : SignalForm). is_top_kind z.kind)
-    (sym (get_or-eq_default design.signals (record {
-      name = [];
-      width = 0;
-      signed = false;
-      kind = Net;
-      label = Point (record { 0 = 0 });
-      place = record { line = 0; column = 0 };
-    }) (ltb-false s (length design.signals) past))) ∙ top)))
+    (sym (get_or-eq_default design.signals (signal_of [] 0)
+    (ltb-false s (length design.signals) past))) ∙ top)))
     (either_way (nat_lt s (length design.signals)))
 
 pub input_listed : (design : FlatDesign) (s : ℕ)

@@ -111,12 +111,8 @@ impl<'a> Sim<'a> {
         ensures settled { IsFalse self.new.is_settled }
         ensures design { self.new.design ≡ self.old.design }
     {
-        put_listed(
-            regs,
-            self.design.registers(),
-            self.design.signals(),
-            &mut self.values,
-        );
+        let signals = self.design.signals();
+        put_listed(regs, self.design.registers(), signals, &mut self.values);
         self.is_settled = false;
     }
 
@@ -131,12 +127,8 @@ impl<'a> Sim<'a> {
         ensures settled { IsTrue self.new.is_settled }
         ensures design { self.new.design ≡ self.old.design }
     {
-        put_listed(
-            inputs,
-            self.design.inputs(),
-            self.design.signals(),
-            &mut self.values,
-        );
+        let signals = self.design.signals();
+        put_listed(inputs, self.design.inputs(), signals, &mut self.values);
         settle(self.design, &self.plan, &mut self.values);
         self.is_settled = true;
     }

@@ -147,11 +147,10 @@ circle_of-requires-clause-place c =
 
 pub circle_of-requires-clause-falls : goal.circle_of-requires-clause-falls
 circle_of-requires-clause-falls c =
-    let design = c.requires.tables.0 in
-    let are = c.requires.tables.1 in
     let reads = c.args.reads.now in
     let first = c.args.first.0 in
-    leads_down design reads are first (is_candidate design reads are first c.requires.first)
+    leads_down _ reads c.requires.tables.1 first
+    (is_candidate _ reads c.requires.tables.1 first c.requires.first)
     c.in_ok-readers.readers (c.in_ok-readers.ensures (over reads first) (λ a b. refl))
 
 pub returns : goal.returns

@@ -1,11 +1,11 @@
-use Rattle.std.proofs.Common.{◌≡◌, ◌+◌, ◌-◌, ◌<◌, ◌||◌, ◌&&◌, length, get_or, drop, sym, ap}
-use Rattle.std.proofs.Common.{ap₂, subst, ◌∙◌, arith, rules}
+use Rattle.std.proofs.Common.{◌≡◌, ◌+◌, ◌-◌, ◌<◌, ◌||◌, ◌&&◌, length, drop, sym, ap}
+use Rattle.std.proofs.Common.{refl, subst, arith, rules}
 use Rattle.std.proofs.lemmas.Bool.{and_parts}
 use Rattle.std.proofs.lemmas.List.{drop_all}
 use Rattle.std.specs.Prelude.{IsTrue, IfOk, OnOk}
 use Rattle.std.proofs.Math.ListN.{length-map}
 use Rattle.sv_flat.specs.Assigned.{assigns, can_assign}
-use Rattle.sv_flat.specs.Design.{nothing, assign, branch}
+use Rattle.sv_flat.specs.Design.{nothing, after, assign, branch}
 use Rattle.sv_flat.specs.Readings.{either}
 use Rattle.sv_flat.specs.Soundness.{statement_sound}
 use Rattle.sv_flat.specs.Views.{design_of, signal_form, typed_tree, flat_statement, flat_statements}
@@ -19,10 +19,10 @@ use Rattle.sv_graph.specs.BitGraphs.{GainsEdges}
 use Rattle.sv_rules.specs.Phases.{SameBits}
 use Rattle.sv_rules.specs.Surroundings.{in_surrounding}
 use Rattle.sv_rules.proofs.BlockPasses.{targets_are}
-use Rattle.sv_rules.proofs.Passes.{sound_at, or_turned, only_pieces}
+use Rattle.sv_rules.proofs.Passes.{sound_at, only_pieces}
 use Rattle.sv_design.proofs.ReadFacts.{both_edges, targets_below, gains_inside, bits_begin}
 use Rattle.sv_design.proofs.ReadFacts.{feeds_begin, bits_before, feeds_before}
-use Rattle.sv_rules.proofs.Sound.{branch_is, sound_as, block_is, next_statement}
+use Rattle.sv_rules.proofs.Sound.{branch_is, sound_as, block_is, next_last}
 use Rattle.sv_design.proofs.reads.+follow.Goals as goal
 
 pub follow-add_reads-requires-clause-targets : goal.follow-add_reads-requires-clause-targets
@@ -113,20 +113,17 @@ pub follow-add_reads-requires-in-If-clause-targets :
     goal.follow-add_reads-requires-in-If-clause-targets
 follow-add_reads-requires-in-If-clause-targets t c =
     let signals = (design_of c.args.flat.now).signals in
-    let cond = typed_tree c.in-If.cond in
     let first = flat_statement c.deref-in-If.result.now in
     let second = flat_statement c.deref-in-If-2.result.now in
-    let whole = branch c.in-If.place cond first second in
+    let whole = branch c.in-If.place (typed_tree c.in-If.cond) first second in
     let is : flat_statement c.args.stmt.now ≡ whole = branch_is c.args.stmt.now _ _
     (ap flat_statement c.in-If.is) c.deref-in-If.ensures c.deref-in-If-2.ensures in
-    let bits : SameBits (in_bits c.add_all.new.self) (can_assign whole) = λ s b.
-    c.in_ok-add_all-in-If.ensures s b
-    ∙ ap₂ ◌||◌ (c.in_ok-bits-in-If.ensures.bits s b) (c.in_ok-by_yes-in-If.ensures.bits s b)
-    ∙ or_turned (can_assign second s b) (can_assign first s b) in
     let sound = subst (λ b. IsTrue (statement_sound signals b)) is c.requires.body in
     targets_below signals whole c.add_all.new.self _
-    (length-map c.args.flat.now.signals.items signal_form)
-    sound bits
+    (length-map c.args.flat.now.signals.items signal_form) sound
+    (bits_before (after first second) first second refl c.in_ok-bits-in-If.bits
+    c.in_ok-by_yes-in-If.by_yes c.add_all.new.self c.in_ok-bits-in-If.ensures.bits
+    c.in_ok-by_yes-in-If.ensures.bits c.in_ok-add_all-in-If.ensures)
 
 pub follow-returns-in_ok-add_reads-in-If-clause-gains :
     goal.follow-returns-in_ok-add_reads-in-If-clause-gains
@@ -138,10 +135,9 @@ follow-returns-in_ok-add_reads-in-If-clause-gains t c =
     let whole = branch c.in-If.place cond first second in
     let is : flat_statement c.args.stmt.now ≡ whole = branch_is c.args.stmt.now _ _
     (ap flat_statement c.in-If.is) c.deref-in-If.ensures c.deref-in-If-2.ensures in
-    let bits : SameBits (in_bits c.add_all.new.self) (can_assign whole) = λ s b.
-    c.in_ok-add_all-in-If.ensures s b
-    ∙ ap₂ ◌||◌ (c.in_ok-bits-in-If.ensures.bits s b) (c.in_ok-by_yes-in-If.ensures.bits s b)
-    ∙ or_turned (can_assign second s b) (can_assign first s b) in
+    let bits = bits_before (after first second) first second refl c.in_ok-bits-in-If.bits
+    c.in_ok-by_yes-in-If.by_yes c.add_all.new.self c.in_ok-bits-in-If.ensures.bits
+    c.in_ok-by_yes-in-If.ensures.bits c.in_ok-add_all-in-If.ensures in
     let sound = subst (λ b. IsTrue (statement_sound signals b)) is c.requires.body in
     let sought = c.args.sought in
     let later = in_surrounding c.args.later.now in
@@ -173,13 +169,13 @@ follow_all-loop-i-init t c =
 pub follow_all-follow-requires : goal.follow_all-follow-requires
 follow_all-follow-requires t c =
     let stmts = c.args.stmts.now in
-    let j = length stmts - 1 - c.loop-i.i in
-    let inside : j < length stmts = omega (arith, c.loop-i-test.true) in (
+    let inside : length stmts - 1 - c.loop-i.i < length stmts =
+    omega (arith, c.loop-i-test.true) in (
       search (rules, the_lemmas),
       (
         c.requires.sound,
         (
-          sound_at (design_of c.args.flat.now).signals stmts j c.index-stmts-stmts.result inside
+          sound_at (design_of c.args.flat.now).signals stmts _ c.index-stmts-stmts.result inside
               c.index-stmts-stmts.is c.requires.body,
           c.loop-i.invariant.0,
         ),
@@ -195,14 +191,12 @@ follow_all-loop-i-preserved t c =
     let i = c.loop-i.i in
     let j = length stmts - (i + 1) in
     let stmt = c.index-stmts-stmts.result in
-    let inside : j < length stmts = omega (arith, c.loop-i-test.true) in
-    let same : length stmts - 1 - i ≡ j = omega (arith, c.loop-i-test.true) in
     let next : length stmts - i ≡ j + 1 = omega (arith, c.loop-i-test.true) in
     let left = chain_of (flat_statements (drop j stmts)) in
     let this = flat_statement stmt in
     let rest = chain_of (flat_statements (drop (j + 1) stmts)) in
-    let splits = next_statement stmts j stmt inside
-    (subst (λ k. stmt ≡ get_or stmts k stmt) same c.index-stmts-stmts.is) in
+    let splits = next_last stmts i stmt (omega (arith, c.loop-i-test.true))
+    c.index-stmts-stmts.is in
     let before = subst (λ k. SameBits (in_bits c.loop-i.here)
     (can_assign (chain_of (flat_statements (drop k stmts))))) next c.loop-i.invariant.1 in
     let gained = subst (λ k. GainsEdges c.args.graph.now c.loop-i.graph

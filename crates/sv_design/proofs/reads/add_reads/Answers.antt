@@ -1,20 +1,17 @@
-use Rattle.std.proofs.Common.{◌≡◌, ◌<◌, ◌+◌, ◌&&◌, ◌||◌, ◌==◌, ℕ, length, map, get_or, drop, refl}
-use Rattle.std.proofs.Common.{sym, ap, subst, ◌∙◌}
+use Rattle.std.proofs.Common.{◌+◌, ◌&&◌, ◌||◌, ◌==◌, ℕ, length, get_or, drop, sym, ap, subst, ◌∙◌}
 use Rattle.std.specs.List.{list_any}
-use Rattle.std.proofs.Math.ListN.{length-map}
 use Rattle.std.proofs.lemmas.List.{at_drop_all, at_drop_more}
-use Rattle.sv_flat.specs.ByNumber.{signal_forms}
-use Rattle.sv_flat.specs.Readings.{reads, ReadForm}
-use Rattle.sv_flat.specs.Views.{design_of, signal_form, typed_tree}
+use Rattle.sv_flat.specs.Readings.{ReadForm}
+use Rattle.sv_flat.specs.Views.{design_of, typed_tree}
 use Rattle.sv_rules.specs.declared.names.Read.{Read}
 use Rattle.sv_graph.specs.BitGraphs.{in_row, IsRow, has_edge}
 use Rattle.sv_graph.specs.BitSets.{has_some}
 use Rattle.sv_design.specs.Feeds.{is_sought, names_sought}
-use Rattle.sv_rules.specs.ReadForms.{read_form, read_forms}
+use Rattle.sv_rules.specs.ReadForms.{read_form}
 use Rattle.sv_rules.specs.Surroundings.{in_surrounding}
 use Rattle.sv_graph.proofs.GraphFacts.{edges_more, edges_end}
 use Rattle.sv_graph.proofs.MarkFacts.{any_map}
-use Rattle.sv_rules.proofs.PhaseFacts.{no_read, name_is_signal}
+use Rattle.sv_rules.proofs.PhaseFacts.{no_read, names_are, name_inside}
 use Rattle.sv_design.proofs.ReadFacts.{names_more}
 use Rattle.sv_design.proofs.reads.add_reads.Goals as goal
 
@@ -24,9 +21,8 @@ loop-name-init c =
     let signals = (design_of c.args.flat.now).signals in
     let later = in_surrounding c.args.served.now.later.now in
     let test = λ (a : ℕ) (r : ReadForm). (r.signal == a) && is_sought signals c.args.sought later r in
-    let same : read_forms c.deref-name-items.result.now ≡ reads signals tree =
-    ap read_forms c.deref-name-items.ensures.value ∙ c.in_ok-names.ensures
-    ∙ ap (λ ss. reads (signal_forms ss) tree) c.as_slice.ensures.value in (
+    let same = names_are _ c.args.flat.now.signals.items tree c.deref-name-items.result.now _
+    c.deref-name-items.ensures.value c.in_ok-names.ensures c.as_slice.ensures.value in (
       c.requires.over,
       λ a b. ap (λ t. has_edge c.args.graph.now a b || t && has_some c.args.served.now.targets.now b)
           (sym (any_map (test a) read_form c.deref-name-items.result.now)
@@ -35,17 +31,9 @@ loop-name-init c =
 
 pub add_name-requires-clause-known : goal.add_name-requires-clause-known
 add_name-requires-clause-known c =
-    let items = c.args.flat.now.signals.items in
-    let tree = typed_tree c.args.expr.now in
-    let same : read_forms c.deref-name-items.result.now ≡
-    reads (design_of c.args.flat.now).signals tree =
-    ap read_forms c.deref-name-items.ensures.value ∙ c.in_ok-names.ensures
-    ∙ ap (λ ss. reads (signal_forms ss) tree) c.as_slice.ensures.value in
-    let size_is : length (map signal_form items) ≡ length items = rw length-map refl in
-    subst (λ n. (get_or c.deref-name-items.result.now c.loop-name.name-index no_read).signal.0
-    < n) size_is
-    (name_is_signal (design_of c.args.flat.now).signals tree c.deref-name-items.result.now
-    c.loop-name.name-index no_read c.requires.formed same c.loop-name-test.true)
+    name_inside c.args.flat.now (typed_tree c.args.expr.now) _ c.deref-name-items.result.now _
+    c.loop-name.name-index c.requires.formed c.deref-name-items.ensures.value c.in_ok-names.ensures
+    c.as_slice.ensures.value c.loop-name-test.true
 
 pub add_name-requires-clause-targets : goal.add_name-requires-clause-targets
 add_name-requires-clause-targets c =

@@ -5,14 +5,13 @@ use Rattle.sv_flat.specs.Processes.{is_top_input, is_register}
 use Rattle.sv_flat.specs.Reads.{is_combinational}
 use Rattle.sv_flat.specs.Views.{design_of, signal_form}
 use Rattle.std.proofs.Math.ListN.{length-map}
-use Rattle.sv_rules.proofs.DriverFacts.{inside_design, clock_inside, top_and_clock}
+use Rattle.sv_rules.proofs.DriverFacts.{inside_design, clock_at, top_and_clock}
 use Rattle.sv_rules.proofs.TableFacts.{table_more, and_left}
 use Rattle.sv_design.proofs.registers.comb_table.Goals as goal
 
 pub bounds-clocks-s : goal.bounds-clocks-s
 bounds-clocks-s c =
-    clock_inside c.args.flat.now c.deref-signal-items.result.now c.args.clocks.now c.loop-s.s
-    c.deref-signal-items.ensures.value c.loop-s-test.true c.requires.clocks
+    clock_at c.args.flat.now c.deref-signal-items.ensures.value c.loop-s-test.true c.requires.clocks
 
 pub loop-s-preserved : goal.loop-s-preserved
 loop-s-preserved c =

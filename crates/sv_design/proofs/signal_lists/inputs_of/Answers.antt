@@ -5,14 +5,13 @@ use Rattle.std.specs.Prelude.{filter}
 use Rattle.sv_flat.specs.Clocks.{is_clock}
 use Rattle.sv_flat.specs.Processes.{is_top_input}
 use Rattle.sv_flat.specs.Views.{design_of, signal_form}
-use Rattle.sv_rules.proofs.DriverFacts.{clock_inside, top_and_clock}
+use Rattle.sv_rules.proofs.DriverFacts.{clock_at, top_and_clock}
 use Rattle.sv_rules.proofs.TableFacts.{table_more, listed_are}
 use Rattle.sv_design.proofs.signal_lists.inputs_of.Goals as goal
 
 pub bounds-clocks-s : goal.bounds-clocks-s
 bounds-clocks-s c =
-    clock_inside c.args.flat.now c.deref-signal-items.result.now c.args.clocks.now c.loop-s.s
-    c.deref-signal-items.ensures.value c.loop-s-test.true c.requires.clocks
+    clock_at c.args.flat.now c.deref-signal-items.ensures.value c.loop-s-test.true c.requires.clocks
 
 pub loop-s-preserved : goal.loop-s-preserved
 loop-s-preserved c =

@@ -1,27 +1,17 @@
-use Rattle.std.proofs.Common.{◌≡◌, ◌<◌, length, map, get_or, refl, ap, subst, ◌∙◌}
-use Rattle.std.proofs.Math.ListN.{length-map}
+use Rattle.std.proofs.Common.{map}
 use Rattle.std.proofs.lemmas.List.{at_drop_all}
-use Rattle.sv_flat.specs.ByNumber.{signal_forms}
-use Rattle.sv_flat.specs.Readings.{reads, reading_of, readings_of}
-use Rattle.sv_flat.specs.Views.{design_of, signal_form, typed_tree}
+use Rattle.sv_flat.specs.Readings.{reading_of, readings_of}
+use Rattle.sv_flat.specs.Views.{design_of, typed_tree}
 use Rattle.sv_rules.specs.ReadForms.{read_forms}
 use Rattle.sv_rules.specs.Surroundings.{in_surrounding}
-use Rattle.sv_rules.proofs.PhaseFacts.{no_read, name_is_signal, name_more, reads_end}
+use Rattle.sv_rules.proofs.PhaseFacts.{no_read, name_inside, name_more, reads_end}
 use Rattle.sv_rules.proofs.blocks.wrong_in.Goals as goal
 
 pub is_wrong-wrong-requires-clause-known : goal.is_wrong-wrong-requires-clause-known
 is_wrong-wrong-requires-clause-known c =
-    let items = c.args.flat.now.signals.items in
-    let tree = typed_tree c.args.expr.now in
-    let same : read_forms c.deref-read-items.result.now ≡
-    reads (design_of c.args.flat.now).signals tree =
-    ap read_forms c.deref-read-items.ensures.value ∙ c.in_ok-names.ensures
-    ∙ ap (λ ss. reads (signal_forms ss) tree) c.as_slice.ensures.value in
-    let size : length (map signal_form items) ≡ length items = rw length-map refl in
-    subst (λ n. (get_or c.deref-read-items.result.now c.loop-read.read-index no_read).signal.0
-    < n) size
-    (name_is_signal (design_of c.args.flat.now).signals tree c.deref-read-items.result.now
-    c.loop-read.read-index no_read c.requires.formed same c.loop-read-test.true)
+    name_inside c.args.flat.now (typed_tree c.args.expr.now) _ c.deref-read-items.result.now _
+    c.loop-read.read-index c.requires.formed c.deref-read-items.ensures.value c.in_ok-names.ensures
+    c.as_slice.ensures.value c.loop-read-test.true
 
 pub loop-read-preserved : goal.loop-read-preserved
 loop-read-preserved c = λ serves.

@@ -12,7 +12,7 @@ use Rattle.sv_rules.specs.First.{FindsFirst}
 use Rattle.sv_graph.specs.Marks.{IsTable}
 use Rattle.sv_rules.proofs.ClockFaults.{is_fault, faults_are, proper_is}
 use Rattle.sv_rules.proofs.ClockLinks.{at_table}
-use Rattle.sv_rules.proofs.DriverFacts.{signal_at, inside_design, clock_inside}
+use Rattle.sv_rules.proofs.DriverFacts.{signal_at, inside_design, clock_at}
 use Rattle.sv_rules.proofs.Firsts.{finds_more}
 use Rattle.sv_rules.proofs.clock_rule.wrong_clock_by.Goals as goal
 
@@ -24,31 +24,28 @@ in_table n slice items test i same table inside =
 
 pub bounds-clocks-i : goal.bounds-clocks-i
 bounds-clocks-i c =
-    clock_inside c.args.flat.now c.deref-signal-items.result.now c.args.clocks.now c.loop-i.i
-    c.deref-signal-items.ensures.value c.loop-i-test.true c.requires.clocks
+    clock_at c.args.flat.now c.deref-signal-items.ensures.value c.loop-i-test.true c.requires.clocks
 
 pub loop-i-preserved : goal.loop-i-preserved
 loop-i-preserved c =
-    let flat = c.args.flat.now in
-    let tables = c.args.tables.now in
     let are = c.requires.tables in
-    let design = design_of flat in
+    let design = design_of c.args.flat.now in
     let n = length design.signals in
     let i = c.loop-i.i in
-    let items = c.deref-signal-items.result.now in
     let same = c.deref-signal-items.ensures.value in
-    let at = signal_at flat items i c.signal-item.result same c.loop-i-test.true c.signal-item.is in
-    let inside = inside_design flat items i same c.loop-i-test.true in
+    let at = signal_at c.args.flat.now _ i c.signal-item.result same c.loop-i-test.true
+    c.signal-item.is in
+    let inside = inside_design c.args.flat.now _ i same c.loop-i-test.true in
     let clock = at_table design c.args.clocks.now c.requires.clocks i inside in
     let proper = c.is_proper-proper.ensures
     ∙ proper_is design i (signal_form c.signal-item.result)
     (get_or c.as_slice-linked.result.now i false) (get_or c.as_slice-agrees.result.now i false)
     (get_or c.as_slice-used.result.now i false) at
-    (in_table n c.as_slice-linked.result.now tables.linked.items (is_whole_port design) i
+    (in_table n c.as_slice-linked.result.now _ (is_whole_port design) i
     c.as_slice-linked.ensures.value are.linked_are inside)
-    (in_table n c.as_slice-agrees.result.now tables.agrees.items (agrees_with_earlier design) i
+    (in_table n c.as_slice-agrees.result.now _ (agrees_with_earlier design) i
     c.as_slice-agrees.ensures.value are.agree inside)
-    (in_table n c.as_slice-used.result.now tables.used.items (is_used design) i
+    (in_table n c.as_slice-used.result.now _ (is_used design) i
     c.as_slice-used.ensures.value are.used_are inside) in
     let is = c.is_wrong-wrong.ensures ∙ ap₂ (λ k p. k && not p) clock proper in
     finds_more design 602 (is_fault design) i (signal_form c.signal-item.result)

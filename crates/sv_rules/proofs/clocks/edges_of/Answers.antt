@@ -32,11 +32,9 @@ mark_edge-requires c =
     (clock_below (design_of c.args.flat.now) (process_form process) sound)
 
 pub loop-process-init : goal.loop-process-init
-loop-process-init c = (
-  refl,
-  all_left c.args.flat.now edges c.in_ok-table.table.items c.deref-process-items.result.now
-      c.deref-process-items.ensures.value,
-)
+loop-process-init c =
+    let table = c.in_ok-table.table.items in
+    (refl, all_left c.args.flat.now edges table _ c.deref-process-items.ensures.value)
 
 pub loop-process-preserved : goal.loop-process-preserved
 loop-process-preserved c =

@@ -18,17 +18,17 @@ loop-i-preserved c =
     let flat = c.args.flat.now in
     let design = design_of flat in
     let i = c.loop-i.i in
-    let items = c.deref-signal-items.result.now in
-    let same = c.deref-signal-items.ensures.value in
     let fault = driver_fault design in
     let top = c.is_top.ensures ∙ ap (λ (s : SignalForm). is_top_kind s.kind)
-    (sym (signal_at flat items i c.signal-item.result same c.loop-i-test.true c.signal-item.is)) in
+    (sym (signal_at flat _ i _ c.deref-signal-items.ensures.value c.loop-i-test.true
+    c.signal-item.is)) in
     let is = ap (option_map (λ (d : Driver). breach 603 d.place i)) c.extra_of-extra.ensures
     ∙ ap₂ (λ xs ys. option_map (λ (d : Driver).
     breach 603 d.place i) (cond c.is_top.result (get_or xs i None) (get_or ys i None)))
     c.as_slice-first.ensures.value c.as_slice-second.ensures.value
     ∙ fault_is design c.args.drivers.now c.requires.drivers i
-    (inside_design flat items i same c.loop-i-test.true) c.is_top.result top in
+    (inside_design flat _ i c.deref-signal-items.ensures.value c.loop-i-test.true)
+    c.is_top.result top in
     subst (FindsFirst 603 (filter_map fault (range_with_len 0 (i + 1))))
     (sym c.first_of-found.ensures)
     (subst (λ bs. FindsFirst 603 bs (first_found c.loop-i.found c.extra_at.result))

@@ -4,15 +4,14 @@ use Rattle.sv_flat.specs.Clocks.{is_clock}
 use Rattle.sv_flat.specs.Drivers.{is_undriven}
 use Rattle.sv_flat.specs.Processes.{is_top_input}
 use Rattle.sv_flat.specs.Views.{design_of, signal_form}
-use Rattle.sv_rules.proofs.DriverFacts.{none_is, signal_at, inside_design, clock_inside}
+use Rattle.sv_rules.proofs.DriverFacts.{none_is, signal_at, inside_design, clock_at}
 use Rattle.sv_rules.proofs.DriverFacts.{top_and_clock}
 use Rattle.sv_rules.proofs.Firsts.{finds_more}
 use Rattle.sv_rules.proofs.drivers.first_undriven.Goals as goal
 
 pub bounds-clocks-i : goal.bounds-clocks-i
 bounds-clocks-i c =
-    clock_inside c.args.flat.now c.deref-signal-items.result.now c.args.clocks.now c.loop-i.i
-    c.deref-signal-items.ensures.value c.loop-i-test.true c.requires.clocks
+    clock_at c.args.flat.now c.deref-signal-items.ensures.value c.loop-i-test.true c.requires.clocks
 
 pub loop-i-preserved : goal.loop-i-preserved
 loop-i-preserved c =

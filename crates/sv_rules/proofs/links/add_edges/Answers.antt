@@ -18,10 +18,8 @@ add_edge-requires c =
     let edges = c.args.edges in
     let design = design_of c.args.flat.now in
     let p = process_form c.process-item.result in
-    let sound = process_at c.args.flat.now c.deref-process-items.result.now
-    c.loop-process.process-index c.process-item.result
-    c.deref-process-items.ensures.value c.loop-process-test.true c.process-item.is
-    c.requires.sound in
+    let sound = process_at c.args.flat.now _ _ _ c.deref-process-items.ensures.value
+    c.loop-process-test.true c.process-item.is c.requires.sound in
     let size_is : length design.signals ≡ size c.loop-process.graph =
     length-map c.args.flat.now.signals.items signal_form
     ∙ sym (c.loop-process.invariant.0 ∙ c.requires.size) in

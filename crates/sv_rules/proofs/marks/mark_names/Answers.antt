@@ -1,43 +1,33 @@
-use Rattle.std.proofs.Common.{◌≡◌, ◌<◌, ◌==◌, ◌||◌, ◌+◌, length, map, get_or, drop, sym, ap, subst}
-use Rattle.std.proofs.Common.{◌∙◌}
+use Rattle.std.proofs.Common.{◌<◌, ◌==◌, ◌||◌, ◌+◌, get_or, drop, sym, ap, subst, ◌∙◌}
 use Rattle.std.specs.List.{list_any}
-use Rattle.std.proofs.Math.ListN.{length-map}
 use Rattle.std.proofs.lemmas.List.{at_drop_all, at_drop_more}
-use Rattle.sv_flat.specs.ByNumber.{signal_forms}
-use Rattle.sv_flat.specs.Readings.{reads, ReadForm, names_signal}
-use Rattle.sv_flat.specs.Views.{design_of, signal_form, typed_tree}
+use Rattle.sv_flat.specs.Readings.{ReadForm, names_signal}
+use Rattle.sv_flat.specs.Views.{design_of, typed_tree}
 use Rattle.sv_rules.specs.declared.names.Read.{Read}
-use Rattle.sv_rules.specs.ReadForms.{read_form, read_forms}
+use Rattle.sv_rules.specs.ReadForms.{read_form}
 use Rattle.sv_graph.specs.Marks.{is_marked}
 use Rattle.sv_graph.proofs.MarkFacts.{any_map, marks_more, marks_end}
-use Rattle.sv_rules.proofs.PhaseFacts.{no_read, name_is_signal}
+use Rattle.sv_rules.proofs.PhaseFacts.{no_read, names_are, name_inside}
 use Rattle.sv_rules.proofs.marks.mark_names.Goals as goal
 
 pub loop-name-init : goal.loop-name-init
 loop-name-init c = λ s below.
     let tree = typed_tree c.args.expr.now in
-    let same : read_forms c.deref-name-items.result.now ≡
-    reads (design_of c.args.flat.now).signals tree =
-    ap read_forms c.deref-name-items.ensures.value ∙ c.in_ok-names.ensures
-    ∙ ap (λ ss. reads (signal_forms ss) tree) c.as_slice.ensures.value in
+    let same = names_are _ c.args.flat.now.signals.items tree c.deref-name-items.result.now _
+    c.deref-name-items.ensures.value c.in_ok-names.ensures c.as_slice.ensures.value in
     ap (λ t. is_marked c.args.table.now s || t)
     (sym (any_map (λ (r : ReadForm). r.signal == s) read_form c.deref-name-items.result.now)
     ∙ ap (list_any (λ (r : ReadForm). r.signal == s)) same)
 
 pub mark-requires : goal.mark-requires
 mark-requires c =
-    let items = c.args.flat.now.signals.items in
-    let tree = typed_tree c.args.expr.now in
-    let same : read_forms c.deref-name-items.result.now ≡
-    reads (design_of c.args.flat.now).signals tree =
-    ap read_forms c.deref-name-items.ensures.value ∙ c.in_ok-names.ensures
-    ∙ ap (λ ss. reads (signal_forms ss) tree) c.as_slice.ensures.value in
-    let size : length (map signal_form items) ≡ length c.loop-name.table =
-    rw length-map (sym c.requires.size ∙ sym c.loop-name.auto.table) in
-    subst (λ n. (get_or c.deref-name-items.result.now c.loop-name.name-index no_read).signal.0
-    < n) size
-    (name_is_signal (design_of c.args.flat.now).signals tree c.deref-name-items.result.now
-    c.loop-name.name-index no_read c.requires.formed same c.loop-name-test.true)
+    let items = c.deref-name-items.result.now in
+    let i = c.loop-name.name-index in
+    subst (λ n. (get_or items i no_read).signal.0 < n)
+    (sym c.requires.size ∙ sym c.loop-name.auto.table)
+    (name_inside c.args.flat.now (typed_tree c.args.expr.now) _ items _ i c.requires.formed
+    c.deref-name-items.ensures.value c.in_ok-names.ensures c.as_slice.ensures.value
+    c.loop-name-test.true)
 
 pub loop-name-preserved : goal.loop-name-preserved
 loop-name-preserved c =

@@ -23,10 +23,8 @@ pub mark_port-requires : goal.mark_port-requires
 mark_port-requires c =
     let design = design_of c.args.flat.now in
     let p = process_form c.process-item.result in
-    let sound = process_at c.args.flat.now c.deref-process-items.result.now
-    c.loop-process.process-index c.process-item.result
-    c.deref-process-items.ensures.value c.loop-process-test.true c.process-item.is
-    c.requires.sound in
+    let sound = process_at c.args.flat.now _ _ _ c.deref-process-items.ensures.value
+    c.loop-process-test.true c.process-item.is c.requires.sound in
     subst (IsBelow (length c.loop-process.table)) (sym c.link_in.ensures)
     (subst (λ n. IsBelow n (link_in p))
     (length-map c.args.flat.now.signals.items signal_form ∙ sym c.requires.size

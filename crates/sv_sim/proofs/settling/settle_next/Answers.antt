@@ -25,20 +25,19 @@ returns-clause-others c =
     let design = design_of c.args.design.now in
     let fine = c.driver-place.ensures.design in
     let e = by_number c.args.values.now in
-    let p = process_at design c.driver-place.result in
     subst (λ (f : Environment ℕ). SameOthers design f e) (sym c.run_at.ensures.run)
-    (run_keeps_given design fine.is_sound fine.is_admitted p
-    c.driver-place.ensures.driver.process e)
+    (run_keeps_given design fine.is_sound fine.is_admitted
+    (process_at design c.driver-place.result) c.driver-place.ensures.driver.process e)
 
 pub returns-clause-last : goal.returns-clause-last
 returns-clause-last c =
     let design = design_of c.args.design.now in
     let fine = c.driver-place.ensures.design in
     let e = by_number c.args.values.now in
-    let p = process_at design c.driver-place.result in
     subst (λ (f : Environment ℕ). OwnIsStable design f c.driver-place.result)
     (sym c.run_at.ensures.run)
-    (own_stable design fine.is_sound fine.is_admitted p c.driver-place.ensures.driver.process e)
+    (own_stable design fine.is_sound fine.is_admitted (process_at design c.driver-place.result)
+    c.driver-place.ensures.driver.process e)
 
 pub returns-clause-front : goal.returns-clause-front
 returns-clause-front c = λ plan is_plan i inside at front.

@@ -26,16 +26,16 @@ pub loop-middle-preserved : goal.loop-middle-preserved
 loop-middle-preserved c =
     let self = c.args.self.now in
     let now = c.loop-middle.self in
-    let next = c.lead_all_on.new.self in
     let m = c.loop-middle.middle in
     let known : m < size self =
     subst (λ k. m < k) (c.len-middle-end.ensures ∙ self.rows.ok.0) c.loop-middle-test.true in
     let inside : m < size now = subst (λ k. m < k) (sym c.loop-middle.invariant.0.0) known in
     let is = c.deref-in-loop-middle.ensures.value ∙ c.in_ok-targets.ensures ∙ c.deref.ensures.value
     ∙ row_at now m c.index.result.now inside c.index.ensures in (
-      subst (λ k. IsOver k next) c.loop-middle.invariant.0.0 c.lead_all_on.ensures.over,
+      subst (λ k. IsOver k c.lead_all_on.new.self) c.loop-middle.invariant.0.0
+          c.lead_all_on.ensures.over,
       λ first so_far.
-          ways_more (size self) first (has_edge now) (has_edge next) m known
+          ways_more (size self) first (has_edge now) (has_edge c.lead_all_on.new.self) m known
           (λ a b. c.lead_all_on.ensures.gains a b
           ∙ ap (λ xs. has_edge now a b || (has_edge now a m && in_row xs b)) is)
           (c.loop-middle.invariant.1 first so_far),

@@ -13,7 +13,7 @@ use Rattle.sv_sim.proofs.sim.Sim.load.Goals as goal
 pub put_listed-requires-clause-known : goal.put_listed-requires-clause-known
 put_listed-requires-clause-known c =
     let flat = c.self.inside.design.now in
-    numbers_within flat c.signals.result.now c.signals.ensures.signals
+    numbers_within flat c.signals-signals.result.now c.signals-signals.ensures.signals
     (is_register (design_of flat)) c.registers.result.now c.registers.ensures.registers
 
 pub invariant_of-self : goal.invariant_of-self
@@ -25,7 +25,7 @@ invariant_of-self c =
     let whole = written now.values.len new now.values.items
     (c.put_listed.auto.values ∙ c.deref_mut.ensures.len) in
     let fit = subst (λ (ss : List Signal). FitSignals (signal_forms ss) new)
-    c.signals.ensures.signals c.put_listed.ensures.fit in
+    c.signals-signals.ensures.signals c.put_listed.ensures.fit in
     let put : by_number new ≡
     with_given (numbers c.registers.result.now) c.args.regs.now (by_number now.values.items) =
     c.put_listed.ensures.given

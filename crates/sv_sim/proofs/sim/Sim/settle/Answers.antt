@@ -17,7 +17,7 @@ use Rattle.sv_sim.proofs.sim.Sim.settle.Goals.{After-settle}
 pub put_listed-requires-clause-known : goal.put_listed-requires-clause-known
 put_listed-requires-clause-known c =
     let flat = c.self.inside.design.now in
-    numbers_within flat c.signals.result.now c.signals.ensures.signals
+    numbers_within flat c.signals-signals.result.now c.signals-signals.ensures.signals
     (flat_system (design_of flat)).is_input c.inputs.result.now c.inputs.ensures.inputs
 
 -- the values with the inputs put among them
@@ -52,7 +52,7 @@ invariant_of-self c =
     ∙ ap (λ vs. with_given (numbers c.inputs.result.now) c.args.inputs.now (by_number vs))
     c.deref_mut.ensures.value in
     let fit = subst (λ (ss : List Signal). FitSignals (signal_forms ss) mid)
-    c.signals.ensures.signals c.put_listed.ensures.fit in
+    c.signals-signals.ensures.signals c.put_listed.ensures.fit in
     let before = given_simulation design (flat_system design).is_input
     (input_no_clock design fine.is_sound fine.is_admitted) (numbers c.inputs.result.now)
     c.args.inputs.now now.values.items mid now.is_settled c.inputs.ensures.inputs

@@ -11,7 +11,6 @@ pub invariant_of-self : goal.invariant_of-self
 invariant_of-self c =
     let now = c.self.inside in
     let design = design_of now.design.now in
-    let fine = c.clock_edge.ensures.design in
     let new = c.clock_edge.new.next in
     let whole : c.swap.new.x.items ≡ new =
     ap (λ v. v.items) c.swap.ensures.x_after
@@ -20,8 +19,9 @@ invariant_of-self c =
     let next = c.clock_edge.ensures.next
     ∙ ap (λ vs. (flat_system design).next (by_number vs)) c.deref-2.ensures.value in
     let old : c.swap.new.y.items ≡ now.values.items = ap (λ v. v.items) c.swap.ensures.y_after in
-    let ticked = ticked_simulation design fine.is_sound fine.is_admitted now.values.items new
-    now.is_settled c.self.invariant.0 c.clock_edge.ensures.fit next in
+    let ticked = ticked_simulation design c.clock_edge.ensures.design.is_sound
+    c.clock_edge.ensures.design.is_admitted now.values.items new now.is_settled
+    c.self.invariant.0 c.clock_edge.ensures.fit next in
     let size = ap length old ∙ (c.self.invariant.0).fit.count
     ∙ sym c.clock_edge.ensures.fit.count in
     let both = subst (λ (vs : List ℕ).

@@ -27,13 +27,14 @@ use Rattle.sv_sim_run.specs.declared.endings.Ending.{Ending}
 use Rattle.sv_sim_run.specs.declared.endings.Ending.TheVariants as ending
 use Rattle.sv_sim_run.specs.declared.endings.SimFault.{SimFault}
 use Rattle.sv_sim_run.specs.declared.simulations.Simulation.{Simulation}
-use Rattle.sv_sim_run.specs.Fronts.{WritesFrontAt, WritesAllAt, StopsAt, Takes}
+use Rattle.sv_sim_run.specs.Fronts.{WritesAllAt, StopsAt, Takes}
 use Rattle.sv_sim_run.specs.Fronts.{IsUnderWay, PieceReads, EndsWith, StopsWith}
 use Rattle.sv_sim_run.specs.Progress.{flat_of, IsSimulating, HasCome, HasEnded, HasFailed}
 use Rattle.sv_sim_run.specs.Progress.{HasReached, IsSameAs, LeavesRoom}
 use Rattle.sv_sim_run.specs.Runners.{order_in}
 use Rattle.sv_sim_run.specs.Runs.{ending_from}
 use Rattle.sv_sim_run.specs.Simulated.{largest_stimulus, is_within, read_of, ending_of}
+use Rattle.sv_sim_run.specs.Simulated.{WritesFrontAt}
 use Rattle.sv_sim_run.proofs.CallFacts.{on_error}
 use Rattle.sv_sim_run.proofs.Reached.{failed_front, come_failed, come_all, empty}
 use Rattle.sv_sim_run.proofs.ReadFronts.{same_grows}

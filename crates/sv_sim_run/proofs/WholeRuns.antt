@@ -15,12 +15,12 @@ use Rattle.sv_sim_run.specs.declared.endings.Ending.TheVariants as ending
 use Rattle.sv_sim_run.specs.declared.endings.SimFault.{SimFault}
 use Rattle.sv_sim_run.specs.declared.endings.SimFault.TheVariants as faults
 use Rattle.sv_sim_run.specs.declared.simulations.Simulation.{Simulation}
-use Rattle.sv_sim_run.specs.Fronts.{WritesFrontAt, WritesAllAt, EndsWith, StopsWith, WritesBy}
+use Rattle.sv_sim_run.specs.Fronts.{WritesAllAt, EndsWith, StopsWith, WritesBy}
 use Rattle.sv_sim_run.specs.Fronts.{RunsTo, StopsAt, WritesWhole}
 use Rattle.sv_sim_run.specs.Progress.{flat_of, IsSameAs, HasReached}
 use Rattle.sv_sim_run.specs.Runners.{order_in, rounds_in}
 use Rattle.sv_sim_run.specs.Simulated.{largest_stimulus, last_line, level_asked, IsSimulatedAt}
-use Rattle.sv_sim_run.specs.Simulated.{IsSimulated, WritesFrontFor, WritesAllCycles}
+use Rattle.sv_sim_run.specs.Simulated.{IsSimulated, WritesFrontAt, WritesFrontFor, WritesAllCycles}
 use Rattle.sv_sim_run.proofs.CallFacts.{on_error}
 use Rattle.sv_sim_run.proofs.WholeTexts.{Simulates, same_words, nothing_yet, wrote_front}
 use Rattle.sv_sim_run.proofs.WholeTexts.{wrote_whole, front_for, all_for, no_other}

@@ -4,20 +4,25 @@ use Rattle.sv_sim_run.proofs.WholeRuns.{open_none, open_front_so}
 use Rattle.sv_sim_run.proofs.WholeTexts.{Simulates}
 use Rattle.sv_sim_run.proofs.stimuli.simulate_at.Goals as goal
 
-pub returns-in_err-simulation-clause-runs : goal.returns-in_err-simulation-clause-runs
-returns-in_err-simulation-clause-runs g c =
-    none_run _ c.args.shown c.args.order g.S.Source.tells (g.S.Source.given c.args.input.now)
-    (g.S.Source.left c.args.input.now) (g.K.Sink.accepted c.args.out.now) c.from_residual.result
-    c.new.ensures.admitted c.from_residual.ensures.1
-
-pub returns-in_err-simulation-clause-read_fault : goal.returns-in_err-simulation-clause-read_fault
-returns-in_err-simulation-clause-read_fault g c = λ read.
-    absurd (not_read c.from_residual.result c.from_residual.ensures.1 read)
-
-pub returns-in_err-simulation-clause-write_fault :
-    goal.returns-in_err-simulation-clause-write_fault
-returns-in_err-simulation-clause-write_fault g c = λ written.
-    absurd (not_written c.from_residual.result c.from_residual.ensures.1 written)
+pub returns-in_err-simulation : goal.returns-in_err-simulation
+returns-in_err-simulation g c =
+    let r = c.from_residual.result in
+    let full = c.from_residual.ensures.1 in
+    record {
+      admitted = c.new.ensures.admitted;
+      runs = none_run _ c.args.shown c.args.order g.S.Source.tells
+          (g.S.Source.given c.args.input.now) (g.S.Source.left c.args.input.now)
+          (g.K.Sink.accepted c.args.out.now) r c.new.ensures.admitted full;
+      to_the_end = λ goes_on taken more given. IfOk-from_err r _ c.from_residual.ensures.0;
+      front_to_the_end = open_none _ c.args.shown c.args.order (g.S.Source.ended c.args.input.now)
+          (g.S.Source.given c.args.input.now) (g.S.Source.given c.args.input.now)
+          (g.K.Sink.accepted c.args.out.now) r c.new.ensures.admitted;
+      read_fault = λ read. absurd (not_read r full read);
+      write_fault = λ written. absurd (not_written r full written);
+      unfailed = IfOk-from_err r _ c.from_residual.ensures.0;
+      unended = λ read. absurd (not_read r full read);
+      no_write_fault = λ read. absurd (not_read r full read);
+    }
 
 pub run_to_end-requires-clause-made : goal.run_to_end-requires-clause-made
 run_to_end-requires-clause-made g c = c.in_ok-simulation.ensures.made
@@ -61,31 +66,3 @@ returns g c =
       unended = ran.unended;
       no_write_fault = ran.no_write_fault;
     }
-
--- ---- whatever follows
-
-pub returns-in_err-simulation-clause-to_the_end : goal.returns-in_err-simulation-clause-to_the_end
-returns-in_err-simulation-clause-to_the_end g c goes_on taken more given =
-    IfOk-from_err c.from_residual.result _ c.from_residual.ensures.0
-
-pub returns-in_err-simulation-clause-front_to_the_end :
-    goal.returns-in_err-simulation-clause-front_to_the_end
-returns-in_err-simulation-clause-front_to_the_end g c =
-    open_none _ c.args.shown c.args.order (g.S.Source.ended c.args.input.now)
-    (g.S.Source.given c.args.input.now) (g.S.Source.given c.args.input.now)
-    (g.K.Sink.accepted c.args.out.now) c.from_residual.result c.new.ensures.admitted
-
--- ---- faults
-
-pub returns-in_err-simulation-clause-unfailed : goal.returns-in_err-simulation-clause-unfailed
-returns-in_err-simulation-clause-unfailed g c =
-    IfOk-from_err c.from_residual.result _ c.from_residual.ensures.0
-
-pub returns-in_err-simulation-clause-unended : goal.returns-in_err-simulation-clause-unended
-returns-in_err-simulation-clause-unended g c = λ read.
-    absurd (not_read c.from_residual.result c.from_residual.ensures.1 read)
-
-pub returns-in_err-simulation-clause-no_write_fault :
-    goal.returns-in_err-simulation-clause-no_write_fault
-returns-in_err-simulation-clause-no_write_fault g c = λ read.
-    absurd (not_read c.from_residual.result c.from_residual.ensures.1 read)

@@ -2,7 +2,7 @@
 -- an arm and an assignment that are taken make of it.
 use Rattle.std.proofs.Common.{◌≡◌, ℕ, zero, suc, ◌+◌, ◌<◌, ◌≤◌, Bool, true, false, cond, ◌||◌}
 use Rattle.std.proofs.Common.{List, [], ◌∷◌, ◌++◌, length, map, reverse, get_or, drop}
-use Rattle.std.proofs.Common.{Some, None, refl, sym, ap, ap₂, ◌∙◌, arith, add-one, append_assoc}
+use Rattle.std.proofs.Common.{refl, sym, ap, ap₂, ◌∙◌, arith, add-one, append_assoc}
 use Rattle.std.specs.List.{list_any}
 use Rattle.std.proofs.lemmas.Bool.{false≢true}
 use Rattle.std.proofs.lemmas.List.{drop_all, map-append, reverse-append}
@@ -175,20 +175,12 @@ module _ (signals : List SignalForm) (s : ℕ) (pieces : List PieceForm) (right 
       record { trail = t; steps = ss; arms = way.arms } in
       ap₂ whole put put_steps
 
-  pub whole_along : (from : ℕ) → whole_from signals way.trail.own pieces ≡ Some from
-      → along_ways count from right given ≡ along_assign signals s pieces right way
-  whole_along from whole =
-      ap₂ (λ n w. along_ways n from right w) many is_put
-      ∙ ap (λ o. along_own (length signals) (own_pieces way.trail.own pieces) o right put_way)
-      (sym whole)
-
-  -- some of its bits
-  pub rest_along : (times : ℕ) → times ≡ own_pieces way.trail.own pieces
-      → whole_from signals way.trail.own pieces ≡ None
-      → along_own count times None right given ≡ along_assign signals s pieces right way
-  rest_along times so_many none =
-      ap₂ (λ n w. along_own n times None right w) many is_put
-      ∙ ap₂ (λ k o. along_own (length signals) k o right put_way) so_many (sym none)
+  pub own_along : (times : ℕ) (from : Option ℕ) → times ≡ own_pieces way.trail.own pieces
+      → from ≡ whole_from signals way.trail.own pieces
+      → along_own count times from right given ≡ along_assign signals s pieces right way
+  own_along times from so_many whole =
+      ap₂ (λ n w. along_own n times from right w) many is_put
+      ∙ ap₂ (λ k o. along_own (length signals) k o right put_way) so_many whole
 
 -- ---- at the ends
 

@@ -22,7 +22,7 @@ use Rattle.sv_paths.specs.Limits.{Excess}
 use Rattle.sv_paths.specs.Driven.{AreRoutes}
 use Rattle.sv_obl.specs.Obligations.{target_obligations}
 use Rattle.sv_obl.specs.Routes.{RouteForm, open_route, routes_before}
-use Rattle.sv_paths.specs.RouteObligations.{route_obligation, names_on, target_excess}
+use Rattle.sv_paths.specs.RouteObligations.{route_obligation, names_on, is_large, excess_by}
 use Rattle.sv_obl.specs.IndexedBodies.{looked_up, IsIndexed, AreIndexed}
 use Rattle.sv_paths.specs.RouteViews.{route_forms}
 use Rattle.sv_obl.specs.Wanted.{marked}
@@ -70,8 +70,9 @@ module _ (flat : Flat) (is : IsDesign (design_of flat)) (s : ℕ)
     same = same_routes p.body x indexed (signal_forms signals) s open_route
         ∙ ap (λ sigs. routes_before (signal_forms sigs) s p.body open_route) are
 
-    pub driven_excess : (total : ℕ) → target_excess s total routes ≡ excess_at design total s
-    driven_excess total = ap (target_excess s total) same
+    pub driven_excess : (total : ℕ)
+        → excess_by is_large s total routes ≡ excess_at design total s
+    driven_excess total = ap (excess_by is_large s total) same
         ∙ excess_same design is.is_sound is.is_admitted s (signal_inside flat s known)
         (signal_known flat s known) k p driven there unmarked total
 

@@ -22,10 +22,11 @@ use Rattle.sv_obl.specs.declared.marked.Marked.{Marked}
 use Rattle.sv_paths.specs.declared.targets.Paths.{Paths}
 use Rattle.sv_paths.specs.declared.targets.Paths.TheVariants.{Routes, Trails}
 use Rattle.sv_paths.specs.declared.trails.Trail.{Trail}
-use Rattle.sv_paths.specs.Alongs.{trail_obligation, trails_excess}
+use Rattle.sv_paths.specs.Alongs.{trail_obligation, is_large_trail}
 use Rattle.sv_paths.specs.Answers.{excess_at}
 use Rattle.sv_paths.specs.Driven.{CanWalk, AreTrails, ArePaths, ArePathsWalked}
 use Rattle.sv_obl.specs.MarkedBodies.{marked_statement, IsMarkedBody}
+use Rattle.sv_paths.specs.RouteObligations.{excess_by}
 use Rattle.sv_paths.specs.Trails.{TrailForm, open_trail, trails_before}
 use Rattle.sv_paths.specs.TrailViews.{trail_forms}
 use Rattle.sv_obl.specs.Wanted.{marked}
@@ -90,8 +91,9 @@ module _ (flat : Flat) (is : IsDesign (design_of flat)) (s : ℕ)
       same = ap (λ sigs. trails_before (signal_forms sigs) s (marked_statement body) (open_trail s))
           are
 
-      pub driven_trails : (total : ℕ) → trails_excess s total trails ≡ excess_at design total s
-      driven_trails total = ap (trails_excess s total) same
+      pub driven_trails : (total : ℕ)
+          → excess_by is_large_trail s total trails ≡ excess_at design total s
+      driven_trails total = ap (excess_by is_large_trail s total) same
           ∙ trails_excess_same design is.is_sound is.is_admitted s is_known k p driven there body
           has_body.0 has_body.1 total
 

@@ -1,12 +1,16 @@
 -- Lines, piece by piece.
-use Rattle.std.proofs.Common.{◌≡◌, ℕ, ◌<◌, zero, suc, List, [], ◌∷◌, ◌++◌, map, length}
+use Rattle.std.proofs.Common.{◌≡◌, ℕ, ◌<◌, zero, suc, List, [], ◌∷◌, ◌++◌, map, length, Option}
 use Rattle.std.proofs.Common.{sym, ap, ◌∙◌, append_assoc, append-nil}
 use Rattle.std.proofs.Common.{arith, get_or}
 use Rattle.std.specs.Prelude.{All, codes}
 use Rattle.std.proofs.lemmas.List.Concat.{flat_map-append}
 use Rattle.std.proofs.lemmas.List.Elements.{All-head, All-tail}
+use Rattle.sv_num.specs.declared.faults.Place.{Place}
+use Rattle.sv_flat.specs.Design.{SignalForm}
 use Rattle.sv_flat.specs.declared.signals.SigId.{SigId}
-use Rattle.sv_paths.specs.ListLines.{blanked}
+use Rattle.sv_obl.specs.declared.frames.Frame.{Frame}
+use Rattle.sv_obl.specs.SignalNames.{name_of}
+use Rattle.sv_paths.specs.ListLines.{blanked, frame_word, right_word}
 use Rattle.sv_obl.specs.Views.{number_of}
 
 -- a read is among the signals
@@ -30,6 +34,13 @@ pub more_words : (line : List ℕ) (first second : List (List ℕ)) →
 more_words line first second =
     append_assoc line (blanked first) (blanked second)
     ∙ ap (λ x. line ++ x) (sym (flat_map-append (λ word. codes " " ++ word) first second))
+
+-- the words of a flow of a target
+abbrev pub line_words : List SignalForm → (target : ℕ) → Frame → (conditions : List (List ℕ)) →
+    Option Place → (reads : List ℕ) → List (List ℕ)
+line_words forms s frame conditions right reads =
+    name_of forms s ∷ frame_word frame ∷ conditions ++ right_word right
+    ∷ codes "reads" ∷ map (name_of forms) reads
 
 -- the words of a flow, one after the other
 pub flow_words : (line name frame right : List ℕ) (steps reads : List (List ℕ))

@@ -18,7 +18,7 @@ use Rattle.sv_paths.specs.Limits.{Excess, many_paths, large_path, many_obligatio
 use Rattle.sv_obl.specs.Obligations.{Obligation, path_obligation, target_obligations}
 use Rattle.sv_obl.specs.Paths.{Path, paths}
 use Rattle.sv_obl.specs.Routes.{RouteForm, open_route, routes_before}
-use Rattle.sv_paths.specs.RouteObligations.{route_obligation, names_on, target_excess}
+use Rattle.sv_paths.specs.RouteObligations.{route_obligation, names_on, is_large, excess_by}
 use Rattle.sv_obl.specs.Wanted.{marked}
 use Rattle.sv_obl.proofs.OneDriver.{no_driver, one_driver_at}
 use Rattle.sv_paths.proofs.RouteObligations.{target_is, target_large, target_count, target_below}
@@ -111,7 +111,8 @@ module _ (design : FlatDesign) (is_sound : IsTrue (sound design)) (admitted : Is
     at : Contains (processes_of design) p
     at = driver_there design is_sound admitted s known k p driven there
 
-    pub excess_same : (total : ℕ) → target_excess s total routes ≡ excess_at design total s
+    pub excess_same : (total : ℕ)
+        → excess_by is_large s total routes ≡ excess_at design total s
     excess_same total = sym (
         ap (λ found. excess_of total (length found) (list_any (λ (path : Path).
         nat_lt 65536 path.nodes) found))

@@ -105,24 +105,12 @@ pub right_put : (forms : List SignalForm) (s : ℕ) (pieces : List PieceForm) (r
     → place ≡ later_place (first_place s pieces) trail.place
     → left ≡ without_covered forms trail.names pieces
     → names ≡ with_put_names count times left (names_in [] right)
-    → record {
-      marks = trail.marks;
-      choices = trail.choices;
-      names = names;
-      own = trail.own;
-      nodes = nodes;
-      place = place;
-    } ≡ with_right_put forms s pieces right trail
+    → record trail { names = names; nodes = nodes; place = place }
+    ≡ with_right_put forms s pieces right trail
 right_put forms s pieces right trail count times own nodes place left names many so_often own_is
     nodes_is place_is left_is names_is =
-    let made : NamesForm → ℕ → Option Place → TrailForm = λ ns k p. record {
-      marks = trail.marks;
-      choices = trail.choices;
-      names = ns;
-      own = trail.own;
-      nodes = k;
-      place = p;
-    } in
+    let made : NamesForm → ℕ → Option Place → TrailForm =
+    λ ns k p. record trail { names = ns; nodes = k; place = p } in
     let e1 : names ≡ with_put_names (length forms) (times_put trail.names pieces)
     (without_covered forms trail.names pieces) (names_in [] right) =
     names_is

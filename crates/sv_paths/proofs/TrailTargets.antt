@@ -18,7 +18,8 @@ use Rattle.sv_flat.specs.SignalLists.{driver_of}
 use Rattle.sv_flat.specs.Soundness.{sound, is_signal}
 use Rattle.sv_obl.specs.declared.marked.Marked.{Marked}
 use Rattle.sv_paths.specs.Alongs.{WayForm, open_way, along, trail_obligation}
-use Rattle.sv_paths.specs.Alongs.{conditions_along, trails_excess}
+use Rattle.sv_paths.specs.Alongs.{conditions_along, is_large_trail}
+use Rattle.sv_paths.specs.RouteObligations.{excess_by}
 use Rattle.sv_paths.specs.Answers.{excess_at}
 use Rattle.sv_paths.specs.ListLines.{step_word}
 use Rattle.sv_paths.specs.Limits.{Excess, many_paths, large_path, many_obligations}
@@ -75,9 +76,10 @@ module _ (design : FlatDesign) (is_sound : IsTrue (sound design)) (admitted : Is
       (cond large (Some (large_path s))
       (cond (nat_lt 65536 (total + count)) (Some many_obligations) None))
 
-  pub trails_excess_same : (total : ℕ) → trails_excess s total trails ≡ excess_at design total s
+  pub trails_excess_same : (total : ℕ)
+      → excess_by is_large_trail s total trails ≡ excess_at design total s
   trails_excess_same total =
-      ap (trails_excess s total) trails_are
+      ap (excess_by is_large_trail s total) trails_are
       ∙ sym (
       ap (λ found. excess_of total (length found) (list_any (λ (path : Path).
       nat_lt 65536 path.nodes) found))

@@ -22,7 +22,7 @@ use Rattle.sv_paths.specs.declared.targets.Paths.{Paths}
 use Rattle.sv_paths.specs.declared.targets.Paths.TheVariants.{Routes, Trails}
 use Rattle.sv_flat.specs.declared.designs.Process.{Process}
 use Rattle.sv_flat.specs.Views.{process_form}
-use Rattle.sv_paths.specs.Alongs.{trail_obligation, trails_excess, is_large_trail}
+use Rattle.sv_paths.specs.Alongs.{trail_obligation, is_large_trail}
 use Rattle.sv_paths.specs.Limits.{Excess, many_paths, large_path, many_obligations}
 use Rattle.sv_paths.specs.Limits.{first_excess, excess, target_paths}
 use Rattle.sv_paths.specs.ListLines.{list_line, lines_from, list_text}
@@ -30,7 +30,7 @@ use Rattle.sv_obl.specs.Obligations.{Obligation, target_obligations, selector_ob
 use Rattle.sv_obl.specs.MarkedBodies.{marked_statement}
 use Rattle.sv_obl.specs.Obligations.{obligations}
 use Rattle.sv_obl.specs.Routes.{RouteForm}
-use Rattle.sv_paths.specs.RouteObligations.{names_on, route_obligation, is_large, target_excess}
+use Rattle.sv_paths.specs.RouteObligations.{names_on, route_obligation, is_large, excess_by}
 use Rattle.sv_paths.specs.RouteViews.{route_form, route_forms}
 use Rattle.sv_paths.specs.Trails.{TrailForm}
 use Rattle.sv_paths.specs.TrailViews.{trail_form, trail_forms}
@@ -355,11 +355,8 @@ third_is_false false false true x y z h = absurd (no_some z h)
 third_is_false false false false x y z h = refl
 
 few_found : {X F : Type 0} (form : X → F) (is_large : F → Bool) (s total : ℕ) (forms : List F)
-    (xs : List X)
-    → cond (nat_lt 4096 (length forms)) (Some (many_paths s))
-    (cond (list_any is_large forms) (Some (large_path s))
-    (cond (nat_lt 65536 (total + length forms)) (Some many_obligations) None)) ≡ None
-    → map form xs ≡ forms → total + length xs ≤ 65536
+    (xs : List X) → excess_by is_large s total forms ≡ None → map form xs ≡ forms
+    → total + length xs ≤ 65536
 few_found form is_large s total forms xs none are =
     let few = ltb-false 65536 (total + length forms)
     (third_is_false (nat_lt 4096 (length forms)) (list_any is_large forms)
@@ -367,13 +364,13 @@ few_found form is_large s total forms xs none are =
     subst (λ n. total + n ≤ 65536) (sym (ap length are) ∙ length_mapped form xs) few
 
 pub few_routes : (s total : ℕ) (forms : List RouteForm) (routes : List Route)
-    → target_excess s total forms ≡ None → route_forms routes ≡ forms
+    → excess_by is_large s total forms ≡ None → route_forms routes ≡ forms
     → total + length routes ≤ 65536
 few_routes s total forms routes none are =
     few_found route_form is_large s total forms routes none are
 
 pub few_trails : (s total : ℕ) (forms : List TrailForm) (trails : List Trail)
-    → trails_excess s total forms ≡ None → trail_forms trails ≡ forms
+    → excess_by is_large_trail s total forms ≡ None → trail_forms trails ≡ forms
     → total + length trails ≤ 65536
 few_trails s total forms trails none are =
     few_found trail_form is_large_trail s total forms trails none are

@@ -3,10 +3,8 @@
 -- `Paths` of `sv_obl`.
 use Rattle.std.specs.Prelude.{ℕ, ◌+◌, Bool, false, ◌==◌, nat_lt, if◌then◌else◌, List, [], ◌∷◌}
 use Rattle.std.specs.Prelude.{◌++◌, length, map, reverse, Option, Some, None}
-use Rattle.std.specs.List.{list_any}
 use Rattle.sv_flat.specs.Design.{SignalForm, TypedTree, typed, choice, PieceForm, FlatStatement}
 use Rattle.sv_flat.specs.Design.{nothing, after, assign, branch, ProcessForm}
-use Rattle.sv_paths.specs.Limits.{Excess, many_paths, large_path, many_obligations}
 use Rattle.sv_obl.specs.Obligations.{Obligation, flow, is_link, frame_of}
 use Rattle.sv_obl.specs.Paths.{StepForm, step_with}
 use Rattle.sv_paths.specs.Trails.{TrailForm, open_trail, takes, marked_by, own_pieces}
@@ -118,11 +116,3 @@ trail_obligation signals process s body trail = record {
 -- over 65,536 nodes are put into the path
 abbrev pub is_large_trail : TrailForm → Bool
 is_large_trail trail = nat_lt 65536 trail.nodes
-
--- the limit that a target exceeds with its trails, after so many obligations
-abbrev pub trails_excess : (target total : ℕ) → List TrailForm → Option Excess
-trails_excess s total trails =
-    if nat_lt 4096 (length trails) then Some (many_paths s)
-    else if list_any is_large_trail trails then Some (large_path s)
-    else if nat_lt 65536 (total + length trails) then Some many_obligations
-    else None

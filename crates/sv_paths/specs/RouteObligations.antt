@@ -38,10 +38,12 @@ route_obligation count process s route = record {
 abbrev pub is_large : RouteForm → Bool
 is_large route = nat_lt 65536 route.nodes
 
--- the limit that a target exceeds with its routes, after so many obligations
-abbrev pub target_excess : (target total : ℕ) → List RouteForm → Option Excess
-target_excess s total routes =
-    if nat_lt 4096 (length routes) then Some (many_paths s)
-    else if list_any is_large routes then Some (large_path s)
-    else if nat_lt 65536 (total + length routes) then Some many_obligations
+-- The limit that a target exceeds with its paths, after so many obligations, where it is told which
+-- of them are large.
+abbrev pub excess_by : {P : Type 0} → (large : P → Bool) → (target total : ℕ) → List P →
+    Option Excess
+excess_by large s total paths =
+    if nat_lt 4096 (length paths) then Some (many_paths s)
+    else if list_any large paths then Some (large_path s)
+    else if nat_lt 65536 (total + length paths) then Some many_obligations
     else None

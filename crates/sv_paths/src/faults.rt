@@ -3,7 +3,7 @@ ghost use Rattle.std.specs.Prelude.{◌≡◌};
 ghost use Rattle.sv_paths.specs.declared.faults.WalkFault.TheVariants.{OutOfMemory};
 ghost use Rattle.sv_paths.specs.declared.faults.OblFault.TheVariants as fault;
 
-use std::alloc::{AllocError, AllocFailed};
+use std::alloc::AllocError;
 use sv_flat::SigId;
 use thiserror::Error;
 
@@ -27,18 +27,10 @@ pub enum WalkFault {
     OutOfMemory,
 }
 
-impl From<AllocError> for WalkFault {
+impl<E: Into<AllocError> + Drop> From<E> for WalkFault {
     ghost from_gives = { λ _ fault. fault ≡ OutOfMemory };
 
-    fn from(_error: AllocError) -> WalkFault {
-        WalkFault::OutOfMemory
-    }
-}
-
-impl<T: Drop> From<AllocFailed<T>> for WalkFault {
-    ghost from_gives = { λ _ fault. fault ≡ OutOfMemory };
-
-    fn from(_error: AllocFailed<T>) -> WalkFault {
+    fn from(_error: E) -> WalkFault {
         WalkFault::OutOfMemory
     }
 }
@@ -60,18 +52,10 @@ pub enum OblFault {
     OutOfMemory,
 }
 
-impl From<AllocError> for OblFault {
+impl<E: Into<AllocError> + Drop> From<E> for OblFault {
     ghost from_gives = { λ _ given. given ≡ fault.OutOfMemory };
 
-    fn from(_error: AllocError) -> OblFault {
-        OblFault::OutOfMemory
-    }
-}
-
-impl<T: Drop> From<AllocFailed<T>> for OblFault {
-    ghost from_gives = { λ _ given. given ≡ fault.OutOfMemory };
-
-    fn from(_error: AllocFailed<T>) -> OblFault {
+    fn from(_error: E) -> OblFault {
         OblFault::OutOfMemory
     }
 }

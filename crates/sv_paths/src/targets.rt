@@ -5,14 +5,14 @@ ghost use Rattle.sv_flat.specs.Design.{FlatDesign};
 ghost use Rattle.sv_flat.specs.Views.{design_of};
 ghost use Rattle.sv_design.specs.Designs.{IsDesign};
 ghost use Rattle.sv_paths.specs.Answers.{Answers, excess_at};
-ghost use Rattle.sv_paths.specs.Alongs.{trails_excess};
+ghost use Rattle.sv_paths.specs.Alongs.{is_large_trail};
 ghost use Rattle.sv_paths.specs.Driven.{how_many, HasPaths, IsDriven, ArePathsWalked};
 ghost use Rattle.sv_obl.specs.MarkedBodies.{marked_statement, TellsTargets, AreBodiesOf};
 ghost use Rattle.sv_paths.specs.Trails.{open_trail, trails_before};
 ghost use Rattle.sv_paths.specs.TrailViews.{trail_forms};
 ghost use Rattle.sv_obl.specs.Obligations.{target_obligations};
 ghost use Rattle.sv_obl.specs.Routes.{open_route, routes_before};
-ghost use Rattle.sv_paths.specs.RouteObligations.{target_excess};
+ghost use Rattle.sv_paths.specs.RouteObligations.{is_large, excess_by};
 ghost use Rattle.sv_obl.specs.IndexedBodies.{looked_up};
 ghost use Rattle.sv_paths.specs.RouteViews.{route_forms, Finds};
 ghost use Rattle.sv_obl.specs.Views.{obligation_of};
@@ -95,7 +95,7 @@ fn paths_within<'a>(
 ) -> Result<Vec<Route<'a>>, OblFault>
     requires known { target.0 < length signals.now }
     requires few { total ≤ 65536 }
-    ensures excess { Answers (target_excess target.0 total (routes_before
+    ensures excess { Answers (excess_by is_large target.0 total (routes_before
         (signal_forms signals.now) target.0 (looked_up target.0 indexed.now) open_route)) result }
     ensures routes { IfOk result (λ routes. route_forms routes.items ≡ routes_before
         (signal_forms signals.now) target.0 (looked_up target.0 indexed.now) open_route) }
@@ -122,7 +122,7 @@ fn trails_within(
     requires known { target.0 < length signals.now }
     requires tells { TellsTargets body.now }
     requires few { total ≤ 65536 }
-    ensures excess { Answers (trails_excess target.0 total (trails_before
+    ensures excess { Answers (excess_by is_large_trail target.0 total (trails_before
         (signal_forms signals.now) target.0 (marked_statement body.now) (open_trail target.0)))
         result }
     ensures trails { IfOk result (λ trails. trail_forms trails.items ≡ trails_before

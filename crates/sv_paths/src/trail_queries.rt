@@ -157,6 +157,22 @@ fn along_assign<'c>(
     let conditions = mem::replace(&mut making.conditions, Vec::new(alloc));
     let put = Put::Pieces(pieces, right);
     making.conditions = put_in_conditions(alloc, signals, conditions, put)?;
+    along_own(alloc, count, times, whole, right, making)
+}
+
+// Puts a value for the result's own name: from one of its bits on, or so many pieces for some of
+// its bits.
+fn along_own<'c>(
+    alloc: Global,
+    count: u32,
+    times: u32,
+    whole: Option<u8>,
+    right: &FExpr,
+    making: &mut Making<'c>,
+) -> Result<(), AllocError>
+    ensures { OnOk result (way_form making.new
+        ≡ along_own count times whole (typed_tree right.now) (way_form making.old)) }
+{
     match whole {
         Some(from) => along_ways(right, Splice { alloc, count, from }, making),
         None => along_rest(alloc, count, times, right, making),

@@ -17,9 +17,8 @@ use Rattle.sv_flat.specs.Given.{given}
 use Rattle.sv_trace.specs.Forms.{StimForm, form_of, name_in}
 use Rattle.sv_trace.specs.Stimulus.{LinesRead, start_of, cycles_of}
 use Rattle.sv_sim_run.specs.declared.endings.Ending.{Ending}
-use Rattle.sv_sim_run.specs.Fronts.{WritesFrontAt}
 use Rattle.sv_sim_run.specs.Runs.{lines_of}
-use Rattle.sv_sim_run.specs.Simulated.{is_within, read_of, ending_of, last_line}
+use Rattle.sv_sim_run.specs.Simulated.{is_within, read_of, ending_of, last_line, WritesFrontAt}
 use Rattle.sv_sim_run.specs.Traces.{lines_from}
 use Rattle.sv_sim_run.proofs.OneText.{one, lines_same, fits_read, traced, simulated, has_rounds}
 use Rattle.sv_sim_run.proofs.ReadFronts.{Grows, cycles_grow, start_stays}

@@ -8,7 +8,7 @@ use Rattle.std.specs.Prelude.{Result, Ok, Err, option_map, IfOk, OnErr, IsErr}
 use Rattle.std.specs.Prelude.{IsTrue, IsFalse}
 use Rattle.std.specs.Prelude.{if◌then◌else◌}
 use Rattle.std.proofs.Math.Seq.{take-append-add}
-use Rattle.std.proofs.lemmas.Bool.{lt-leb, le-leb, cases_eq, eq-eqb, ne_eqb, eqb-false}
+use Rattle.std.proofs.lemmas.Bool.{lt-leb, le-leb, cases_eq, eq-eqb, ne_eqb, eqb-false, eqb-true}
 use Rattle.std.proofs.lemmas.Bool.{false≢true}
 use Rattle.std.proofs.lemmas.List.{take_all, take-append-drop, length-take}
 use Rattle.std.proofs.lemmas.List.{append_cancel_left}
@@ -27,13 +27,14 @@ use Rattle.sv_sim_run.specs.declared.endings.Ending.{Ending}
 use Rattle.sv_sim_run.specs.declared.endings.Ending.TheVariants as ending
 use Rattle.sv_sim_run.specs.declared.endings.SimFault.{SimFault}
 use Rattle.sv_sim_run.specs.declared.simulations.Simulation.{Simulation}
-use Rattle.sv_sim_run.specs.Fronts.{WritesFrontAt, WritesAllAt, StopsAt, Takes}
+use Rattle.sv_sim_run.specs.Fronts.{WritesAllAt, StopsAt, Takes}
 use Rattle.sv_sim_run.specs.Fronts.{IsUnderWay, PieceReads, EndsWith, StopsWith}
 use Rattle.sv_sim_run.specs.Progress.{flat_of, IsSimulating, HasCome, HasEnded, HasFailed}
 use Rattle.sv_sim_run.specs.Progress.{HasReached, IsSameAs, LeavesRoom}
 use Rattle.sv_sim_run.specs.Runners.{order_in}
 use Rattle.sv_sim_run.specs.Runs.{ending_from}
 use Rattle.sv_sim_run.specs.Simulated.{largest_stimulus, is_within, read_of, ending_of}
+use Rattle.sv_sim_run.specs.Simulated.{WritesFrontAt}
 use Rattle.sv_sim_run.proofs.CallFacts.{on_error}
 use Rattle.sv_sim_run.proofs.Reached.{failed_front, come_failed, come_all, empty}
 use Rattle.sv_sim_run.proofs.ReadFronts.{same_grows}
@@ -244,34 +245,36 @@ module _ (bytes piece : List ℕ) (left : ℕ) (before accepted accepted_new : L
   pub come_before : 0 < left + length piece → HasCome bytes before accepted old
   come_before some = come_within bytes before accepted old (before_within some) way.come
 
+  -- an empty piece is the end, with nothing behind it
+  at_the_end : (length piece == 0) ≡ true → (more : List ℕ) → (piece ≡ [] → more ≡ [])
+      → bytes ++ (piece ++ more) ≡ bytes
+  at_the_end none more behind =
+      let empty_piece : piece ≡ [] = empty piece (eqb-true (length piece) 0 none) in
+      ap (λ ps. bytes ++ (ps ++ more)) empty_piece ∙ ap (λ ms. bytes ++ ms) (behind empty_piece)
+      ∙ append-nil bytes
+
   -- the end was read
-  pub piece_ends : (ends : Ending) → 0 < left + length piece → length piece ≡ 0
+  pub piece_ends : (ends : Ending) → 0 < left + length piece → (length piece == 0) ≡ true
       → IsSimulating new
       → ((bytes before : List ℕ) → HasCome bytes before accepted old
       → HasEnded (read_whole new.reader.form bytes) before accepted_new new
       × (ends ≡ ending_of true (read_whole new.reader.form bytes)))
       → PieceReads bytes piece left before accepted_new (Ok (Some ends)) old new
   piece_ends ends some none made ended = λ more behind.
-      let empty_piece : piece ≡ [] = empty piece none in
-      let whole : bytes ++ (piece ++ more) ≡ bytes =
-      ap (λ ps. bytes ++ (ps ++ more)) empty_piece ∙ ap (λ ms. bytes ++ ms) (behind empty_piece)
-      ∙ append-nil bytes in
       let end = ended bytes before (come_before some) in
-      subst (λ all. HasReached all ends before accepted_new new) (sym whole)
+      subst (λ all. HasReached all ends before accepted_new new)
+      (sym (at_the_end none more behind))
       (reached_end bytes before accepted_new ends new made (before_within some) end.0 end.1)
 
   -- or not
-  pub piece_end_stops : (fault : SimFault) → 0 < left + length piece → length piece ≡ 0
+  pub piece_end_stops : (fault : SimFault) → 0 < left + length piece
+      → (length piece == 0) ≡ true
       → ((bytes before : List ℕ) → HasCome bytes before accepted old
       → HasFailed (read_front old.reader.form bytes) before accepted_new old
       ⊎ HasFailed (read_whole old.reader.form bytes) before accepted_new old)
       → PieceReads bytes piece left before accepted_new (Err fault) old new
   piece_end_stops fault some none front = λ more behind.
-      let empty_piece : piece ≡ [] = empty piece none in
-      let whole : bytes ++ (piece ++ more) ≡ bytes =
-      ap (λ ps. bytes ++ (ps ++ more)) empty_piece ∙ ap (λ ms. bytes ++ ms) (behind empty_piece)
-      ∙ append-nil bytes in
-      subst (λ all. StopsAt all before accepted_new old) (sym whole)
+      subst (λ all. StopsAt all before accepted_new old) (sym (at_the_end none more behind))
       (⊎_elim
       (λ failed. front_of bytes [] bytes before accepted_new old (order_in old.runner) way.made
       failed (before_within some) (sym (append-nil bytes)))
@@ -280,7 +283,7 @@ module _ (bytes piece : List ℕ) (left : ℕ) (before accepted accepted_new : L
       (front bytes before (come_before some)))
 
   pub piece_end_fails : (r : Result (Option Ending) SimFault) → IsErr r
-      → 0 < left + length piece → length piece ≡ 0
+      → 0 < left + length piece → (length piece == 0) ≡ true
       → ((bytes before : List ℕ) → HasCome bytes before accepted old
       → HasFailed (read_front old.reader.form bytes) before accepted_new old
       ⊎ HasFailed (read_whole old.reader.form bytes) before accepted_new old)

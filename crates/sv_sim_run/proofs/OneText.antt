@@ -38,9 +38,6 @@ module _ (design : FlatDesign) (is_sound : IsTrue (sound design))
   abbrev system : System ℕ Point
   system = flat_system design
 
-  abbrev name : ℕ → List ℕ
-  name s = name_in design.signals s
-
   abbrev form : StimForm
   form = form_of design
 
@@ -48,7 +45,8 @@ module _ (design : FlatDesign) (is_sound : IsTrue (sound design))
 
   pub line_same : (level : Option Point) (cycle : ℕ) (e f : Environment ℕ)
       → SameSignals system e f
-      → line_in name system level cycle e ≡ line_in name system level cycle f
+      → line_in (name_in design.signals) system level cycle e
+      ≡ line_in (name_in design.signals) system level cycle f
   line_same level cycle e f same =
       ap (λ text. decimal cycle ++ text ++ codes "\n") (pairs level)
     where
@@ -63,8 +61,8 @@ module _ (design : FlatDesign) (is_sound : IsTrue (sound design))
           ∙ sym (shown_text design shown f)
 
       pairs : (shown : Option Point)
-          → flat_map (pair_in name) (shown_in system shown e)
-          ≡ flat_map (pair_in name) (shown_in system shown f)
+          → flat_map (pair_in (name_in design.signals)) (shown_in system shown e)
+          ≡ flat_map (pair_in (name_in design.signals)) (shown_in system shown f)
       pairs None = texts None
       pairs (Some point) = texts (Some point)
 
@@ -75,7 +73,7 @@ module _ (design : FlatDesign) (is_sound : IsTrue (sound design))
       → SameTraces system first second
       → lines_of design level first ≡ lines_of design level second
   lines_same level first second same =
-      same_lines system name level (line_same level) 0 first second same
+      same_lines system (name_in design.signals) level (line_same level) 0 first second same
 
   -- ---- what is read
 
@@ -112,7 +110,7 @@ module _ (design : FlatDesign) (is_sound : IsTrue (sound design))
       (trace : List (Environment ℕ))
       → IsTrace system (starts_at (read_of form bytes).right)
       (takes (cycles_of (read_of form bytes).right)) trace
-      → IsTraceText name system level rounds bytes
+      → IsTraceText (name_in design.signals) system level rounds bytes
       (ending_of (is_within bytes) (read_of form bytes))
       (lines_of design level trace
       ++ last_line (ending_of (is_within bytes) (read_of form bytes)) rounds)
@@ -135,11 +133,11 @@ module _ (design : FlatDesign) (is_sound : IsTrue (sound design))
 
   one_simulation : (level : Option Point) (rounds : Option ℕ) (bytes : List ℕ)
       (ends other : Ending) (printed others : List ℕ)
-      → IsTraceText name system level rounds bytes ends printed
-      → IsTraceText name system level rounds bytes other others
+      → IsTraceText (name_in design.signals) system level rounds bytes ends printed
+      → IsTraceText (name_in design.signals) system level rounds bytes other others
       → (other ≡ ends) × (others ≡ printed)
   one_simulation level rounds bytes ends other printed others a b =
-      let f : StimForm = form_in name system in
+      let f : StimForm = form_in (name_in design.signals) system in
       let reads : b.read ≡ a.read = b.is_read ∙ sym a.is_read in
       let same_ends : other ≡ ends =
       b.ended ∙ ap (ending_of (is_within bytes)) reads ∙ sym a.ended in
@@ -207,7 +205,8 @@ module _ (design : FlatDesign) (is_sound : IsTrue (sound design))
       let reads : b.1.read ≡ a.1.read = b.1.is_read ∙ sym a.1.is_read in
       let counted = subst (λ (read : LinesRead). AreRounds design order read b.0) reads b.2 in
       one_simulation level a.0 bytes ends other printed others a.1
-      (subst (λ rounds. IsTraceText name system level rounds bytes other others)
+      (subst (λ rounds.
+      IsTraceText (name_in design.signals) system level rounds bytes other others)
       (one_rounds order a.1.read a.0 b.0 a.2 counted) b.1)
 
   -- a stimulus has a text

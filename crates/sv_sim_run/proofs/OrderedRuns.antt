@@ -89,11 +89,8 @@ module _ (design : FlatDesign) (number : ℕ) where
     are : counts ≡ count ∷ others
     settled : Environment ℕ
     environments : List (Environment ℕ)
-    counted : IsRoundCount design (drawn_by cycle) (with_inputs design i before) count
-    left : (s : ℕ) → settled s ≡
-        after_rounds design (drawn_by cycle) count (with_inputs design i before) s
-    goes_on : IsOrderedRun design number (cycle + 1)
-        (after_tick design (tick_order design cycle) settled) later environments others
+    runs : IsOrderedRun design number cycle before (i ∷ later) (settled ∷ environments)
+        (count ∷ others)
 
   begins : (cycle : ℕ) (before i : Environment ℕ) (later es : List (Environment ℕ))
       (counts : List ℕ) → IsOrderedRun design number cycle before (i ∷ later) es counts
@@ -104,9 +101,7 @@ module _ (design : FlatDesign) (number : ℕ) where
     are = refl;
     settled = e;
     environments = es;
-    counted = is.0;
-    left = is.1;
-    goes_on = is.2;
+    runs = is;
   }
   begins cycle before i later [] [] is = absurd is
   begins cycle before i later [] (k ∷ ks) is = absurd is
@@ -130,18 +125,18 @@ module _ (design : FlatDesign) (number : ℕ) where
       let b = begins cycle before i later fs ms second in
       let start : Environment ℕ = with_inputs design i before in
       let then : Environment ℕ → Environment ℕ = after_tick design (tick_order design cycle) in
-      let count = one_count (drawn_by cycle) start a.count b.count a.counted b.counted in
+      let count = one_count (drawn_by cycle) start a.count b.count a.runs.0 b.runs.0 in
       let settled : b.settled ≡ a.settled = fun_ext (λ s.
-      b.left s ∙ ap (λ n. after_rounds design (drawn_by cycle) n start s) (sym count)
-      ∙ sym (a.left s)) in
+      b.runs.1 s ∙ ap (λ n. after_rounds design (drawn_by cycle) n start s) (sym count)
+      ∙ sym (a.runs.1 s)) in
       a.are
       ∙ ap (λ n. n ∷ a.others) count
       ∙ ap (λ ns. b.count ∷ ns)
       (same_counts (cycle + 1) (then a.settled) later a.environments b.environments a.others
-      b.others a.goes_on
+      b.others a.runs.2
       (subst (λ (e : Environment ℕ).
       IsOrderedRun design number (cycle + 1) (then e) later b.environments b.others) settled
-      b.goes_on))
+      b.runs.2))
       ∙ sym b.are
 
   pub one_ordered_run : (start : List ℕ) (cycles : List (List ℕ)) (m n : ℕ)

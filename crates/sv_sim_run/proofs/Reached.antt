@@ -18,13 +18,13 @@ use Rattle.sv_sim_run.specs.declared.endings.Ending.{Ending}
 use Rattle.sv_sim_run.specs.declared.runners.Runner.{Runner}
 use Rattle.sv_sim_run.specs.declared.runners.Runner.TheVariants as runner
 use Rattle.sv_sim_run.specs.declared.simulations.Simulation.{Simulation}
-use Rattle.sv_sim_run.specs.Fronts.{WritesFrontAt, WritesAllAt}
+use Rattle.sv_sim_run.specs.Fronts.{WritesAllAt}
 use Rattle.sv_sim_run.specs.Progress.{flat_of, IsSimulating, HasRunCycles, HasCome}
 use Rattle.sv_sim_run.specs.Progress.{HasFailed, HasReached}
 use Rattle.sv_sim_run.specs.Runners.{values_in, order_in, rounds_in}
 use Rattle.sv_sim_run.specs.Runs.{HaveRunInOrder, lines_of, PutsFront}
 use Rattle.sv_sim_run.specs.Simulated.{largest_stimulus, is_within, read_of, ending_of, last_line}
-use Rattle.sv_sim_run.specs.Simulated.{RunsInOrder, AreRounds, IsSimulatedAt}
+use Rattle.sv_sim_run.specs.Simulated.{RunsInOrder, AreRounds, IsSimulatedAt, WritesFrontAt}
 use Rattle.sv_sim_run.proofs.DesignForms.{form_is_plain, from_given, start_fit, cycles_fit}
 use Rattle.sv_sim_run.proofs.Fronts.{begins_text_of}
 use Rattle.sv_sim_run.proofs.OneText.{simulated}

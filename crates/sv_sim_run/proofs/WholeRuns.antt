@@ -15,12 +15,12 @@ use Rattle.sv_sim_run.specs.declared.endings.Ending.TheVariants as ending
 use Rattle.sv_sim_run.specs.declared.endings.SimFault.{SimFault}
 use Rattle.sv_sim_run.specs.declared.endings.SimFault.TheVariants as faults
 use Rattle.sv_sim_run.specs.declared.simulations.Simulation.{Simulation}
-use Rattle.sv_sim_run.specs.Fronts.{WritesFrontAt, WritesAllAt, EndsWith, StopsWith, WritesBy}
+use Rattle.sv_sim_run.specs.Fronts.{WritesAllAt, EndsWith, StopsWith, WritesBy}
 use Rattle.sv_sim_run.specs.Fronts.{RunsTo, StopsAt, WritesWhole}
 use Rattle.sv_sim_run.specs.Progress.{flat_of, IsSameAs, HasReached}
 use Rattle.sv_sim_run.specs.Runners.{order_in, rounds_in}
 use Rattle.sv_sim_run.specs.Simulated.{largest_stimulus, last_line, level_asked, IsSimulatedAt}
-use Rattle.sv_sim_run.specs.Simulated.{IsSimulated, WritesFrontFor, WritesAllCycles}
+use Rattle.sv_sim_run.specs.Simulated.{IsSimulated, WritesFrontAt, WritesFrontFor, WritesAllCycles}
 use Rattle.sv_sim_run.proofs.CallFacts.{on_error}
 use Rattle.sv_sim_run.proofs.WholeTexts.{Simulates, same_words, nothing_yet, wrote_front}
 use Rattle.sv_sim_run.proofs.WholeTexts.{wrote_whole, front_for, all_for, no_other}
@@ -88,6 +88,24 @@ module _ (tells : Bool) (given_old given_new left_old left_new before : List ℕ
         (append_cancel_left given_old all.0 stops.taken (sym all.1 ∙ stops.takes.given)) all.2;
   }
 
+  -- the whole stimulus was simulated, and something of its text was written
+  run_by : (old s : Simulation) (accepted new : List ℕ) (ends : Ending)
+      (r : Result Ending SimFault)
+      → EndsWith tells given_old given_new left_old left_new ends before accepted s
+      → ((bytes : List ℕ) → HasReached bytes ends before accepted s
+      → WritesBy (flat_of old) old.level (order_in old.runner) bytes before new r)
+      → (r ≡ Err faults.Read → ⊥)
+      → RunsTo (flat_of old) old.level (order_in old.runner) tells given_old given_new left_old
+      before new r
+  run_by old s accepted new ends r all wrote none = record {
+    taken = all.taken;
+    given = all.takes.given;
+    few = all.few;
+    writes = wrote all.taken all.reached;
+    told = λ told. wrote left_old (all.told told);
+    prompt = λ read. absurd (none read);
+  }
+
   -- a fault came while the last line was put
   pub front_run : {T : Type 0} (old s : Simulation) (accepted new : List ℕ) (rounds : Option ℕ)
       (ends : Ending) (r : Result Ending SimFault) (fault : SimFault)
@@ -98,16 +116,11 @@ module _ (tells : Bool) (given_old given_new left_old left_new before : List ℕ
       → RunsTo (flat_of old) old.level (order_in old.runner) tells given_old given_new left_old
       before new r
   front_run old s accepted new rounds ends (Ok found) fault is same all count put none = absurd is
-  front_run old s accepted new rounds ends (Err found) fault is same all count put none = record {
-    taken = all.taken;
-    given = all.takes.given;
-    few = all.few;
-    writes = wrote_front old.design.now old.level (order_in old.runner) rounds s all.taken before
-        accepted new ends (simulates_as old s same) all.reached count put;
-    told = λ told. wrote_front old.design.now old.level (order_in old.runner) rounds s left_old
-        before accepted new ends (simulates_as old s same) (all.told told) count put;
-    prompt = λ read. absurd (none (passed_on (failing Ending found) fault faults.Read is read));
-  }
+  front_run old s accepted new rounds ends (Err found) fault is same all count put none =
+      run_by old s accepted new ends (Err found) all
+      (λ bytes reached. wrote_front old.design.now old.level (order_in old.runner) rounds s bytes
+      before accepted new ends (simulates_as old s same) reached count put)
+      (λ read. none (passed_on (failing Ending found) fault faults.Read is read))
 
   -- the last line was put
   pub whole_run : (old s : Simulation) (accepted new : List ℕ) (rounds : Option ℕ)
@@ -116,16 +129,11 @@ module _ (tells : Bool) (given_old given_new left_old left_new before : List ℕ
       → rounds ≡ rounds_in s.runner → new ≡ accepted ++ last_line ends rounds
       → RunsTo (flat_of old) old.level (order_in old.runner) tells given_old given_new left_old
       before new (Ok ends)
-  whole_run old s accepted new rounds ends same all count put = record {
-    taken = all.taken;
-    given = all.takes.given;
-    few = all.few;
-    writes = wrote_whole old.design.now old.level (order_in old.runner) rounds s all.taken before
-        accepted new ends (simulates_as old s same) all.reached count put;
-    told = λ told. wrote_whole old.design.now old.level (order_in old.runner) rounds s left_old
-        before accepted new ends (simulates_as old s same) (all.told told) count put;
-    prompt = λ read. absurd (is_no_error ends faults.Read read);
-  }
+  whole_run old s accepted new rounds ends same all count put =
+      run_by old s accepted new ends (Ok ends) all
+      (λ bytes reached. wrote_whole old.design.now old.level (order_in old.runner) rounds s bytes
+      before accepted new ends (simulates_as old s same) reached count put)
+      (is_no_error ends faults.Read)
 
 -- memory ran out before anything was read
 pub none_run : (design : FlatDesign) (shown : Option Point) (order : Option ℕ) (tells : Bool)

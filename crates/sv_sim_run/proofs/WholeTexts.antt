@@ -16,11 +16,11 @@ use Rattle.sv_sim_run.specs.declared.endings.Ending.{Ending}
 use Rattle.sv_sim_run.specs.declared.endings.Ending.TheVariants as ending
 use Rattle.sv_sim_run.specs.declared.endings.SimFault.{SimFault}
 use Rattle.sv_sim_run.specs.declared.simulations.Simulation.{Simulation}
-use Rattle.sv_sim_run.specs.Fronts.{WritesFrontAt, WritesAllAt}
+use Rattle.sv_sim_run.specs.Fronts.{WritesAllAt}
 use Rattle.sv_sim_run.specs.Progress.{flat_of, HasReached}
 use Rattle.sv_sim_run.specs.Runners.{order_in, rounds_in}
 use Rattle.sv_sim_run.specs.Simulated.{last_line, level_asked, IsSimulatedAt, IsSimulated}
-use Rattle.sv_sim_run.specs.Simulated.{WritesFrontFor, WritesAllCycles}
+use Rattle.sv_sim_run.specs.Simulated.{WritesFrontAt, WritesFrontFor, WritesAllCycles}
 use Rattle.sv_sim_run.proofs.OneText.{has_text, one_at}
 use Rattle.sv_sim_run.proofs.Reached.{reached_wrote}
 
@@ -97,12 +97,8 @@ pub front_for : (design : FlatDesign) (level : Option (List ℕ)) (asked : Optio
     (order : Option ℕ) (bytes old new : List ℕ) → level_asked design level ≡ asked
     → WritesFrontAt design asked order bytes old new
     → WritesFrontFor design level order bytes old new
-front_for design level asked order bytes old new is front = record {
-  ends = front.ends;
-  printed = front.printed;
-  is = subst (λ a. IsSimulatedAt design a order bytes front.ends front.printed) (sym is) front.is;
-  front = front.front;
-}
+front_for design level asked order bytes old new is front =
+    subst (λ a. WritesFrontAt design a order bytes old new) (sym is) front
 
 pub all_for : (design : FlatDesign) (level : Option (List ℕ)) (shown : Option Point)
     (bytes old new : List ℕ) → level_asked design level ≡ Some shown

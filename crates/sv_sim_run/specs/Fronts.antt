@@ -2,7 +2,6 @@
 -- stands in Simulated.antt.
 use Rattle.std.specs.Prelude.{◌≡◌, ℕ, ◌+◌, ◌<◌, ◌≤◌, Bool, IsTrue, IsFalse, List, [], ◌++◌}
 use Rattle.std.specs.Prelude.{length, take, Option, Some, None, Result, Ok, Err, IsErrOf}
-use Rattle.sv_io.specs.Sink.{WritesFront}
 use Rattle.sv_lattice.specs.declared.points.Point.{Point}
 use Rattle.sv_system.specs.System.{Environment}
 use Rattle.sv_flat.specs.Design.{FlatDesign}
@@ -16,16 +15,8 @@ use Rattle.sv_sim_run.specs.declared.endings.SimFault.TheVariants as faults
 use Rattle.sv_sim_run.specs.Progress.{flat_of, IsSimulating, HasCome, HasReached}
 use Rattle.sv_sim_run.specs.Runners.{order_in}
 use Rattle.sv_sim_run.specs.Runs.{lines_of}
-use Rattle.sv_sim_run.specs.Simulated.{largest_stimulus, IsSimulatedAt}
+use Rattle.sv_sim_run.specs.Simulated.{largest_stimulus, IsSimulatedAt, WritesFrontAt}
 use Rattle.sv_sim_run.specs.Traces.{IsTraceFrom}
-
--- `WritesFrontFor` with what is shown in place of the level's name
-pub record WritesFrontAt (design : FlatDesign) (asked : Option (Option Point)) (order : Option ℕ)
-    (bytes old new : List ℕ) : Type 0 where
-  pub ends : Ending
-  pub printed : List ℕ
-  pub is : IsSimulatedAt design asked order bytes ends printed
-  pub front : WritesFront old printed new
 
 -- `WritesAllCycles` with what is shown in place of the level's name
 pub record WritesAllAt (design : FlatDesign) (shown : Option Point) (bytes old new : List ℕ) :

@@ -116,12 +116,17 @@ IsSimulated design level order bytes ends printed =
 -- ---- what is written before a fault
 
 -- what was accepted is a front of the whole text for these bytes
-pub record WritesFrontFor (design : FlatDesign) (level : Option (List ℕ)) (order : Option ℕ)
+pub record WritesFrontAt (design : FlatDesign) (asked : Option (Option Point)) (order : Option ℕ)
     (bytes old new : List ℕ) : Type 0 where
   pub ends : Ending
   pub printed : List ℕ
-  pub is : IsSimulated design level order bytes ends printed
+  pub is : IsSimulatedAt design asked order bytes ends printed
   pub front : WritesFront old printed new
+
+abbrev pub WritesFrontFor : FlatDesign → (level : Option (List ℕ)) → (order : Option ℕ) →
+    (bytes old new : List ℕ) → Type 0
+WritesFrontFor design level order bytes old new =
+    WritesFrontAt design (level_asked design level) order bytes old new
 
 -- These first bytes of a stimulus show no ending yet: no line of them is wrong, and they are within
 -- the limit. What was accepted is the lines of all cycles that they let read.

@@ -8,13 +8,13 @@ ghost use Rattle.sv_design.specs.Designs.{IsDesign};
 ghost use Rattle.sv_io.specs.Count.{Rose};
 ghost use Rattle.sv_io.specs.Sink.{WritesFront};
 ghost use Rattle.sv_io.specs.Source.{WhateverFollows};
-ghost use Rattle.sv_sim_run.specs.Fronts.{WritesAllAt, WritesFrontAt, Takes, IsUnderWay};
+ghost use Rattle.sv_sim_run.specs.Fronts.{WritesAllAt, Takes, IsUnderWay};
 ghost use Rattle.sv_sim_run.specs.Fronts.{PieceReads, EndsWith, StopsAt, StopsWith, RunsTo};
 ghost use Rattle.sv_sim_run.specs.Fronts.{WritesWhole};
 ghost use Rattle.sv_sim_run.specs.Progress.{flat_of, IsSimulating, IsSameAs, HasCome, HasReached};
 ghost use Rattle.sv_sim_run.specs.Runners.{order_in};
 ghost use Rattle.sv_sim_run.specs.Simulated.{largest_stimulus, IsSimulated, level_asked};
-ghost use Rattle.sv_sim_run.specs.Simulated.{WritesFrontFor, WritesAllCycles};
+ghost use Rattle.sv_sim_run.specs.Simulated.{WritesFrontAt, WritesFrontFor, WritesAllCycles};
 ghost use Rattle.sv_sim_run.specs.Simulated.{last_line as line_of};
 
 use crate::endings::{Ending, SimFault};

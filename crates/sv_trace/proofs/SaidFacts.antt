@@ -9,6 +9,7 @@ use Rattle.std.specs.List.{list_any, prefix_len, fold}
 use Rattle.std.specs.Option.{option_map_or}
 use Rattle.std.specs.Str.{bytes_eq}
 use Rattle.std.specs.Str.Parse.{digits_value}
+use Rattle.std.proofs.Math.Bool.{or-false, or-true}
 use Rattle.std.proofs.Math.ListN.{drop_of_length-le}
 use Rattle.std.proofs.lemmas.List.{drop-append-le}
 use Rattle.std.proofs.Math.Seq.{take-append_seam, drop-append-add, take-length}
@@ -297,25 +298,17 @@ flag_more form right line given place k is at inside before =
     whole = list_any-append (starts_at form.registers k) right (line ∷ [])
         ∙ ap (λ t. flag_of form right k || (t || false)) own
 
-    ends : (a : Bool) → (a || (true || false)) ≡ true
-    ends true = refl
-    ends false = refl
-
-    stays : (a : Bool) → (a || (false || false)) ≡ a
-    stays true = refl
-    stays false = refl
-
     by_place : (k ≡ place) ⊎ (k ≡ place → ⊥)
         → get_or (set given place true) k false ≡ flag_of form (right ++ line ∷ []) k
     by_place h = ⊎_elim
         (λ same. ap (λ j. get_or (set given place true) j false) same
         ∙ get_or-set_same given place true false inside
         ∙ sym (whole ∙ ap (λ t. flag_of form right k || (t || false)) (eq-eqb place k (sym same))
-        ∙ ends (flag_of form right k)))
+        ∙ or-true (flag_of form right k)))
         (λ other. get_or-set_other given place k true false other
         ∙ before
         ∙ sym (whole ∙ ap (λ t. flag_of form right k || (t || false))
-        (ne_eqb place k (λ e. other (sym e))) ∙ stays (flag_of form right k)))
+        (ne_eqb place k (λ e. other (sym e))) ∙ or-false (flag_of form right k)))
         h
 
 pub after_start : (form : StimForm) (right taken : List (List ℕ)) (line : List ℕ) (said : Said)

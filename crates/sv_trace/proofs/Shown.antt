@@ -11,7 +11,7 @@ use Rattle.std.proofs.lemmas.List.{get_or_past, get_or-replicate, length-replica
 use Rattle.sv_lattice.specs.declared.points.Point.{Point}
 use Rattle.sv_lattice.specs.declared.labels.Label.{Label}
 use Rattle.sv_lattice.specs.declared.labels.Label.TheVariants.{Point as Declared, Table}
-use Rattle.sv_lattice.specs.Maps.{MapRows, row_of, pair_value}
+use Rattle.sv_lattice.specs.Maps.{MapRows, pair_value}
 use Rattle.sv_lattice.specs.Labels.{map_of, label_of, IsReadable, FitsRange, FitsSecond}
 use Rattle.sv_lattice.specs.Tables.{flow_test}
 use Rattle.sv_system.specs.System.{Environment, last_update}
@@ -20,7 +20,7 @@ use Rattle.sv_flat.specs.Admission.{IsAdmitted}
 use Rattle.sv_flat.specs.ByNumber.{by_number, FitSignals}
 use Rattle.sv_flat.specs.Clocks.{is_clock}
 use Rattle.sv_flat.specs.Design.{SignalForm, FlatDesign}
-use Rattle.sv_flat.specs.FlatSystem.{flat_system, label_in}
+use Rattle.sv_flat.specs.FlatSystem.{flat_system}
 use Rattle.sv_flat.specs.SignalLists.{system_signals}
 use Rattle.sv_flat.specs.Soundness.{sound, is_signal, label_sound, selector_fits}
 use Rattle.sv_flat.specs.Soundness.{second_fits}
@@ -32,8 +32,7 @@ use Rattle.sv_flat.proofs.SelectorBounds.{label_here}
 use Rattle.sv_flat.specs.declared.designs.Flat.{Flat}
 use Rattle.sv_flat.specs.declared.signals.Signal.{Signal}
 use Rattle.sv_flat.specs.Views.{design_of, signal_form}
-use Rattle.sv_flat.proofs.SelectorFacts.{selector_is_seen}
-use Rattle.sv_flat.specs.Selectors.{selectors_of}
+use Rattle.sv_flat.proofs.SelectorFacts.{label_selected, selector_is_seen}
 use Rattle.sv_flat.specs.Given.{given, with_given}
 use Rattle.sv_trace.specs.Traces.{pair_text, shown, is_shown, text_of_signal}
 
@@ -147,18 +146,6 @@ same_texts f g (s ∷ ss) same =
     ∙ ap (λ text. g s ++ text)
     (same_texts f g ss (λ t at. same t (Contains-later s ss t at)))
 
-label_agrees : (maps : List MapRows) (label : Label) (first second : Environment ℕ)
-    → ((t : ℕ) → Contains (selectors_of label) t → first t ≡ second t)
-    → label_in maps label first ≡ label_in maps label second
-label_agrees maps (Declared point) first second same = refl
-label_agrees maps (Table map s None) first second same =
-    ap (row_of (map_of maps map)) (same s (Contains-head s []))
-label_agrees maps (Table map s (Some t)) first second same =
-    ap (λ v. row_of (map_of maps map) (pair_value (map_of maps map) v (first t)))
-    (same s (Contains-head s (t ∷ [])))
-    ∙ ap (λ v. row_of (map_of maps map) (pair_value (map_of maps map) (second s) v))
-    (same t (Contains-later s (t ∷ []) t (Contains-head t [])))
-
 shown_agrees : (design : FlatDesign) → IsTrue (sound design) → IsAdmitted design
     → (level : Option Point) (first second : Environment ℕ)
     → ((t : ℕ) → Contains (system_signals design) t → first t ≡ second t)
@@ -167,7 +154,7 @@ shown_agrees : (design : FlatDesign) → IsTrue (sound design) → IsAdmitted de
 shown_agrees design is admitted None first second same s inside = refl
 shown_agrees design is admitted (Some level) first second same s inside =
     ap (λ (p : Point). flow_test design.lattice p.0 level.0)
-    (label_agrees design.maps (signal_of design.signals s).label first second
+    (label_selected design.maps (signal_of design.signals s).label first second
     (λ t at. same t (selector_is_seen design is admitted s
     (lt-ltb s (length design.signals) inside) t at)))
 

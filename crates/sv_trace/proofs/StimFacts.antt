@@ -22,38 +22,49 @@ answered_fault : (fault : StimFault) (o : Option StimFault)
 answered_fault fault None e = cc
 answered_fault fault (Some other) e = cc
 
+passed : {T : Type 0} (P : StimFault → Type 0) (r : Result T StimFault) (x : StimFault)
+    → IsErrAnd r (λ y. y ≡ x) → P x → IfErr r P
+passed P (Ok v) x is holds = absurd is
+passed P (Err y) x is holds = subst P (sym is) holds
+
 pub answered_none : (o : Option StimFault)
     → (let r : Result (Unit {0}) StimFault = Ok tt in r) ≡ answer_of o → o ≡ None
 answered_none None e = refl
 answered_none (Some other) e = cc
 
-pub feed_fault : (form : StimForm) (bytes : List ℕ) (old new : Reading) (fault : StimFault)
+pub feed_fault : {T : Type 0} (form : StimForm) (bytes : List ℕ) (old new : Reading)
+    (fault : StimFault) (r : Result T StimFault) → IsErrAnd r (λ found. found ≡ fault)
     → HasFed [] [] old → new.form ≡ form
     → (let r : Result (Unit {0}) StimFault = Err fault in r) ≡ answer_of new.fault
     → UnlessFull (Err fault) ((more : List ℕ) (taken : List (List ℕ)) → HasFed more taken old
     → HasFed (more ++ bytes) taken new)
-    → IsFaultOf (read_whole form bytes) fault
-feed_fault form bytes old new (Line number kind) start same answer reads =
+    → IfErr r (IsFaultOf (read_whole form bytes))
+feed_fault form bytes old new (Line number kind) r passes start same answer reads =
     let fed = reads [] [] start in
     let is : fault_of (read_front new.form bytes) ≡ Some (Line number kind) =
     sym fed.read.fault ∙ answered_fault (Line number kind) new.fault answer in
-    ap (λ f. fault_of (read_whole f bytes)) (sym same)
+    passed (IsFaultOf (read_whole form bytes)) r (Line number kind) passes
+    (ap (λ f. fault_of (read_whole f bytes)) (sym same)
     ∙ ap fault_of (whole_stays new.form bytes kind
     (wrong_of (read_front new.form bytes) number kind is))
-    ∙ is
-feed_fault form bytes old new OutOfMemory start same answer reads = tt
+    ∙ is)
+feed_fault form bytes old new OutOfMemory r passes start same answer reads =
+    passed (IsFaultOf (read_whole form bytes)) r OutOfMemory passes tt
 
-pub finish_fault : (form : StimForm) (bytes : List ℕ) (old new : Reading) (fault : StimFault)
+pub finish_fault : {T : Type 0} (form : StimForm) (bytes : List ℕ) (old new : Reading)
+    (fault : StimFault) (r : Result T StimFault) → IsErrAnd r (λ found. found ≡ fault)
     → HasFed bytes [] old → new.form ≡ form
     → (let r : Result (Unit {0}) StimFault = Err fault in r) ≡ answer_of new.fault
     → UnlessFull (Err fault) ((more : List ℕ) (taken : List (List ℕ)) → HasFed more taken old
     → HasRead (read_whole new.form more) taken new)
-    → IsFaultOf (read_whole form bytes) fault
-finish_fault form bytes old new (Line number kind) fed same answer reads =
+    → IfErr r (IsFaultOf (read_whole form bytes))
+finish_fault form bytes old new (Line number kind) r passes fed same answer reads =
     let read = reads bytes [] fed in
-    ap (λ f. fault_of (read_whole f bytes)) (sym same)
-    ∙ sym read.fault ∙ answered_fault (Line number kind) new.fault answer
-finish_fault form bytes old new OutOfMemory fed same answer reads = tt
+    passed (IsFaultOf (read_whole form bytes)) r (Line number kind) passes
+    (ap (λ f. fault_of (read_whole f bytes)) (sym same)
+    ∙ sym read.fault ∙ answered_fault (Line number kind) new.fault answer)
+finish_fault form bytes old new OutOfMemory r passes fed same answer reads =
+    passed (IsFaultOf (read_whole form bytes)) r OutOfMemory passes tt
 
 pub one_taken : {X : Type 0} (f : X → List ℕ) (read : LinesRead) (xs ys : List X) (x : X)
     (r : Reading) → HasRead read (map f xs ++ f x ∷ []) r → ys ≡ xs ++ x ∷ []
@@ -74,8 +85,3 @@ pub one_fits : {X : Type 0} (f : X → List ℕ) (P : List ℕ → Type 0) (xs y
 one_fits f P xs ys x each fits e =
     subst (All P) (sym (ap (map f) e ∙ map-append f xs (x ∷ [])))
     (All-push P (map f xs) (f x) each fits)
-
-pub passed : {T : Type 0} (P : StimFault → Type 0) (r : Result T StimFault) (x : StimFault)
-    → IsErrAnd r (λ y. y ≡ x) → P x → IfErr r P
-passed P (Ok v) x is holds = absurd is
-passed P (Err y) x is holds = subst P (sym is) holds

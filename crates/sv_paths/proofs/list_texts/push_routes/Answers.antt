@@ -10,18 +10,21 @@ use Rattle.sv_paths.proofs.list_texts.push_routes.Goals as goal
 pub loop-route-init : goal.loop-route-init
 loop-route-init c = none_written (signal_forms c.args.driven.signals.now) c.args.lines.now
 
-pub push_route-requires-clause-names : goal.push_route-requires-clause-names
-push_route-requires-clause-names c =
+pub push_route-requires : goal.push_route-requires
+push_route-requires c =
+    let n = length c.args.driven.signals.now in
+    let routes = c.args.routes.now in
+    let i = c.loop-route.route-index in
     let x = c.route-item.result in
-    c.requires.names (route_form x) (form_there route_form c.args.routes.now
-    c.loop-route.route-index x c.loop-route-test.true c.route-item.is)
-
-pub push_route-requires-clause-few : goal.push_route-requires-clause-few
-push_route-requires-clause-few c =
-    fewer_formed (signal_forms c.args.driven.signals.now) route_form
-    (route_obligation (length c.args.driven.signals.now) (process_form c.args.driven.process.now)
-    c.args.driven.target.0) c.args.routes.now c.loop-route.route-index 65536 c.args.lines.now
-    c.loop-route.lines c.loop-route-test.true c.requires.few c.loop-route.invariant
+    record {
+      known = c.requires.known;
+      names = c.requires.names (route_form x)
+          (form_there route_form routes i x c.loop-route-test.true c.route-item.is);
+      few = fewer_formed (signal_forms c.args.driven.signals.now) route_form
+          (route_obligation n (process_form c.args.driven.process.now) c.args.driven.target.0)
+          routes i 65536 c.args.lines.now c.loop-route.lines c.loop-route-test.true
+          c.requires.few c.loop-route.invariant;
+    }
 
 pub loop-route-preserved : goal.loop-route-preserved
 loop-route-preserved c =

@@ -11,18 +11,18 @@ pub loop-trail-init : goal.loop-trail-init
 loop-trail-init c =
     (omega arith, λ body marks. none_written (signal_forms c.args.driven.signals.now) c.args.lines.now)
 
-pub push_trail_line-requires-clause-names : goal.push_trail_line-requires-clause-names
-push_trail_line-requires-clause-names c =
+pub push_trail_line-requires : goal.push_trail_line-requires
+push_trail_line-requires c =
     let x = c.trail-item.result in
-    c.requires.names (trail_form x) (form_there trail_form c.args.trails.now
-    c.loop-trail.trail-index x c.loop-trail-test.true c.trail-item.is)
-
-pub push_trail_line-requires-clause-few : goal.push_trail_line-requires-clause-few
-push_trail_line-requires-clause-few c =
     let inside = c.loop-trail-test.true in
     let counted = c.loop-trail.invariant.0 in
     let few = c.requires.few in
-    omega arith
+    record {
+      known = c.requires.known;
+      names = c.requires.names (trail_form x)
+          (form_there trail_form c.args.trails.now c.loop-trail.trail-index x inside c.trail-item.is);
+      few = omega arith;
+    }
 
 pub loop-trail-preserved : goal.loop-trail-preserved
 loop-trail-preserved c =

@@ -15,8 +15,7 @@ loop-i-preserved c =
 pub returns : goal.returns
 returns c =
     let refs = c.args.refs.now in
-    let over = c.loop-i-test.false in
-    let none_left : length refs - c.loop-i.i ≡ 0 = omega arith in
+    let none_left : length refs - c.loop-i.i ≡ 0 = omega (arith, c.loop-i-test.false) in
     c.loop-i.invariant
     ∙ ap (λ n. reverse (map (λ (r : StepRef). step_word (step_ref_form r)) (drop n refs))) none_left
     ∙ made_reversed step_word step_ref_form refs

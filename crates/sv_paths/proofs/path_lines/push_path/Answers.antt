@@ -1,4 +1,4 @@
-use Rattle.std.proofs.Common.{◌≡◌, ◌<◌, ◌∷◌, ◌++◌, ℕ, List, Bool, Option, map, reverse, length}
+use Rattle.std.proofs.Common.{◌≡◌, ◌<◌, ◌++◌, ℕ, List, Bool, Option, map, reverse, length}
 use Rattle.std.proofs.Common.{All, sym, ap, subst, ◌∙◌}
 use Rattle.std.specs.Prelude.{codes, decimal}
 use Rattle.sv_num.specs.declared.faults.Place.{Place}
@@ -9,14 +9,13 @@ use Rattle.sv_flat.specs.Sets.{holds, those}
 use Rattle.sv_flat.specs.Views.{process_form}
 use Rattle.sv_obl.specs.declared.frames.Frame.{Frame}
 use Rattle.sv_paths.specs.declared.routes.StepRef.{StepRef}
-use Rattle.sv_paths.specs.ListLines.{blanked, frame_word, step_word, right_word}
-use Rattle.sv_obl.specs.SignalNames.{name_of}
+use Rattle.sv_paths.specs.ListLines.{blanked, step_word}
 use Rattle.sv_obl.specs.Obligations.{frame_of}
 use Rattle.sv_paths.specs.RouteObligations.{names_on, route_obligation}
 use Rattle.sv_paths.specs.RouteViews.{step_ref_form, route_form}
 use Rattle.sv_obl.specs.Views.{number_of}
 use Rattle.sv_paths.specs.Written.{mark_word}
-use Rattle.sv_paths.proofs.ListLineFacts.{whole_line}
+use Rattle.sv_paths.proofs.ListLineFacts.{line_words, whole_line}
 use Rattle.sv_paths.proofs.WrittenFacts.{route_among}
 use Rattle.sv_paths.proofs.path_lines.push_path.Goals as goal
 
@@ -44,10 +43,7 @@ returns c =
     let o = route_obligation n process s route in
     let text = c.args.text.now.items in
     let number = decimal c.args.number in
-    let words : Frame → List (List ℕ) → Option Place → List ℕ → List (List ℕ) =
-    λ frame conditions right reads. name_of forms s ∷ frame_word frame
-    ∷ conditions ++ right_word right
-    ∷ codes "reads" ∷ map (name_of forms) reads in
+    let words = line_words forms s in
     let conditions = map step_word o.path in
     let marked : map mark_word c.deref-2.result.now ≡ conditions =
     ap (map mark_word) c.deref-2.ensures.value ∙ c.in_ok-marks.ensures

@@ -7,8 +7,7 @@ use Rattle.sv_paths.proofs.trail_lines.marks_on.Goals as goal
 pub returns : goal.returns
 returns c =
     let marks = c.args.marks.now in
-    let over = c.loop-i-test.false in
-    let none_left : length marks - c.loop-i.i ≡ 0 = omega arith in
+    let none_left : length marks - c.loop-i.i ≡ 0 = omega (arith, c.loop-i-test.false) in
     c.loop-i.invariant
     ∙ ap (λ n. reverse (map mark_word (drop n marks))) none_left
     ∙ made_reversed mark_word (λ (m : StepMark). m) marks

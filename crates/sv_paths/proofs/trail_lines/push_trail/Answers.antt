@@ -1,4 +1,4 @@
-use Rattle.std.proofs.Common.{◌≡◌, ◌<◌, ◌∷◌, ◌++◌, ℕ, List, Option, Some, cond, map, reverse, length}
+use Rattle.std.proofs.Common.{◌≡◌, ◌<◌, ◌++◌, ℕ, List, Option, Some, cond, map, reverse, length}
 use Rattle.std.proofs.Common.{All, sym, ap, subst, ◌∙◌}
 use Rattle.std.specs.Prelude.{codes, decimal}
 use Rattle.sv_num.specs.declared.faults.Place.{Place}
@@ -7,14 +7,13 @@ use Rattle.sv_flat.specs.ByNumber.{signal_forms}
 use Rattle.sv_flat.specs.Views.{process_form}
 use Rattle.sv_obl.specs.declared.frames.Frame.{Frame}
 use Rattle.sv_paths.specs.declared.list_lines.StepMark.{StepMark}
-use Rattle.sv_paths.specs.ListLines.{blanked, frame_word, right_word}
-use Rattle.sv_obl.specs.SignalNames.{name_of}
+use Rattle.sv_paths.specs.ListLines.{blanked}
 use Rattle.sv_obl.specs.Obligations.{is_link, frame_of}
 use Rattle.sv_paths.specs.TrailLines.{trail_words}
 use Rattle.sv_paths.specs.TrailViews.{trail_form}
 use Rattle.sv_obl.specs.Views.{number_of}
 use Rattle.sv_paths.specs.Written.{mark_word}
-use Rattle.sv_paths.proofs.ListLineFacts.{whole_line}
+use Rattle.sv_paths.proofs.ListLineFacts.{line_words, whole_line}
 use Rattle.sv_paths.proofs.trail_lines.push_trail.Goals as goal
 
 pub push_flow-requires-clause-reads : goal.push_flow-requires-clause-reads
@@ -31,10 +30,7 @@ returns c =
     let trail = trail_form c.args.trail.now in
     let text = c.args.text.now.items in
     let number = decimal c.args.number in
-    let words : Frame → List (List ℕ) → Option Place → List ℕ → List (List ℕ) =
-    λ frame conditions right reads. name_of forms s ∷ frame_word frame
-    ∷ conditions ++ right_word right
-    ∷ codes "reads" ∷ map (name_of forms) reads in
+    let words = line_words forms s in
     let conditions = map mark_word (reverse trail.marks) in
     let right = c.place_of-right.result in
     let marked : map mark_word c.deref-2.result.now ≡ conditions =

@@ -9,38 +9,23 @@ use Rattle.sv_obl.specs.Paths.{step_with}
 use Rattle.sv_obl.specs.Views.{piece_forms}
 use Rattle.sv_paths.specs.TrailViews.{trail_form}
 use Rattle.sv_obl.specs.Wanted.{put_in}
-use Rattle.sv_paths.proofs.AlongFacts.{whole_along, rest_along}
+use Rattle.sv_paths.proofs.AlongFacts.{own_along}
 use Rattle.sv_paths.proofs.TrailFacts.{form_count}
 use Rattle.sv_paths.proofs.trail_queries.along_assign.Goals as goal
 
-pub returns-in-Some : goal.returns-in-Some
-returns-in-Some c =
+pub returns : goal.returns
+returns c =
     let signals = c.args.walk.signals.now in
     let put = step_with (put_in (signal_forms signals) (piece_forms c.args.pieces.now)
     (typed_tree c.args.right.now)) in
-    subst (λ (f : WayForm). OnOk c.along_ways.result (way_form c.along_ways.new.making ≡ f))
-    (whole_along (signal_forms signals) c.args.walk.target.0 (piece_forms c.args.pieces.now)
+    subst (λ (f : WayForm). OnOk c.along_own.result (way_form c.along_own.new.making ≡ f))
+    (own_along (signal_forms signals) c.args.walk.target.0 (piece_forms c.args.pieces.now)
     (typed_tree c.args.right.now) (way_form c.args.making.now) (trail_form c.put_right.new.self)
     (map condition_form c.in_ok-making.field-0.items) _ (sym (form_count signals))
     c.in_ok-put_right.ensures
     (c.in_ok-making.ensures
     ∙ ap (λ (v : Vec Condition Global). map put (map condition_form v.items))
     c.replace-conditions.ensures.value)
-    _ (sym c.whole_from-whole.ensures ∙ c.in-Some.is))
-    c.along_ways.ensures
-
-pub returns-in-None : goal.returns-in-None
-returns-in-None c =
-    let signals = c.args.walk.signals.now in
-    let put = step_with (put_in (signal_forms signals) (piece_forms c.args.pieces.now)
-    (typed_tree c.args.right.now)) in
-    subst (λ (f : WayForm). OnOk c.along_rest.result (way_form c.along_rest.new.making ≡ f))
-    (rest_along (signal_forms signals) c.args.walk.target.0 (piece_forms c.args.pieces.now)
-    (typed_tree c.args.right.now) (way_form c.args.making.now) (trail_form c.put_right.new.self)
-    (map condition_form c.in_ok-making.field-0.items) _ (sym (form_count signals))
-    c.in_ok-put_right.ensures
-    (c.in_ok-making.ensures
-    ∙ ap (λ (v : Vec Condition Global). map put (map condition_form v.items))
-    c.replace-conditions.ensures.value)
-    _ c.own_pieces-times.ensures (sym c.whole_from-whole.ensures ∙ c.in-None.is))
-    c.along_rest.ensures
+    c.own_pieces-times.result c.whole_from-whole.result c.own_pieces-times.ensures
+    c.whole_from-whole.ensures)
+    c.along_own.ensures

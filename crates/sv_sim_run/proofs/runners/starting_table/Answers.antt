@@ -14,9 +14,9 @@ use Rattle.sv_sim_run.proofs.runners.starting_table.Goals as goal
 
 pub put_listed-requires-clause-known : goal.put_listed-requires-clause-known
 put_listed-requires-clause-known c =
-    let flat = c.args.design.now in
-    numbers_within flat c.signals-signals.result.now c.signals-signals.ensures.signals
-    (is_register (design_of flat)) c.registers.result.now c.registers.ensures.registers
+    numbers_within c.args.design.now c.signals-signals.result.now
+    c.signals-signals.ensures.signals (is_register (design_of c.args.design.now))
+    c.registers.result.now c.registers.ensures.registers
 
 pub put_listed-requires-clause-fit : goal.put_listed-requires-clause-fit
 put_listed-requires-clause-fit c =

@@ -1,5 +1,4 @@
-use Rattle.std.proofs.Common.{◌≡◌, ◌<◌, ◌+◌, length, refl, sym}
-use Rattle.std.proofs.lemmas.Bool.{eqb-true}
+use Rattle.std.proofs.Common.{◌<◌, ◌+◌, length, refl, sym}
 use Rattle.sv_sim_run.proofs.Loops.{end_room, read_within, read_room, piece_ends, some_of}
 use Rattle.sv_sim_run.proofs.Loops.{piece_end_fails, piece_reads}
 use Rattle.sv_sim_run.proofs.stimuli.read_piece.Goals as goal
@@ -11,20 +10,17 @@ end-requires-clause-within g c =
 
 pub returns-in_err-ending-clause-reads : goal.returns-in_err-ending-clause-reads
 returns-in_err-ending-clause-reads g c bytes before way =
-    let none : length c.args.piece.now ≡ 0 =
-    eqb-true (length c.args.piece.now) 0 (sym c.if-is_empty.ensures) in
     piece_end_fails bytes c.args.piece.now c.args.left before (g.K.Sink.accepted c.args.out.now)
     (g.K.Sink.accepted c.end.new.out) c.args.simulation.now c.end.new.self way
-    c.from_residual.result c.from_residual.ensures.0 c.requires.some none
+    c.from_residual.result c.from_residual.ensures.0 c.requires.some
+    (sym c.if-is_empty.ensures)
     c.in_err-ending.ensures.front
 
 pub returns-then-is_empty-clause-reads : goal.returns-then-is_empty-clause-reads
 returns-then-is_empty-clause-reads g c bytes before way =
-    let none : length c.args.piece.now ≡ 0 =
-    eqb-true (length c.args.piece.now) 0 (sym c.if-is_empty.ensures) in
     piece_ends bytes c.args.piece.now c.args.left before (g.K.Sink.accepted c.args.out.now)
     (g.K.Sink.accepted c.end.new.out) c.args.simulation.now c.end.new.self way
-    c.in_ok-ending.ending c.requires.some none c.in_ok-ending.ensures.made
+    c.in_ok-ending.ending c.requires.some (sym c.if-is_empty.ensures) c.in_ok-ending.ensures.made
     c.in_ok-ending.ensures.ended
 
 pub read-requires-clause-room : goal.read-requires-clause-room

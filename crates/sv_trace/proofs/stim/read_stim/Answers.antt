@@ -1,34 +1,28 @@
 use Rattle.std.proofs.Common.{[], map, sym, ap, ◌∙◌, subst}
 use Rattle.sv_flat.specs.Views.{design_of}
 use Rattle.sv_trace.specs.Forms.{form_of}
-use Rattle.sv_trace.specs.Reading.{Reading, HasRead, IsFaultOf}
+use Rattle.sv_trace.specs.Reading.{Reading, HasRead}
 use Rattle.sv_trace.specs.Stimulus.{read_whole}
-use Rattle.sv_trace.proofs.StimFacts.{passed, feed_fault, finish_fault, answered_none, one_taken}
+use Rattle.sv_trace.proofs.StimFacts.{feed_fault, finish_fault, answered_none, one_taken}
 use Rattle.sv_trace.proofs.StimFacts.{fit_inputs, none_fit, one_fits}
 use Rattle.sv_trace.proofs.stim.read_stim.Goals as goal
 
 pub returns-in_err-feed-clause-fault : goal.returns-in_err-feed-clause-fault
 returns-in_err-feed-clause-fault c =
-    let form = form_of (design_of c.args.design.now) in
-    let bytes = c.args.bytes.now in
-    let fault = c.in_err-feed.field-0.0 in
-    passed (IsFaultOf (read_whole form bytes)) c.from_residual-in_err-feed.result fault
-    c.from_residual-in_err-feed.ensures.1
-    (feed_fault form bytes c.in_ok-reader.reader c.feed.new.self fault c.in_ok-reader.ensures.fed
+    feed_fault (form_of (design_of c.args.design.now)) c.args.bytes.now c.in_ok-reader.reader
+    c.feed.new.self c.in_err-feed.field-0.0 c.from_residual-in_err-feed.result
+    c.from_residual-in_err-feed.ensures.1 c.in_ok-reader.ensures.fed
     (c.in_err-feed.ensures.form ∙ c.in_ok-reader.ensures.form) c.in_err-feed.ensures.answer
-    c.in_err-feed.ensures.read)
+    c.in_err-feed.ensures.read
 
 pub returns-in_err-finish-clause-fault : goal.returns-in_err-finish-clause-fault
 returns-in_err-finish-clause-fault c =
-    let form = form_of (design_of c.args.design.now) in
-    let bytes = c.args.bytes.now in
-    let fault = c.in_err-finish.field-0.0 in
-    passed (IsFaultOf (read_whole form bytes)) c.from_residual-in_err-finish.result fault
+    finish_fault (form_of (design_of c.args.design.now)) c.args.bytes.now c.feed.new.self
+    c.finish.new.self c.in_err-finish.field-0.0 c.from_residual-in_err-finish.result
     c.from_residual-in_err-finish.ensures.1
-    (finish_fault form bytes c.feed.new.self c.finish.new.self fault
     (c.in_ok-feed.ensures.read [] [] c.in_ok-reader.ensures.fed)
     (c.in_err-finish.ensures.form ∙ (c.in_ok-feed.ensures.form ∙ c.in_ok-reader.ensures.form))
-    c.in_err-finish.ensures.answer c.in_err-finish.ensures.read)
+    c.in_err-finish.ensures.answer c.in_err-finish.ensures.read
 
 pub cycles-init : goal.cycles-init
 cycles-init c =

@@ -14,37 +14,24 @@ use Rattle.sv_obl.proofs.FormLists.{length_mapped, get_all}
 use Rattle.sv_paths.proofs.WrittenFacts.{as_many}
 use Rattle.sv_paths.proofs.target_paths.TargetPaths.query.Goals as goal
 
-pub query_at-requires-clause-known : goal.query_at-requires-clause-known
-query_at-requires-clause-known c =
+pub query_at-requires : goal.query_at-requires
+query_at-requires c =
+    let design = design_of c.args.design.now in
+    let s = c.args.self.now.target.0 in
     let mapped = length_mapped signal_form c.args.design.now.signals.items in
     let same = ap length c.signals.ensures.signals in
     let inside = c.requires.paths.inside in
-    omega arith
-
-pub query_at-requires-clause-few : goal.query_at-requires-clause-few
-query_at-requires-clause-few c =
-    let few = few_signals (design_of c.args.design.now) c.signals.ensures.design.is_sound in
-    let mapped = length_mapped signal_form c.args.design.now.signals.items in
-    let same = ap length c.signals.ensures.signals in
-    omega arith
-
-pub query_at-requires-clause-walks : goal.query_at-requires-clause-walks
-query_at-requires-clause-walks c =
-    let design = design_of c.args.design.now in
-    let s = c.args.self.now.target.0 in
+    let most = few_signals design c.signals.ensures.design.is_sound in
     let has =
     subst (IsDriven design s c.requires.paths.total) c.in-Some.is c.requires.paths.driven in
-    paths_walked design s c.in-Some.driven.process.now c.in-Some.driven.paths has.are
-
-pub query_at-requires-clause-there : goal.query_at-requires-clause-there
-query_at-requires-clause-there c =
-    let design = design_of c.args.design.now in
-    let s = c.args.self.now.target.0 in
-    let has =
-    subst (IsDriven design s c.requires.paths.total) c.in-Some.is c.requires.paths.driven in
-    subst (λ n. c.args.place < n)
-    (sym (as_many design s c.in-Some.driven.process.now c.in-Some.driven.paths has.are))
-    c.requires.there
+    record {
+      known = omega arith;
+      few = omega arith;
+      walks = paths_walked design s c.in-Some.driven.process.now c.in-Some.driven.paths has.are;
+      there = subst (λ n. c.args.place < n)
+          (sym (as_many design s c.in-Some.driven.process.now c.in-Some.driven.paths has.are))
+          c.requires.there;
+    }
 
 pub unreachable-requires : goal.unreachable-requires
 unreachable-requires c =

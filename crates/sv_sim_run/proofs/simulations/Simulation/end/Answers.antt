@@ -24,25 +24,21 @@ returns-in_err-found-clause-front g c =
     inl (failed_now s (read_front s.reader.form bytes) come.taken before accepted accepted
     come.fed.read come.ran (front_now _ _ _ _ come.ran.lines)))
 
-pub write_cycles-requires-clause-made : goal.write_cycles-requires-clause-made
-write_cycles-requires-clause-made g c =
+pub write_cycles-requires : goal.write_cycles-requires
+write_cycles-requires g c =
     let s = c.args.self.now in
     let w = c.requires.within in
     let reads = whole_reads c.finish.result s.reader c.finish.new.self c.in_ok-found.found
     (sym c.in_ok-found.ensures) c.finish.ensures.read in
-    made_reader s _ c.requires.made refl c.finish.ensures.form
-    (λ begun. (whole_keeps w.bytes w.come.taken w.come.taken s.reader c.finish.new.self
-    c.finish.ensures.form w.come.fed.read (reads w.bytes w.come.taken w.come.fed) begun).1)
-
-pub write_cycles-requires-clause-room : goal.write_cycles-requires-clause-room
-write_cycles-requires-clause-room g c =
-    let s = c.args.self.now in
-    let w = c.requires.within in
-    let reads = whole_reads c.finish.result s.reader c.finish.new.self c.in_ok-found.found
-    (sym c.in_ok-found.ensures) c.finish.ensures.read in
-    room_of s _ (read_whole c.finish.new.self.form w.bytes) w.come.taken w.before
-    (g.K.Sink.accepted c.args.out.now) w.come.ran (reads w.bytes w.come.taken w.come.fed)
-    (whole_room c.finish.new.self w.bytes w.within) refl
+    let has = reads w.bytes w.come.taken w.come.fed in
+    record {
+      made = made_reader s _ c.requires.made refl c.finish.ensures.form
+          (λ begun. (whole_keeps w.bytes w.come.taken w.come.taken s.reader c.finish.new.self
+          c.finish.ensures.form w.come.fed.read has begun).1);
+      room = room_of s _ (read_whole c.finish.new.self.form w.bytes) w.come.taken w.before
+          (g.K.Sink.accepted c.args.out.now) w.come.ran has
+          (whole_room c.finish.new.self w.bytes w.within) refl;
+    }
 
 pub returns-in_err-write_cycles-clause-same : goal.returns-in_err-write_cycles-clause-same
 returns-in_err-write_cycles-clause-same g c =

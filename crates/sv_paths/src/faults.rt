@@ -3,7 +3,7 @@ ghost use Rattle.std.specs.Prelude.{◌≡◌};
 ghost use Rattle.sv_paths.specs.declared.faults.WalkFault.TheVariants.{OutOfMemory};
 ghost use Rattle.sv_paths.specs.declared.faults.OblFault.TheVariants as fault;
 
-use std::alloc::AllocError;
+use std::alloc::{AllocError, AllocFailed};
 use sv_flat::SigId;
 use thiserror::Error;
 
@@ -27,10 +27,18 @@ pub enum WalkFault {
     OutOfMemory,
 }
 
-impl<E: Into<AllocError> + Drop> From<E> for WalkFault {
+impl From<AllocError> for WalkFault {
     ghost from_gives = { λ _ fault. fault ≡ OutOfMemory };
 
-    fn from(_error: E) -> WalkFault {
+    fn from(_error: AllocError) -> WalkFault {
+        WalkFault::OutOfMemory
+    }
+}
+
+impl<T: Drop> From<AllocFailed<T>> for WalkFault {
+    ghost from_gives = { λ _ fault. fault ≡ OutOfMemory };
+
+    fn from(_error: AllocFailed<T>) -> WalkFault {
         WalkFault::OutOfMemory
     }
 }
@@ -52,10 +60,18 @@ pub enum OblFault {
     OutOfMemory,
 }
 
-impl<E: Into<AllocError> + Drop> From<E> for OblFault {
+impl From<AllocError> for OblFault {
     ghost from_gives = { λ _ given. given ≡ fault.OutOfMemory };
 
-    fn from(_error: E) -> OblFault {
+    fn from(_error: AllocError) -> OblFault {
+        OblFault::OutOfMemory
+    }
+}
+
+impl<T: Drop> From<AllocFailed<T>> for OblFault {
+    ghost from_gives = { λ _ given. given ≡ fault.OutOfMemory };
+
+    fn from(_error: AllocFailed<T>) -> OblFault {
         OblFault::OutOfMemory
     }
 }

@@ -2,7 +2,7 @@
 ghost use Rattle.std.specs.Prelude.{◌≡◌};
 ghost use Rattle.sv_trace.specs.declared.faults.StimFault.TheVariants.{OutOfMemory};
 
-use std::alloc::AllocError;
+use std::alloc::{AllocError, AllocFailed};
 use sv_texts::StimKind;
 use thiserror::Error;
 
@@ -17,10 +17,18 @@ pub enum StimFault {
     OutOfMemory,
 }
 
-impl<E: Into<AllocError> + Drop> From<E> for StimFault {
+impl From<AllocError> for StimFault {
     ghost from_gives = { λ _ fault. fault ≡ OutOfMemory };
 
-    fn from(_error: E) -> StimFault {
+    fn from(_error: AllocError) -> StimFault {
+        StimFault::OutOfMemory
+    }
+}
+
+impl<T: Drop> From<AllocFailed<T>> for StimFault {
+    ghost from_gives = { λ _ fault. fault ≡ OutOfMemory };
+
+    fn from(_error: AllocFailed<T>) -> StimFault {
         StimFault::OutOfMemory
     }
 }

@@ -1,5 +1,6 @@
 // The instance in which a signal of a design stands.
 use crate::modules::is_instanced;
+use crate::named::first_named;
 use sv_ast::{Instance, Item, Module, Text};
 
 /// A signal's name in its own module: what stands behind the last `.`.
@@ -15,12 +16,7 @@ pub fn own_name(name: &[u8]) -> &[u8] {
 
 /// The first module of a name.
 pub fn module_named<'t>(text: &'t Text, name: &[u8]) -> Option<&'t Module> {
-    for module in &text.modules {
-        if module.name.bytes() == name {
-            return Some(module);
-        }
-    }
-    None
+    first_named(&text.modules, name)
 }
 
 /// The module of an instance.

@@ -4,11 +4,12 @@ use crate::constants::Constants;
 use crate::contexts::{Use, is_in_value, spot_at, use_at};
 use crate::instances::module_named;
 use crate::maps::{counts_of, map_named, no_point};
+use crate::named::{first_named, names_in_row};
 use crate::origins::{is_up_to, module_at, module_in};
-use crate::rows::{Row, shown};
+use crate::rows::shown;
 use crate::sentences::{Hole, told};
 use std::alloc::{AllocError, Global};
-use sv_ast::{Decl, Item, LabelText, MapText, Module, Param, Text};
+use sv_ast::{Decl, Item, LabelText, MapText, Module, Text};
 use sv_num::{Name, Place};
 
 /// What a name in a module was declared as, first.
@@ -32,8 +33,8 @@ impl<'a> NamedItem<'a> {
 
 /// What a name in a module is declared as first.
 pub fn first_declaration<'a>(module: &'a Module, name: &[u8]) -> Option<NamedItem<'a>> {
-    if let Some(place) = parameter_named(&module.params, name) {
-        return Some(NamedItem::Parameter(place));
+    if let Some(param) = first_named(&module.params, name) {
+        return Some(NamedItem::Parameter(param.place));
     }
     match port_named(module, name) {
         Some(port) => Some(NamedItem::Signal(port)),
@@ -41,24 +42,9 @@ pub fn first_declaration<'a>(module: &'a Module, name: &[u8]) -> Option<NamedIte
     }
 }
 
-// The place of the parameter of a name in a header.
-fn parameter_named(params: &[Param], name: &[u8]) -> Option<Place> {
-    for param in params {
-        if param.name.bytes() == name {
-            return Some(param.place);
-        }
-    }
-    None
-}
-
 /// The port of a name.
 pub fn port_named<'a>(module: &'a Module, name: &[u8]) -> Option<&'a Decl> {
-    for port in &module.ports {
-        if port.name.bytes() == name {
-            return Some(port);
-        }
-    }
-    None
+    first_named(&module.ports, name)
 }
 
 // What the items of a module declare a name as first.
@@ -181,13 +167,12 @@ fn is_own_value(alloc: Global, case: &Case, parameter: Place) -> Result<bool, Al
 
 // Of a name that a module does not declare.
 fn undeclared(alloc: Global, case: &Case, around: &[u8]) -> Result<String, AllocError> {
-    let name = shown(alloc, case.name())?;
     let declaration = declaration_at(alloc, case)?;
     told(
         alloc,
         "there is no signal or parameter `{}` in module `{}`: declare it, as in {}",
         &[
-            Hole::Words(name.as_str()),
+            Hole::Name(case.name()),
             Hole::Name(around),
             Hole::Words(declaration.as_str()),
         ],
@@ -421,21 +406,12 @@ fn is_signal(module: &Module, name: &[u8]) -> bool {
 
 // Of a map that there is not.
 fn unknown_map(alloc: Global, text: &Text, map: &[u8]) -> Result<String, AllocError> {
-    let maps = all_maps(alloc, text)?;
+    let maps = names_in_row(alloc, &text.maps)?;
     told(
         alloc,
         "there is no label map `{}`; the label maps are: {}",
         &[Hole::Name(map), Hole::Words(maps.as_str())],
     )
-}
-
-// The label maps of a text, in a row.
-fn all_maps(alloc: Global, text: &Text) -> Result<String, AllocError> {
-    let mut row = Row::new(alloc);
-    for map in &text.maps {
-        row.add(map.name.bytes(), "")?;
-    }
-    row.finish()
 }
 
 // Of a selector too many or too few.

@@ -1,0 +1,60 @@
+// Parts of a text that have a name, by it.
+use crate::rows::Row;
+use std::alloc::{AllocError, Global};
+use sv_ast::{Decl, MapText, Module, Param};
+use sv_num::Name;
+
+/// What has a name.
+pub trait Named {
+    /// The bytes of the name.
+    fn name_bytes(&self) -> &[u8];
+}
+
+impl Named for Name {
+    fn name_bytes(&self) -> &[u8] {
+        self.bytes()
+    }
+}
+
+impl Named for Module {
+    fn name_bytes(&self) -> &[u8] {
+        self.name.bytes()
+    }
+}
+
+impl Named for MapText {
+    fn name_bytes(&self) -> &[u8] {
+        self.name.bytes()
+    }
+}
+
+impl Named for Decl {
+    fn name_bytes(&self) -> &[u8] {
+        self.name.bytes()
+    }
+}
+
+impl Named for Param {
+    fn name_bytes(&self) -> &[u8] {
+        self.name.bytes()
+    }
+}
+
+/// The first of a name.
+pub fn first_named<'t, T: Named>(items: &'t [T], name: &[u8]) -> Option<&'t T> {
+    for item in items {
+        if item.name_bytes() == name {
+            return Some(item);
+        }
+    }
+    None
+}
+
+/// The names of some, in a row.
+pub fn names_in_row<T: Named>(alloc: Global, items: &[T]) -> Result<String, AllocError> {
+    let mut row = Row::new(alloc);
+    for item in items {
+        row.add(item.name_bytes(), "")?;
+    }
+    row.finish()
+}

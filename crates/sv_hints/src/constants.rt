@@ -25,13 +25,7 @@ pub struct Constants<'t> {
 // Whether an instance of the module sets a parameter.
 fn is_overridden(text: &Text, module: &Module) -> bool {
     let name = module.name.bytes();
-    text.modules
-        .iter()
-        .any(|around| sets_parameter(around, name))
-}
-
-fn sets_parameter(around: &Module, name: &[u8]) -> bool {
-    around.items.iter().any(|item| overrides(item, name))
+    text.modules.iter().any(|around| around.items.iter().any(|item| overrides(item, name)))
 }
 
 fn overrides(item: &Item, name: &[u8]) -> bool {

@@ -1,6 +1,5 @@
 // The instance in which a signal of a design stands.
 use crate::modules::is_instanced;
-use crate::named::first_named;
 use sv_ast::{Instance, Item, Module, Text};
 
 /// A signal's name in its own module: what stands behind the last `.`.
@@ -16,7 +15,9 @@ pub fn own_name(name: &[u8]) -> &[u8] {
 
 /// The first module of a name.
 pub fn module_named<'t>(text: &'t Text, name: &[u8]) -> Option<&'t Module> {
-    first_named(&text.modules, name)
+    text.modules
+        .iter()
+        .find(|module| module.name.bytes() == name)
 }
 
 /// The module of an instance.

@@ -1,6 +1,5 @@
 // What is said of lattices and label maps.
 use crate::cases::{Case, owned};
-use crate::named::first_named;
 use crate::rows::Row;
 use crate::sentences::{Hole, told};
 use crate::tables::is_among;
@@ -109,7 +108,7 @@ fn first_map<'t>(text: Option<&'t Text>, name: &[u8]) -> Option<&'t MapText> {
 
 /// The label map of a name.
 pub fn map_named<'t>(text: &'t Text, name: &[u8]) -> Option<&'t MapText> {
-    first_named(&text.maps, name)
+    text.maps.iter().find(|map| map.name.bytes() == name)
 }
 
 // The map at the place of a case.

@@ -67,13 +67,7 @@ fn all_tops(alloc: Global, text: &Text) -> Result<String, AllocError> {
 
 /// Whether some module has an instance of this one.
 pub fn is_instanced(text: &Text, name: &[u8]) -> bool {
-    text.modules
-        .iter()
-        .any(|module| holds_instance(module, name))
-}
-
-fn holds_instance(module: &Module, name: &[u8]) -> bool {
-    module.items.iter().any(|item| is_instance(item, name))
+    text.modules.iter().any(|module| module.items.iter().any(|item| is_instance(item, name)))
 }
 
 fn is_instance(item: &Item, name: &[u8]) -> bool {

@@ -1,7 +1,7 @@
-// Parts of a text that have a name, by it.
+// The names of parts of a text, in a row.
 use crate::rows::Row;
 use std::alloc::{AllocError, Global};
-use sv_ast::{Decl, MapText, Module, Param};
+use sv_ast::{Decl, MapText, Module};
 use sv_num::Name;
 
 /// What has a name.
@@ -32,22 +32,6 @@ impl Named for Decl {
     fn name_bytes(&self) -> &[u8] {
         self.name.bytes()
     }
-}
-
-impl Named for Param {
-    fn name_bytes(&self) -> &[u8] {
-        self.name.bytes()
-    }
-}
-
-/// The first of a name.
-pub fn first_named<'t, T: Named>(items: &'t [T], name: &[u8]) -> Option<&'t T> {
-    for item in items {
-        if item.name_bytes() == name {
-            return Some(item);
-        }
-    }
-    None
 }
 
 /// The names of some, in a row.

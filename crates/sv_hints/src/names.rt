@@ -4,12 +4,12 @@ use crate::constants::Constants;
 use crate::contexts::{Use, is_in_value, spot_at, use_at};
 use crate::instances::module_named;
 use crate::maps::{counts_of, map_named, no_point};
-use crate::named::{first_named, names_in_row};
+use crate::named::names_in_row;
 use crate::origins::{is_up_to, module_at, module_in};
 use crate::rows::shown;
 use crate::sentences::{Hole, told};
 use std::alloc::{AllocError, Global};
-use sv_ast::{Decl, Item, LabelText, MapText, Module, Text};
+use sv_ast::{Decl, Item, LabelText, MapText, Module, Param, Text};
 use sv_num::{Name, Place};
 
 /// What a name in a module was declared as, first.
@@ -33,8 +33,8 @@ impl<'a> NamedItem<'a> {
 
 /// What a name in a module is declared as first.
 pub fn first_declaration<'a>(module: &'a Module, name: &[u8]) -> Option<NamedItem<'a>> {
-    if let Some(param) = first_named(&module.params, name) {
-        return Some(NamedItem::Parameter(param.place));
+    if let Some(place) = parameter_named(&module.params, name) {
+        return Some(NamedItem::Parameter(place));
     }
     match port_named(module, name) {
         Some(port) => Some(NamedItem::Signal(port)),
@@ -42,9 +42,19 @@ pub fn first_declaration<'a>(module: &'a Module, name: &[u8]) -> Option<NamedIte
     }
 }
 
+// The place of the parameter of a name in a header.
+fn parameter_named(params: &[Param], name: &[u8]) -> Option<Place> {
+    for param in params {
+        if param.name.bytes() == name {
+            return Some(param.place);
+        }
+    }
+    None
+}
+
 /// The port of a name.
 pub fn port_named<'a>(module: &'a Module, name: &[u8]) -> Option<&'a Decl> {
-    first_named(&module.ports, name)
+    module.ports.iter().find(|port| port.name.bytes() == name)
 }
 
 // What the items of a module declare a name as first.

@@ -123,12 +123,7 @@ fn in_assignment<'t>(
 }
 
 fn in_targets(targets: &[Target], place: Place) -> Option<FoundPart<'_>> {
-    for target in targets {
-        if let Some(found) = in_target(target, place) {
-            return Some(found);
-        }
-    }
-    None
+    targets.iter().find_map(|target| in_target(target, place))
 }
 
 fn in_target(target: &Target, place: Place) -> Option<FoundPart<'_>> {

@@ -104,11 +104,12 @@ pub returns-clause-found : goal.returns-clause-found
 returns-clause-found c =
     let tables = tables_of c.args.tables.now in
     let names = names_of c.args.scope.now in
+    let all = declarations (module_tree c.args.master.now) in
     let decls = c.deref-decl-items.result.now in
     let items = c.loop-index.signals.items in
     let i = c.loop-index.index in
     let front = map signal_form (take i items) in
-    let listed : declaration_trees decls ≡ declarations (module_tree c.args.master.now) =
+    let listed : declaration_trees decls ≡ all =
     ap (λ (ds : List (Bor Decl)). declaration_trees ds) c.deref-decl-items.ensures.value
     ∙ c.in_ok-decls.ensures in
     ap (λ (ds : List DeclarationTree).

@@ -52,13 +52,13 @@ loop-item-preserved c =
     let names = names_of c.args.scope.now in
     let n = c.args.to.width in
     let s = c.args.to.signed in
-    let i = c.loop-item.item-index in
     let item = c.item-item.result in
-    let rest = drop (i + 1) c.args.items.now in
+    let rest = drop (c.loop-item.item-index + 1) c.args.items.now in
     let old = c.loop-item.typed.items in
     let new = c.in_ok-typed_item.field-0 in
     let found = c.in_ok-typed_item.ensures.found in
-    let split = left_more c.args.items.now i item c.loop-item-test.true c.item-item.is in
+    let split = left_more c.args.items.now c.loop-item.item-index item c.loop-item-test.true
+    c.item-item.is in
     let wide = subst (λ (xs : List CaseItem). greatest xs ≤ n) split c.loop-item.invariant.wide in
     record {
       walk = ap (λ ts. mapped (λ fs. ts ++ fs) (items_walk names n s (item_trees rest)).end)

@@ -45,7 +45,10 @@ pub fn generate(alloc: Global, lanes: u32) -> Result<Vec<u8>, GenFault>
     if lanes == 0 || lanes > MOST_LANES {
         return Err(GenFault::Range);
     }
-    text_of(alloc, lanes).map_err(|_| GenFault::OutOfMemory)
+    match text_of(alloc, lanes) {
+        Ok(text) => Ok(text),
+        Err(_) => Err(GenFault::OutOfMemory),
+    }
 }
 
 // The text, for any number of lanes.

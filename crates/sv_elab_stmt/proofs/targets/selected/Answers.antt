@@ -28,15 +28,14 @@ returns-in_err-bits-in-Bit-clause-broken c =
 
 pub returns-in_err-high-in-Part-clause-broken : goal.returns-in_err-high-in-Part-clause-broken
 returns-in_err-high-in-Part-clause-broken c =
-    let names = names_of c.args.scope.now in
     let t = c.args.target.now in
-    let fault = c.in_err-high-in-Part.field-0.0 in
     handed_on c.from_residual-in_err-high-in-Part.result _ _
     c.from_residual-in_err-high-in-Part.ensures.1
-    (subst (λ sel. IsBreach (selection_steps names t.name t.place sel).end fault)
+    (subst (λ sel. IsBreach (selection_steps (names_of c.args.scope.now) t.name t.place sel).end
+    c.in_err-high-in-Part.field-0.0)
     (sym (ap selection_of c.in-Part.is))
-    (high_unfound names t.name t.place (expression_tree c.in-Part.high)
-    (expression_tree c.in-Part.low) fault
+    (high_unfound (names_of c.args.scope.now) t.name t.place (expression_tree c.in-Part.high)
+    (expression_tree c.in-Part.low) c.in_err-high-in-Part.field-0.0
     c.in_err-high-in-Part.ensures.broken))
 
 pub returns-in_err-low-in-Part-clause-broken : goal.returns-in_err-low-in-Part-clause-broken

@@ -120,7 +120,7 @@ fn link_too_many(alloc: Global, master: &Module) -> Result<String, AllocError> {
 
 // Of a link of no port of a module.
 fn no_port(alloc: Global, name: &[u8], master: &Module) -> Result<String, AllocError> {
-    let ports = names_in_row(alloc, &master.ports)?;
+    let ports = names_in_row(alloc, master.ports.as_slice())?;
     told(
         alloc,
         "the module `{}` has no port `{}`; its ports are {}",

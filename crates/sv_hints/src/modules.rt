@@ -18,7 +18,7 @@ pub fn no_top(alloc: Global, case: &Case, text: Option<&Text>) -> Result<String,
 
 // Of a top that is asked for and is no module.
 fn no_such_top(alloc: Global, text: &Text, top: &str) -> Result<String, AllocError> {
-    let modules = names_in_row(alloc, &text.modules)?;
+    let modules = names_in_row(alloc, text.modules.as_slice())?;
     told(
         alloc,
         "there is no module `{}`, which `--top` names; the modules are {}",

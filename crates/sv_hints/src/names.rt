@@ -416,7 +416,7 @@ fn is_signal(module: &Module, name: &[u8]) -> bool {
 
 // Of a map that there is not.
 fn unknown_map(alloc: Global, text: &Text, map: &[u8]) -> Result<String, AllocError> {
-    let maps = names_in_row(alloc, &text.maps)?;
+    let maps = names_in_row(alloc, text.maps.as_slice())?;
     told(
         alloc,
         "there is no label map `{}`; the label maps are: {}",

@@ -5,7 +5,7 @@ use crate::origins::{item_at, module_in};
 use crate::rows::Row;
 use crate::sentences::{Hole, told};
 use std::alloc::{AllocError, Global};
-use sv_ast::{Item, Module, Text};
+use sv_ast::{Item, Text};
 
 /// Of a text without a top.
 pub fn no_top(alloc: Global, case: &Case, text: Option<&Text>) -> Result<String, AllocError> {

@@ -28,14 +28,19 @@ IsSure (check file proof budget top json) = ⊥
 IsSure (gen lanes checks) = IsFalse checks
 IsSure request = Unit {0}
 
--- any two answers that are right for the same exchanges and stimulus are one
-abbrev pub HasOneAnswer : Request → Type 0
-HasOneAnswer request =
+-- this holds of any two answers that are right for the same exchanges and stimulus
+abbrev pub HoldsOfTwo : ((answer other : Answer) → (printed others : List ℕ) → Type 0) → Request →
+    Type 0
+HoldsOfTwo agree request =
     (exchanges : List Exchange) (stimulus : List ℕ) (answer other : Answer)
     (printed others : List ℕ)
     → IsDialogue request exchanges stimulus answer printed
     → IsDialogue request exchanges stimulus other others
-    → AreOneAnswer answer other printed others
+    → agree answer other printed others
+
+-- any two such answers are one
+abbrev pub HasOneAnswer : Request → Type 0
+HasOneAnswer request = HoldsOfTwo AreOneAnswer request
 
 -- The answer is a decision on obligations: that all are proved, that one is falsified, that the
 -- encoding of one is too large, or that the budget is spent on one.
@@ -51,11 +56,6 @@ abbrev pub AreOneOrDecisions : (answer other : Answer) → (printed others : Lis
 AreOneOrDecisions answer other printed others =
     AreOneAnswer answer other printed others ⊎ (IsDecision answer × IsDecision other)
 
--- of any two answers that are right for the same exchanges and stimulus
+-- any two such answers are one, or both are decisions
 abbrev pub HasSureRefusals : Request → Type 0
-HasSureRefusals request =
-    (exchanges : List Exchange) (stimulus : List ℕ) (answer other : Answer)
-    (printed others : List ℕ)
-    → IsDialogue request exchanges stimulus answer printed
-    → IsDialogue request exchanges stimulus other others
-    → AreOneOrDecisions answer other printed others
+HasSureRefusals request = HoldsOfTwo AreOneOrDecisions request

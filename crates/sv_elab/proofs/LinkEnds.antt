@@ -1,7 +1,7 @@
 -- Where the walk of links ends.
 use Rattle.std.proofs.Common.{◌≡◌, ℕ, Bool, true, false, not, List, [], ◌∷◌, ◌++◌, Option, Some}
-use Rattle.std.proofs.Common.{None, refl, sym, subst, ◌∙◌}
-use Rattle.std.specs.Prelude.{Ok, Err}
+use Rattle.std.proofs.Common.{None, refl, sym, ap, subst, ◌∙◌}
+use Rattle.std.specs.Prelude.{Result, Ok, Err}
 use Rattle.std.specs.List.{list_any}
 use Rattle.std.specs.Str.{bytes_eq}
 use Rattle.sv_num.specs.declared.faults.Place.{Place}
@@ -28,16 +28,21 @@ use Rattle.sv_elab.specs.Instances.{port_walk}
 -- ---- one link
 
 module _ (outer : Names) (ports : Ports) (d : DeclarationTree) (e : ExpressionTree) where
-  pub input_found : (v : TypedTree) → (expression_walk outer e (port_width ports d)).end ≡ Ok v
-      → (input_link outer ports d e).end
-      ≡ Ok (whole_assignment (place_of e) port_in (port_number ports d.name) (port_width ports d) v)
-  unfolding input_link
-  input_found v h = rw h refl
+  module _ (w : ℕ) (is : w ≡ port_width ports d) where
+    pub input_found : (v : TypedTree) → (expression_walk outer e w).end ≡ Ok v
+        → (input_link outer ports d e).end
+        ≡ Ok (whole_assignment (place_of e) port_in (port_number ports d.name) w v)
+    unfolding input_link
+    input_found v h =
+        let here = ap (λ n. (expression_walk outer e n).end) (sym is) ∙ h in
+        rw here (ap (λ n. let r : Result ProcessForm WalkStep = Ok
+        (whole_assignment (place_of e) port_in (port_number ports d.name) n v) in r) (sym is))
 
-  pub input_broken : (s : WalkStep) → (expression_walk outer e (port_width ports d)).end ≡ Err s
-      → (input_link outer ports d e).end ≡ Err s
-  unfolding input_link
-  input_broken s h = rw h refl
+    pub input_broken : (s : WalkStep) → (expression_walk outer e w).end ≡ Err s
+        → (input_link outer ports d e).end ≡ Err s
+    unfolding input_link
+    input_broken s h =
+        let here = ap (λ n. (expression_walk outer e n).end) (sym is) ∙ h in rw here refl
 
   pub output_found : (n : List ℕ) → whole_signal outer.scope e ≡ Some n
       → (output_link outer ports d e).end

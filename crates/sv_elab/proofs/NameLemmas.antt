@@ -36,8 +36,7 @@ after_insert keys m n false known =
     or_flip : (a b : Bool) → (a || (b || false)) ≡ (b || a)
     or_flip true true = refl
     or_flip true false = refl
-    or_flip false true = refl
-    or_flip false false = refl
+    or_flip false b = refl
 
 pub known_more : (keys : List (List ℕ)) (m : List ℕ) →
     KnowSame (insert_key bytes_eq keys m) (m ∷ keys)

@@ -1,8 +1,8 @@
 -- Where walks over lists end, part by part.
 use Rattle.std.proofs.Common.{◌≡◌, ℕ, ◌+◌, ◌<◌, ◌≤◌, Bool, true, List, [], ◌∷◌, ◌++◌, map, length}
-use Rattle.std.proofs.Common.{get_or, drop, refl, sym, ap, ◌∙◌, append_assoc}
+use Rattle.std.proofs.Common.{get_or, drop, refl, sym, ap, subst, ◌∙◌, append_assoc}
 use Rattle.std.proofs.lemmas.List.{append-nil, drop_more, at_drop_all}
-use Rattle.std.specs.Prelude.{Result, Ok, Err}
+use Rattle.std.specs.Prelude.{Result, Ok, Err, IsErrAnd, IfErr}
 use Rattle.sv_num.specs.declared.faults.Fault.{Fault}
 use Rattle.sv_num.specs.declared.faults.Fault.TheVariants.{Rule, OutOfMemory}
 use Rattle.sv_ast.specs.Tree.{ExpressionTree, StatementTree, StatementTrees, no_statements}
@@ -81,14 +81,27 @@ mapped_start (Err s) = refl
 breach_two : {Y : Type 0} (v w : Steps) (more : Unit {0} → Walk Y) (f : Fault)
     → IsBreach (v >>= λ _. w).end f
     → IsBreach (v >>= λ _. w >>= more).end f
-breach_two {Y} v w more (Rule r) h = by_first v.end h
+breach_two {Y} v w more f h = by_first v.end h
   where
     by_first : (first : Result (Unit {0}) WalkStep)
-        → (then_walk v.passed first (λ _. w)).end ≡ Err (step_of r)
-        → (then_walk v.passed first (λ _. w >>= more)).end ≡ Err (step_of r)
-    by_first (Ok x) h = end_broken w more (step_of r) h
-    by_first (Err s) h = cc h
-breach_two v w more OutOfMemory h = tt
+        → IsBreach (then_walk v.passed first (λ _. w)).end f
+        → IsBreach (then_walk v.passed first (λ _. w >>= more)).end f
+    by_first (Ok x) h = breach_first w more f h
+    by_first (Err s) h = h
+
+-- what a `?` hands on is refused as what it was handed
+pub handed_on : {T E : Type 0} (r : Result T E) (e : E) (P : E → Type 0) → IsErrAnd r (λ x. x ≡ e)
+    → P e → IfErr r P
+handed_on (Ok x) e P h p = tt
+handed_on (Err x) e P h p = subst P (sym h) p
+
+-- where a walk of what is left is broken, so is the whole
+pub rest_broken : {A X Y : Type 0} (whole : Result Y WalkStep) (walk : List A → Result X WalkStep)
+    (f : X → Y) (xs ys : List A) (fault : Fault) → mapped f (walk xs) ≡ whole → xs ≡ ys
+    → IsBreach (walk ys) fault → IsBreach whole fault
+rest_broken whole walk f xs ys fault is split h =
+    subst (λ r. IsBreach r fault) is (breach_mapped (walk xs) f fault
+    (subst (λ zs. IsBreach (walk zs) fault) (sym split) h))
 
 -- ---- items
 

@@ -1,20 +1,9 @@
--- The text of one lane, and what follows the head in that of three, by computation.
+-- What follows the head in the text of one lane and in that of three, by computation.
 use Rattle.std.proofs.Common.{◌≡◌, ◌++◌, codes, refl}
 use Rattle.std.specs.Fmt.{digits}
 use Rattle.sv_gen.specs.Sample.{head, sample_text}
 
-pub one_lane : sample_text 1 ≡
-    codes "labelmap Dom [0:0] 0: L; default: H; endlabelmap\n"
-    ++ codes "module lane(input clk, input turn, input req, input bin, "
-    ++ codes "input [7:0] {Dom(turn)} d,\n"
-    ++ codes "  output reg g, output reg [7:0] lo, output reg [7:0] {H} hi, output bout);\n"
-    ++ codes "  assign bout = bin | req;\n"
-    ++ codes "  always @(posedge clk) begin\n"
-    ++ codes "    g <= req & ~bin & ~turn;\n"
-    ++ codes "    if (turn) hi <= d; else lo <= d;\n"
-    ++ codes "  end\n"
-    ++ codes "endmodule\n"
-    ++ codes "module top(input clk, input turn\n"
+pub one_lane : sample_text 1 ≡ head
     ++ codes "  , input r0, input [7:0] {Dom(turn)} d0, output g0, output [7:0] l0, "
     ++ codes "output [7:0] {H} h0\n"
     ++ codes "  );\n"

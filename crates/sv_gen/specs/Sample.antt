@@ -1,6 +1,8 @@
 -- The text that `secv gen` prints: a design of so many lanes, which leaks nothing (this project's
 -- profile).
 use Rattle.std.specs.Prelude.{ℕ, zero, suc, ◌≤◌, List, [], ◌++◌, codes, decimal}
+use Rattle.sv_gen.specs.declared.sample.Line.{Line}
+use Rattle.sv_gen.specs.declared.sample.Line.TheVariants as line
 
 -- how many lanes there may be
 abbrev pub HasLanes : ℕ → Type 0
@@ -44,6 +46,12 @@ lane_line i =
     ++ codes "), .bin(" ++ bin_of i ++ codes "), .d(d" ++ decimal i
     ++ codes "), .g(g" ++ decimal i ++ codes "), .lo(l" ++ decimal i
     ++ codes "), .hi(h" ++ decimal i ++ codes "), .bout(b" ++ decimal i ++ codes "));\n"
+
+-- which of the three
+abbrev pub line_of : Line → (lane : ℕ) → List ℕ
+line_of line.Ports i = port_line i
+line_of line.Wire i = wire_line i
+line_of line.Instance i = lane_line i
 
 -- a line for each lane, from 0 on
 abbrev pub lines_below : (line : ℕ → List ℕ) → (lanes : ℕ) → List ℕ

@@ -1,8 +1,4 @@
 // Why there is no sample.
-ghost use Rattle.std.specs.Prelude.{◌≡◌};
-ghost use Rattle.sv_gen.specs.declared.faults.GenFault.TheVariants.{OutOfMemory};
-
-use std::alloc::AllocError;
 use thiserror::Error;
 
 /// Why there is no sample.
@@ -14,12 +10,4 @@ pub enum GenFault {
     /// Memory ran out.
     #[error("out of memory")]
     OutOfMemory,
-}
-
-impl From<AllocError> for GenFault {
-    ghost from_gives = { λ _ fault. fault ≡ OutOfMemory };
-
-    fn from(_error: AllocError) -> GenFault {
-        GenFault::OutOfMemory
-    }
 }

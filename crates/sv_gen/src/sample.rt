@@ -1,7 +1,7 @@
 // The text of a sample.
 ghost use Rattle.std.specs.Prelude.{◌≡◌, ◌≤◌, ◌++◌, length, IfOk, IsErrOf, OnOk};
-ghost use Rattle.sv_gen.specs.Sample.{HasLanes, sample_text, head, foot, port_line, wire_line};
-ghost use Rattle.sv_gen.specs.Sample.{lane_line, bin_of, lines_below};
+ghost use Rattle.sv_gen.specs.Sample.{HasLanes, sample_text, head, foot, port_line};
+ghost use Rattle.sv_gen.specs.Sample.{lane_line, bin_of, line_of, lines_below};
 
 use crate::faults::GenFault;
 use std::alloc::{AllocError, Global};
@@ -25,6 +25,14 @@ module top(input clk, input turn
 // What stands behind them.
 const FOOT: &str = "endmodule\n";
 
+// A line that each lane has.
+#[derive(Clone, Copy)]
+enum Line {
+    Ports,
+    Wire,
+    Instance,
+}
+
 /// The text of the sample with so many lanes. `Range` where they are not 1 to 200, else
 /// `OutOfMemory` where memory runs out.
 pub fn generate(alloc: Global, lanes: u32) -> Result<Vec<u8>, GenFault>
@@ -37,7 +45,10 @@ pub fn generate(alloc: Global, lanes: u32) -> Result<Vec<u8>, GenFault>
     if lanes == 0 || lanes > MOST_LANES {
         return Err(GenFault::Range);
     }
-    Ok(text_of(alloc, lanes)?)
+    match text_of(alloc, lanes) {
+        Ok(text) => Ok(text),
+        Err(_) => Err(GenFault::OutOfMemory),
+    }
 }
 
 // The text, for any number of lanes.
@@ -45,25 +56,36 @@ fn text_of(alloc: Global, lanes: u32) -> Result<Vec<u8>, AllocError>
     ensures { IfOk result (λ t. t.items ≡ sample_text lanes) }
 {
     let mut text = Vec::from_slice(alloc, HEAD.as_bytes())?;
-    push_ports(&mut text, alloc, lanes)?;
+    push_lines(&mut text, alloc, Line::Ports, lanes)?;
     text.extend_from_slice(b"  );\n")?;
-    push_wires(&mut text, alloc, lanes)?;
-    push_lanes(&mut text, alloc, lanes)?;
+    push_lines(&mut text, alloc, Line::Wire, lanes)?;
+    push_lines(&mut text, alloc, Line::Instance, lanes)?;
     text.extend_from_slice(FOOT.as_bytes())?;
     Ok(text)
 }
 
-// Writes the ports of each lane.
-fn push_ports(text: &mut Vec<u8>, alloc: Global, lanes: u32) -> Result<(), AllocError>
-    ensures { OnOk result (text.new.items ≡ text.old.items ++ lines_below port_line lanes) }
+// Writes this line of each lane.
+fn push_lines(text: &mut Vec<u8>, alloc: Global, line: Line, lanes: u32) -> Result<(), AllocError>
+    ensures { OnOk result (text.new.items ≡ text.old.items ++ lines_below (line_of line) lanes) }
 {
     for i in 0..lanes {
-        push_port(text, alloc, i)?;
+        push_line(text, alloc, line, i)?;
     }
     Ok(())
 }
 
-fn push_port(text: &mut Vec<u8>, alloc: Global, i: u32) -> Result<(), AllocError>
+fn push_line(text: &mut Vec<u8>, alloc: Global, line: Line, i: u32) -> Result<(), AllocError>
+    ensures { OnOk result (text.new.items ≡ text.old.items ++ line_of line i) }
+{
+    match line {
+        Line::Ports => push_ports(text, alloc, i),
+        Line::Wire => text.extend_from_slice(format!(in alloc; "  wire b{i};\n")?.as_bytes()),
+        Line::Instance => push_instance(text, alloc, i),
+    }
+}
+
+// Writes the ports of a lane.
+fn push_ports(text: &mut Vec<u8>, alloc: Global, i: u32) -> Result<(), AllocError>
     ensures { OnOk result (text.new.items ≡ text.old.items ++ port_line i) }
 {
     let inputs = format!(in alloc; "  , input r{i}, input [7:0] {{Dom(turn)}} d{i}")?;
@@ -73,33 +95,8 @@ fn push_port(text: &mut Vec<u8>, alloc: Global, i: u32) -> Result<(), AllocError
     Ok(())
 }
 
-// Writes the wire of each lane.
-fn push_wires(text: &mut Vec<u8>, alloc: Global, lanes: u32) -> Result<(), AllocError>
-    ensures { OnOk result (text.new.items ≡ text.old.items ++ lines_below wire_line lanes) }
-{
-    for i in 0..lanes {
-        push_wire(text, alloc, i)?;
-    }
-    Ok(())
-}
-
-fn push_wire(text: &mut Vec<u8>, alloc: Global, i: u32) -> Result<(), AllocError>
-    ensures { OnOk result (text.new.items ≡ text.old.items ++ wire_line i) }
-{
-    text.extend_from_slice(format!(in alloc; "  wire b{i};\n")?.as_bytes())
-}
-
-// Writes the instance of each lane.
-fn push_lanes(text: &mut Vec<u8>, alloc: Global, lanes: u32) -> Result<(), AllocError>
-    ensures { OnOk result (text.new.items ≡ text.old.items ++ lines_below lane_line lanes) }
-{
-    for i in 0..lanes {
-        push_lane(text, alloc, i)?;
-    }
-    Ok(())
-}
-
-fn push_lane(text: &mut Vec<u8>, alloc: Global, i: u32) -> Result<(), AllocError>
+// Writes the instance of a lane.
+fn push_instance(text: &mut Vec<u8>, alloc: Global, i: u32) -> Result<(), AllocError>
     ensures { OnOk result (text.new.items ≡ text.old.items ++ lane_line i) }
 {
     let inputs = format!(in alloc; "  lane u{i}(.clk(clk), .turn(turn), .req(r{i}), .bin(")?;

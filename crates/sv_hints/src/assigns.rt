@@ -1,9 +1,9 @@
 // What is said of assignments, of signals without a driver, and of circles of signals.
 use crate::cases::{Case, owned};
 use crate::instances::{instance_of, own_name};
+use crate::named::names_in_row;
 use crate::names::{NamedItem, first_declaration};
 use crate::origins::{item_at, module_in};
-use crate::rows::Row;
 use crate::sentences::{Hole, told};
 use crate::syntax::is_blocking_at;
 use std::alloc::{AllocError, Global};
@@ -168,20 +168,11 @@ pub fn circle(alloc: Global, case: &Case) -> Result<String, AllocError> {
             &[Hole::Name(case.name())],
         );
     }
-    let names = all_names(alloc, case)?;
+    let names = names_in_row(alloc, case.names)?;
     told(
         alloc,
         "these signals read each other in a circle without a register between, each the next and \
          the last `{}`: {}; break it by a register, or split a signal",
         &[Hole::Name(case.name()), Hole::Words(names.as_str())],
     )
-}
-
-// The names of a case, in a row.
-fn all_names(alloc: Global, case: &Case) -> Result<String, AllocError> {
-    let mut row = Row::new(alloc);
-    for name in case.names {
-        row.add(name.bytes(), "")?;
-    }
-    row.finish()
 }

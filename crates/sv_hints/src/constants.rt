@@ -24,21 +24,8 @@ pub struct Constants<'t> {
 
 // Whether an instance of the module sets a parameter.
 fn is_overridden(text: &Text, module: &Module) -> bool {
-    for around in &text.modules {
-        if sets_parameter(around, module.name.bytes()) {
-            return true;
-        }
-    }
-    false
-}
-
-fn sets_parameter(around: &Module, name: &[u8]) -> bool {
-    for item in &around.items {
-        if overrides(item, name) {
-            return true;
-        }
-    }
-    false
+    let name = module.name.bytes();
+    text.modules.iter().any(|around| around.items.iter().any(|item| overrides(item, name)))
 }
 
 fn overrides(item: &Item, name: &[u8]) -> bool {

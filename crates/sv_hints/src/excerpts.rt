@@ -74,27 +74,41 @@ fn shown(c: char) -> char {
 }
 
 // Blanks that take as much room as a character: none for a mark on the letter before, and two for a
-// wide letter (Unicode 15, East Asian Width W and F, by whole blocks).
+// wide letter.
 fn blanks(c: char) -> &'static str {
     match c as u32 {
         0x9 => "\t",
         0x300..=0x36f => "",
-        0x1100..=0x115f
-        | 0x2e80..=0x303e
-        | 0x3041..=0x4dbf
-        | 0x4e00..=0xa4cf
-        | 0xa960..=0xa97c
-        | 0xac00..=0xd7a3
-        | 0xf900..=0xfaff
-        | 0xfe30..=0xfe6b
-        | 0xff01..=0xff60
-        | 0xffe0..=0xffe6
-        | 0x1f300..=0x1f64f
-        | 0x1f680..=0x1f6ff
-        | 0x1f900..=0x1f9ff
-        | 0x20000..=0x3fffd => "  ",
+        code if is_wide(code) => "  ",
         _ => " ",
     }
+}
+
+// The first and the last of each block of wide letters (Unicode 15, East Asian Width W and F).
+const WIDE: [(u32, u32); 14] = [
+    (0x1100, 0x115f),
+    (0x2e80, 0x303e),
+    (0x3041, 0x4dbf),
+    (0x4e00, 0xa4cf),
+    (0xa960, 0xa97c),
+    (0xac00, 0xd7a3),
+    (0xf900, 0xfaff),
+    (0xfe30, 0xfe6b),
+    (0xff01, 0xff60),
+    (0xffe0, 0xffe6),
+    (0x1f300, 0x1f64f),
+    (0x1f680, 0x1f6ff),
+    (0x1f900, 0x1f9ff),
+    (0x20000, 0x3fffd),
+];
+
+fn is_wide(code: u32) -> bool {
+    for block in &WIDE {
+        if block.0 <= code && code <= block.1 {
+            return true;
+        }
+    }
+    false
 }
 
 fn push_shown(lines: &mut String, text: &str) -> Result<(), AllocError> {

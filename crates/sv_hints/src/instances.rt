@@ -15,12 +15,9 @@ pub fn own_name(name: &[u8]) -> &[u8] {
 
 /// The first module of a name.
 pub fn module_named<'t>(text: &'t Text, name: &[u8]) -> Option<&'t Module> {
-    for module in &text.modules {
-        if module.name.bytes() == name {
-            return Some(module);
-        }
-    }
-    None
+    text.modules
+        .iter()
+        .find(|module| module.name.bytes() == name)
 }
 
 /// The module of an instance.

@@ -20,6 +20,7 @@ mod links;
 mod maps;
 mod mistakes;
 mod modules;
+mod named;
 mod names;
 mod numerals;
 mod origins;

@@ -1,6 +1,7 @@
 // What is said of links and overrides of an instance.
 use crate::cases::Case;
 use crate::instances::{instance_of, master_of, own_name};
+use crate::named::names_in_row;
 use crate::names::{NamedItem, first_declaration, port_named};
 use crate::origins::{is_up_to, item_at, module_at};
 use crate::rows::{Row, shown};
@@ -119,26 +120,16 @@ fn link_too_many(alloc: Global, master: &Module) -> Result<String, AllocError> {
 
 // Of a link of no port of a module.
 fn no_port(alloc: Global, name: &[u8], master: &Module) -> Result<String, AllocError> {
-    let module = shown(alloc, master.name.bytes())?;
-    let ports = all_ports(alloc, master)?;
+    let ports = names_in_row(alloc, master.ports.as_slice())?;
     told(
         alloc,
         "the module `{}` has no port `{}`; its ports are {}",
         &[
-            Hole::Words(module.as_str()),
+            Hole::Name(master.name.bytes()),
             Hole::Name(name),
             Hole::Words(ports.as_str()),
         ],
     )
-}
-
-// The ports of a module, in a row.
-fn all_ports(alloc: Global, master: &Module) -> Result<String, AllocError> {
-    let mut row = Row::new(alloc);
-    for port in &master.ports {
-        row.add(port.name.bytes(), "")?;
-    }
-    row.finish()
 }
 
 // The name at a place that is linked whole.

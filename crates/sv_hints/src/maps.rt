@@ -108,12 +108,7 @@ fn first_map<'t>(text: Option<&'t Text>, name: &[u8]) -> Option<&'t MapText> {
 
 /// The label map of a name.
 pub fn map_named<'t>(text: &'t Text, name: &[u8]) -> Option<&'t MapText> {
-    for map in &text.maps {
-        if map.name.bytes() == name {
-            return Some(map);
-        }
-    }
-    None
+    text.maps.iter().find(|map| map.name.bytes() == name)
 }
 
 // The map at the place of a case.

@@ -1,10 +1,11 @@
 // What is said of modules and instances.
 use crate::cases::{Case, owned};
+use crate::named::names_in_row;
 use crate::origins::{item_at, module_in};
 use crate::rows::Row;
 use crate::sentences::{Hole, told};
 use std::alloc::{AllocError, Global};
-use sv_ast::{Item, Module, Text};
+use sv_ast::{Item, Text};
 
 /// Of a text without a top.
 pub fn no_top(alloc: Global, case: &Case, text: Option<&Text>) -> Result<String, AllocError> {
@@ -17,21 +18,12 @@ pub fn no_top(alloc: Global, case: &Case, text: Option<&Text>) -> Result<String,
 
 // Of a top that is asked for and is no module.
 fn no_such_top(alloc: Global, text: &Text, top: &str) -> Result<String, AllocError> {
-    let modules = all_modules(alloc, text)?;
+    let modules = names_in_row(alloc, text.modules.as_slice())?;
     told(
         alloc,
         "there is no module `{}`, which `--top` names; the modules are {}",
         &[Hole::Asked(top), Hole::Words(modules.as_str())],
     )
-}
-
-// The modules of a text, in a row.
-fn all_modules(alloc: Global, text: &Text) -> Result<String, AllocError> {
-    let mut row = Row::new(alloc);
-    for module in &text.modules {
-        row.add(module.name.bytes(), "")?;
-    }
-    row.finish()
 }
 
 // Of a text of which no module, or more than one, stands in no other one.
@@ -75,21 +67,7 @@ fn all_tops(alloc: Global, text: &Text) -> Result<String, AllocError> {
 
 /// Whether some module has an instance of this one.
 pub fn is_instanced(text: &Text, name: &[u8]) -> bool {
-    for module in &text.modules {
-        if holds_instance(module, name) {
-            return true;
-        }
-    }
-    false
-}
-
-fn holds_instance(module: &Module, name: &[u8]) -> bool {
-    for item in &module.items {
-        if is_instance(item, name) {
-            return true;
-        }
-    }
-    false
+    text.modules.iter().any(|module| module.items.iter().any(|item| is_instance(item, name)))
 }
 
 fn is_instance(item: &Item, name: &[u8]) -> bool {

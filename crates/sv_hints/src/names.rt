@@ -4,8 +4,9 @@ use crate::constants::Constants;
 use crate::contexts::{Use, is_in_value, spot_at, use_at};
 use crate::instances::module_named;
 use crate::maps::{counts_of, map_named, no_point};
+use crate::named::names_in_row;
 use crate::origins::{is_up_to, module_at, module_in};
-use crate::rows::{Row, shown};
+use crate::rows::shown;
 use crate::sentences::{Hole, told};
 use std::alloc::{AllocError, Global};
 use sv_ast::{Decl, Item, LabelText, MapText, Module, Param, Text};
@@ -53,12 +54,7 @@ fn parameter_named(params: &[Param], name: &[u8]) -> Option<Place> {
 
 /// The port of a name.
 pub fn port_named<'a>(module: &'a Module, name: &[u8]) -> Option<&'a Decl> {
-    for port in &module.ports {
-        if port.name.bytes() == name {
-            return Some(port);
-        }
-    }
-    None
+    module.ports.iter().find(|port| port.name.bytes() == name)
 }
 
 // What the items of a module declare a name as first.
@@ -181,13 +177,12 @@ fn is_own_value(alloc: Global, case: &Case, parameter: Place) -> Result<bool, Al
 
 // Of a name that a module does not declare.
 fn undeclared(alloc: Global, case: &Case, around: &[u8]) -> Result<String, AllocError> {
-    let name = shown(alloc, case.name())?;
     let declaration = declaration_at(alloc, case)?;
     told(
         alloc,
         "there is no signal or parameter `{}` in module `{}`: declare it, as in {}",
         &[
-            Hole::Words(name.as_str()),
+            Hole::Name(case.name()),
             Hole::Name(around),
             Hole::Words(declaration.as_str()),
         ],
@@ -421,21 +416,12 @@ fn is_signal(module: &Module, name: &[u8]) -> bool {
 
 // Of a map that there is not.
 fn unknown_map(alloc: Global, text: &Text, map: &[u8]) -> Result<String, AllocError> {
-    let maps = all_maps(alloc, text)?;
+    let maps = names_in_row(alloc, text.maps.as_slice())?;
     told(
         alloc,
         "there is no label map `{}`; the label maps are: {}",
         &[Hole::Name(map), Hole::Words(maps.as_str())],
     )
-}
-
-// The label maps of a text, in a row.
-fn all_maps(alloc: Global, text: &Text) -> Result<String, AllocError> {
-    let mut row = Row::new(alloc);
-    for map in &text.maps {
-        row.add(map.name.bytes(), "")?;
-    }
-    row.finish()
 }
 
 // Of a selector too many or too few.

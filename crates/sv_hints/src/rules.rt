@@ -56,18 +56,6 @@ fn by_tree(
         Rule::Port => link(alloc, case, text),
         Rule::TooMany => too_many(alloc, case, text),
         Rule::Parameter => parameter(alloc, case, text),
-        _ => by_module(alloc, rule, case, text),
-    }
-}
-
-// What is said of a rule on what stands in a module.
-fn by_module(
-    alloc: Global,
-    rule: Rule,
-    case: &Case,
-    text: Option<&Text>,
-) -> Result<String, AllocError> {
-    match rule {
         Rule::UnknownName => unknown_name(alloc, case, text),
         Rule::TooWide | Rule::BadSelect | Rule::BadCount | Rule::BadRange => {
             selects::by_constants(alloc, rule, case, text)

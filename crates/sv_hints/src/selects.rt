@@ -27,6 +27,7 @@ enum FoundPart<'t> {
     Part(&'t [u8], &'t Expr, &'t Expr),
     Expr(&'t Expr),
     Targets(&'t [Target]),
+    Count(&'t Expr),
 }
 
 // The first of two that there is.
@@ -101,7 +102,7 @@ fn as_long(expr: &Expr, place: Place) -> Option<FoundPart<'_>> {
 
 fn as_count(expr: &Expr, place: Place) -> Option<FoundPart<'_>> {
     match expr {
-        Expr::Repeat(_, count, _) if count.place() == place => Some(FoundPart::Expr(count)),
+        Expr::Repeat(_, count, _) if count.place() == place => Some(FoundPart::Count(count)),
         _ => None,
     }
 }
@@ -122,12 +123,7 @@ fn in_assignment<'t>(
 }
 
 fn in_targets(targets: &[Target], place: Place) -> Option<FoundPart<'_>> {
-    for target in targets {
-        if let Some(found) = in_target(target, place) {
-            return Some(found);
-        }
-    }
-    None
+    targets.iter().find_map(|target| in_target(target, place))
 }
 
 fn in_target(target: &Target, place: Place) -> Option<FoundPart<'_>> {
@@ -269,11 +265,11 @@ fn in_module(
     match rule {
         Rule::TooWide => {
             let found = found_at(module, place, SoughtPart::Length(place));
-            too_wide(alloc, length_of(constants, found))
+            too_wide(alloc, number_of(constants, found))
         }
         Rule::BadCount => {
             let found = found_at(module, place, SoughtPart::Count(place));
-            bad_count(alloc, count_in(constants, found))
+            bad_count(alloc, number_of(constants, found))
         }
         Rule::BadRange => bad_range(alloc, bounds_of(constants, range_at(module, place))),
         _ => {
@@ -397,11 +393,12 @@ fn too_wide(alloc: Global, length: Option<u64>) -> Result<String, AllocError> {
     }
 }
 
-// How many bits has what is found to have too many.
-fn length_of(constants: &Constants, found: Option<FoundPart>) -> Option<u64> {
+// How many bits has what is found to have too many, and the value of what is found to be a count.
+fn number_of(constants: &Constants, found: Option<FoundPart>) -> Option<u64> {
     match found? {
         FoundPart::Expr(expr) => constants.length(expr),
         FoundPart::Targets(targets) => constants.targets_length(targets),
+        FoundPart::Count(count) => constants.value(count),
         _ => None,
     }
 }
@@ -417,14 +414,6 @@ fn bad_count(alloc: Global, count: Option<u64>) -> Result<String, AllocError> {
             &[Hole::Number(count)],
         ),
         None => owned(alloc, BAD_COUNT),
-    }
-}
-
-// The value of what is found to be a count.
-fn count_in(constants: &Constants, found: Option<FoundPart>) -> Option<u64> {
-    match found? {
-        FoundPart::Expr(count) => constants.value(count),
-        _ => None,
     }
 }
 

@@ -1,16 +1,15 @@
 -- The text of a verdict for machines (this project's profile).
-use Rattle.std.specs.Prelude.{◌≡◌, ℕ, List, Option, Some, None}
+use Rattle.std.specs.Prelude.{◌≡◌, ℕ, List, Option}
 use Rattle.sv_flat.specs.declared.designs.Flat.{Flat}
-use Rattle.sv_flat.specs.Views.{design_of}
 use Rattle.sv_obl.specs.declared.queries.Query.{Query}
 use Rattle.sv_obl.specs.declared.valuations.Valuation.{Valuation}
-use Rattle.sv_obl.specs.Views.{obligation_of}
 use Rattle.sv_report.specs.declared.verdicts.Broken.{Broken}
 use Rattle.sv_report.specs.declared.verdicts.Broken.TheVariants as broken
 use Rattle.sv_report.specs.declared.verdicts.Verdict.{Verdict}
 use Rattle.sv_report.specs.declared.verdicts.Verdict.TheVariants as verdict
 use Rattle.sv_report.specs.JsonTexts.{accepted_json, refusal_json, limit_json, unknown_json}
 use Rattle.sv_report.specs.JsonTexts.{IsFlowJson}
+use Rattle.sv_report.specs.Verdicts.{IsGiven}
 
 -- it is of a text, and not of a certificate or of runs
 abbrev pub IsOfText : Broken → Type 0
@@ -27,10 +26,8 @@ HasJson other = Unit {0}
 -- the text is that of the obligation that is given with its design
 abbrev pub IsGivenFlowJson : Option Flat → Option Query → (number : ℕ) → Valuation →
     (text : List ℕ) → Type 0
-IsGivenFlowJson (Some design) (Some query) number v text =
-    IsFlowJson (design_of design) number (obligation_of query) v text
-IsGivenFlowJson (Some design) None number v text = ⊥
-IsGivenFlowJson None query number v text = ⊥
+IsGivenFlowJson design query number v text =
+    IsGiven (λ d o. IsFlowJson d number o v text) design query
 
 -- the text tells why something is refused
 abbrev pub IsRefusalJson : Option Flat → Option Query → Broken → (text : List ℕ) → Type 0

@@ -29,11 +29,15 @@ pub record FailsAt (design : FlatDesign) (o : Obligation) (v : Valuation) : Type
   pub fits : FitsDesign design v
   pub fails : Falsifies design (valuation_of design v) o
 
+-- a design is given with an obligation, and this holds of the two
+abbrev pub IsGiven : (FlatDesign → Obligation → Type 0) → Option Flat → Option Query → Type 0
+IsGiven holds (Some design) (Some query) = holds (design_of design) (obligation_of query)
+IsGiven holds (Some design) None = ⊥
+IsGiven holds None query = ⊥
+
 -- what is given is such a design with such an obligation
 abbrev pub IsGivenFailing : Option Flat → Option Query → Valuation → Type 0
-IsGivenFailing (Some design) (Some query) v = FailsAt (design_of design) (obligation_of query) v
-IsGivenFailing (Some design) None v = ⊥
-IsGivenFailing None query v = ⊥
+IsGivenFailing design query v = IsGiven (λ d o. FailsAt d o v) design query
 
 -- a design is given, and the signal is one of it
 abbrev pub IsGivenSignal : Option Flat → (signal : ℕ) → Type 0
@@ -54,10 +58,8 @@ IsTellable design query other = Unit {0}
 -- the text is that of the obligation that is given with its design
 abbrev pub IsGivenFlowText : Option Flat → Option Query → (number : ℕ) → Valuation →
     (text : List ℕ) → Type 0
-IsGivenFlowText (Some design) (Some query) number v text =
-    IsFlowText (design_of design) number (obligation_of query) v text
-IsGivenFlowText (Some design) None number v text = ⊥
-IsGivenFlowText None query number v text = ⊥
+IsGivenFlowText design query number v text =
+    IsGiven (λ d o. IsFlowText d number o v text) design query
 
 -- the name of a signal of the given design; nothing where none is given
 abbrev pub given_name : Option Flat → (signal : ℕ) → List ℕ

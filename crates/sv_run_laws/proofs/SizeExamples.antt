@@ -23,13 +23,9 @@ typed_size e = nodes_in (typed_of signals e 8 false)
 abbrev sum : ExpressionTree
 sum = op binop.Add 3 (name "a" 1) (decimal 1 5)
 
-pub a_sum_has_three : source_nodes sum ≡ 3
-unfolding source_nodes
-a_sum_has_three = refl
-
-pub typed_sums_have_three : typed_size sum ≡ 3
-unfolding computing
-typed_sums_have_three = refl
+pub a_sum_has_three : (source_nodes sum ≡ 3) × (typed_size sum ≡ 3)
+unfolding source_nodes computing
+a_sum_has_three = (refl, refl)
 
 -- {a[a + 1], {2{a}}}
 abbrev parts_of_a : ExpressionTree

@@ -35,22 +35,12 @@ use Rattle.sv_words.proofs.Given.{StandsAt, required_is_given, value_is_read}
 free_line : (n : CommandName) → is_simple_and_free (line_of n) ≡ true
 unfolding line_of clap_on_literals
 free_line name.Check = refl
-free_line name.Verify = refl
-free_line name.List = refl
-free_line name.Cnf = refl
-free_line name.Sim = refl
-free_line name.Compare = refl
-free_line name.Gen = refl
+free_line other = refl
 
 simple_line : (n : CommandName) → is_simple (line_of n) ≡ true
 unfolding line_of clap_on_literals
 simple_line name.Check = refl
-simple_line name.Verify = refl
-simple_line name.List = refl
-simple_line name.Cnf = refl
-simple_line name.Sim = refl
-simple_line name.Compare = refl
-simple_line name.Gen = refl
+simple_line other = refl
 
 file_of_check : StandsAt (line_of name.Check) 0 (needed (codes "FILE"))
 unfolding line_of

@@ -26,8 +26,7 @@ returns-in-Fault c =
 
 pub returns-in-TooLarge : goal.returns-in-TooLarge
 returns-in-TooLarge c =
-    let design = design_of c.args.design.now in
-    large_reports design c.args.bytes.now c.in-TooLarge.number
-    (subst (WhereLarge (IsTooLargeToVerify design c.args.bytes.now)) c.in-TooLarge.is
+    large_reports (design_of c.args.design.now) c.args.bytes.now c.in-TooLarge.number
+    (subst (WhereLarge (IsTooLargeToVerify (design_of c.args.design.now) c.args.bytes.now)) c.in-TooLarge.is
     c.in_ok-count.ensures.too_large)
     c.report_of_large.result c.report_of_large.ensures

@@ -19,11 +19,9 @@ returns-in_err-report_of_proof-in-Ok g c =
     let C = g.C.Cabinet in
     let design = design_of c.args.design.now in
     let proof = c.args.proof.now in
-    let old = files_by C.exchanges C.held C.fetch_faults C.store_faults c.args.cabinet.now in
-    let new = files_by C.exchanges C.held C.fetch_faults C.store_faults c.fetch_once.new.cabinet in
     let got = whole c.in-Ok.bytes.items in
     spent_readied (MayFetchOwn proof design)
-    (λ exchanges. Says (VerifiesFetched proof design exchanges)) C.tells old new
+    (λ exchanges. Says (VerifiesFetched proof design exchanges)) C.tells (files_by C.exchanges C.held C.fetch_faults C.store_faults c.args.cabinet.now) (files_by C.exchanges C.held C.fetch_faults C.store_faults c.fetch_once.new.cabinet)
     (fetched proof got ∷ []) c.from_residual.result c.in-Ok.ensures.passed
     (may_fetch proof design c.requires.few got) c.from_residual.ensures.1
 
@@ -31,11 +29,8 @@ pub returns-in-Ok : goal.returns-in-Ok
 returns-in-Ok g c =
     let C = g.C.Cabinet in
     let design = design_of c.args.design.now in
-    let proof = c.args.proof.now in
-    let old = files_by C.exchanges C.held C.fetch_faults C.store_faults c.args.cabinet.now in
-    let new = files_by C.exchanges C.held C.fetch_faults C.store_faults c.fetch_once.new.cabinet in
     let report = c.in_ok-report_of_proof-in-Ok.field-0 in
-    judged_readied proof design c.requires.few C.tells old new c.in-Ok.bytes
+    judged_readied c.args.proof.now design c.requires.few C.tells (files_by C.exchanges C.held C.fetch_faults C.store_faults c.args.cabinet.now) (files_by C.exchanges C.held C.fetch_faults C.store_faults c.fetch_once.new.cabinet) c.in-Ok.bytes
     c.in-Ok.ensures.passed c.in-Ok.ensures.within c.in-Ok.ensures.kept report
     (subst (λ (bytes : List ℕ). Says (Judges design bytes) report) c.deref.ensures.value
     c.in_ok-report_of_proof-in-Ok.ensures)
@@ -60,11 +55,7 @@ returns-in_err-report_of_bare_limit-in-Err-Long g c =
 pub returns-in-Err-Long : goal.returns-in-Err-Long
 returns-in-Err-Long g c =
     let C = g.C.Cabinet in
-    let design = design_of c.args.design.now in
-    let proof = c.args.proof.now in
-    let old = files_by C.exchanges C.held C.fetch_faults C.store_faults c.args.cabinet.now in
-    let new = files_by C.exchanges C.held C.fetch_faults C.store_faults c.fetch_once.new.cabinet in
-    oversized_readied proof design c.requires.few C.tells old new c.in-Err-Long.field-0
+    oversized_readied c.args.proof.now (design_of c.args.design.now) c.requires.few C.tells (files_by C.exchanges C.held C.fetch_faults C.store_faults c.args.cabinet.now) (files_by C.exchanges C.held C.fetch_faults C.store_faults c.fetch_once.new.cabinet) c.in-Err-Long.field-0
     c.in-Err-Long.ensures.passed c.in-Err-Long.field-0-0 c.in-Err-Long.field-0-is
     (subst (λ (f : FetchFault). let r : Result (Vec ℕ) FetchFault = Err f in
     IfLong r (λ bytes. length bytes ≡ largest_proof + 1)) c.in-Err-Long.field-0-is
@@ -76,12 +67,9 @@ pub returns-in-Err-Failed : goal.returns-in-Err-Failed
 returns-in-Err-Failed g c =
     let C = g.C.Cabinet in
     let design = design_of c.args.design.now in
-    let proof = c.args.proof.now in
-    let old = files_by C.exchanges C.held C.fetch_faults C.store_faults c.args.cabinet.now in
-    let new = files_by C.exchanges C.held C.fetch_faults C.store_faults c.fetch_once.new.cabinet in
-    unread_readied proof design c.requires.few C.tells old new c.in-Err-Failed.field-0
+    unread_readied c.args.proof.now design c.requires.few C.tells (files_by C.exchanges C.held C.fetch_faults C.store_faults c.args.cabinet.now) (files_by C.exchanges C.held C.fetch_faults C.store_faults c.fetch_once.new.cabinet) c.in-Err-Failed.field-0
     c.in-Err-Failed.ensures.passed
-    (λ exchanges. Says (VerifiesFetched proof design exchanges)) c.in-Err-Failed.field-0-is
+    (λ exchanges. Says (VerifiesFetched c.args.proof.now design exchanges)) c.in-Err-Failed.field-0-is
     (c.in-Err-Failed.ensures.failed
     (err_is c.in-Err-Failed.field-0 Failed c.in-Err-Failed.field-0-is))
 
@@ -90,8 +78,6 @@ returns g c =
     let C = g.C.Cabinet in
     let design = design_of c.args.design.now in
     let proof = c.args.proof.now in
-    let old = files_by C.exchanges C.held C.fetch_faults C.store_faults c.args.cabinet.now in
-    let new = files_by C.exchanges C.held C.fetch_faults C.store_faults c.fetch_once.new.cabinet in
-    spent_fetching proof design c.requires.few C.tells old new c.in-Err-OutOfMemory.field-0
+    spent_fetching proof design c.requires.few C.tells (files_by C.exchanges C.held C.fetch_faults C.store_faults c.args.cabinet.now) (files_by C.exchanges C.held C.fetch_faults C.store_faults c.fetch_once.new.cabinet) c.in-Err-OutOfMemory.field-0
     c.in-Err-OutOfMemory.ensures.passed
     (λ exchanges. Says (VerifiesFetched proof design exchanges)) c.in-Err-OutOfMemory.field-0-is

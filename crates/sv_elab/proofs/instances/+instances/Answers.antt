@@ -21,16 +21,12 @@ use Rattle.sv_elab.proofs.instances.+instances.Goals as goal
 pub add_instance-returns-in_err-master-clause-broken :
     goal.add_instance-returns-in_err-master-clause-broken
 add_instance-returns-in_err-master-clause-broken t c =
-    let tables = tables_of c.args.shared.now.tables in
-    let names = names_of c.args.inside.now.scope.now in
-    let taken = taken_in c.args.inside.now in
-    let built = built_form c.args.built.now in
-    let i = instance_tree c.args.instance.now in
-    let nest = c.args.nest.now in
-    let n = c.args.levels in
     let p = err_from_is_err_and c.from_residual.result c.from_residual.ensures.1 in
     rw (p.1, p.2) (breach_on c.in_err-master.field-0.0 _ _
-    (master_broken tables names taken built i nest n) c.in_err-master.ensures.broken)
+    (master_broken (tables_of c.args.shared.now.tables) (names_of c.args.inside.now.scope.now)
+    (taken_in c.args.inside.now) (built_form c.args.built.now) (instance_tree c.args.instance.now)
+    c.args.nest.now c.args.levels)
+    c.in_err-master.ensures.broken)
 
 pub add_instance-returns-in_err-scope-clause-broken :
     goal.add_instance-returns-in_err-scope-clause-broken
@@ -158,14 +154,13 @@ add_items-returns-in_err-add_item-clause-broken t c =
     let tables = tables_of c.args.shared.now.tables in
     let inside = site_walk c.args.levels tables in
     let names = names_of c.args.scope.now in
-    let items = c.args.items.now in
-    let k = c.loop-item.item-index in
     let item = c.item-item.result in
     let site = site_at c.loop-item.nest in
     let taken = taken_in c.loop-item.inside in
     let built = built_form c.loop-item.built in
-    let split = left_more items k item c.loop-item-test.true c.item-item.is in
-    let rest = map item_tree (drop (k + 1) items) in
+    let split = left_more c.args.items.now c.loop-item.item-index item c.loop-item-test.true
+    c.item-item.is in
+    let rest = map item_tree (drop (c.loop-item.item-index + 1) c.args.items.now) in
     let p = err_from_is_err_and c.from_residual.result c.from_residual.ensures.1 in
     rw (p.1, p.2) (breach_on c.in_err-add_item.field-0.0 _ _
     (λ s h. sym c.loop-item.invariant.walk

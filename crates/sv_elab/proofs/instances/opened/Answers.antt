@@ -26,19 +26,18 @@ pub returns-in_err-signals-clause-broken : goal.returns-in_err-signals-clause-br
 returns-in_err-signals-clause-broken c =
     let tables = tables_of c.args.tables.now in
     let site = site_of c.args.site.now in
-    let m = module_tree c.args.site.now.master.now in
     let built = built_form c.args.built.now in
-    let base = c.args.site.now.base in
     let d = c.in_ok-scope.field-0 in
     let p = err_from_is_err_and c.from_residual-in_err-signals.result
     c.from_residual-in_err-signals.ensures.1 in
     rw (p.1, p.2)
     (breach_on c.in_err-signals.field-0.0 _ (opened_walk tables site built).end
-    (λ s h. labels_broken tables site built base
+    (λ s h. labels_broken tables site built c.args.site.now.base
     (length-map c.args.built.now.signals.items signal_form ∙ sym c.requires.base)
     (declared_of d) c.in_ok-scope.ensures.found s
     (ap (λ (n : Names).
-    (labels_walk tables n (declarations m) (map signal_form d.signals.items)).end)
+    (labels_walk tables n (declarations (module_tree c.args.site.now.master.now))
+    (map signal_form d.signals.items)).end)
     (sym c.in_ok-scope.ensures.names) ∙ h))
     c.in_err-signals.ensures.broken)
 

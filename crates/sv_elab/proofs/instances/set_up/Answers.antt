@@ -62,14 +62,11 @@ opens c ps h =
 
 pub returns-in_err-set-clause-broken : goal.returns-in_err-set-clause-broken
 returns-in_err-set-clause-broken c =
-    let tables = tables_of c.args.shared.now.tables in
-    let outer = names_of c.args.outer.now in
-    let m = module_tree c.args.master.now in
-    let built = built_form c.args.built.now in
-    let i = instance_tree c.args.instance.now in
-    let path = c.args.nest.now.path in
     let p = err_from_is_err_and c.from_residual.result c.from_residual.ensures.1 in
-    rw (p.1, p.2) (breach_on c.in_err-set.field-0.0 _ _ (unset tables outer path m built i)
+    rw (p.1, p.2) (breach_on c.in_err-set.field-0.0 _ _
+    (unset (tables_of c.args.shared.now.tables) (names_of c.args.outer.now) c.args.nest.now.path
+    (module_tree c.args.master.now) (built_form c.args.built.now)
+    (instance_tree c.args.instance.now))
     c.in_err-set.ensures.broken)
 
 pub returns-in_err-declared-clause-broken : goal.returns-in_err-declared-clause-broken

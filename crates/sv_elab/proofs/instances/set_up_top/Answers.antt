@@ -1,4 +1,4 @@
-use Rattle.std.proofs.Common.{◌≡◌, [], length, refl, sym, ap, ◌∙◌}
+use Rattle.std.proofs.Common.{◌≡◌, length, refl, sym, ap, ◌∙◌}
 use Rattle.std.proofs.lemmas.List.{length-map}
 use Rattle.std.proofs.lemmas.Result.{err_from_is_err_and}
 use Rattle.sv_ast.specs.Instances.{entry}
@@ -17,10 +17,8 @@ use Rattle.sv_elab.proofs.instances.set_up_top.Goals.{After-path}
 
 -- the site that the code has
 abbrev there : After-path → Site
-there c = record {
+there c = record (top_site (module_tree c.args.master.now)) {
   path = c.path.result.now;
-  around = [];
-  master = module_tree c.args.master.now;
   set = settings_of c.new-set.result.entries;
 }
 

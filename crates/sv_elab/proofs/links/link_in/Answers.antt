@@ -7,8 +7,7 @@ use Rattle.sv_ast.specs.GrammarModules.{place_of}
 use Rattle.sv_flat.specs.Design.{ProcessForm, port_in}
 use Rattle.sv_flat.specs.Views.{typed_tree}
 use Rattle.sv_elab_rules.specs.Walks.{WalkStep}
-use Rattle.sv_elab_rules.specs.ExpressionSteps.{expression_walk}
-use Rattle.sv_elab_rules.specs.Links.{whole_assignment, port_number, input_link}
+use Rattle.sv_elab_rules.specs.Links.{whole_assignment}
 use Rattle.sv_width.specs.Scopes.{names_of}
 use Rattle.sv_elab.specs.Instances.{ports_form}
 use Rattle.sv_elab.proofs.DeclaredLattices.{breach_on}
@@ -17,29 +16,20 @@ use Rattle.sv_elab.proofs.links.link_in.Goals as goal
 
 pub returns-in_err-value-clause-broken : goal.returns-in_err-value-clause-broken
 returns-in_err-value-clause-broken c =
-    let names = names_of c.args.outer.now in
-    let ports = ports_form c.args.ports.now in
-    let d = declaration_tree c.args.port.now in
-    let e = expression_tree c.args.expr.now in
     let p = err_from_is_err_and c.from_residual.result c.from_residual.ensures.1 in
     rw (p.1, p.2)
-    (breach_on c.in_err-value.field-0.0 _ (input_link names ports d e).end
-    (λ s h. input_broken names ports d e s
-    (ap (λ w. (expression_walk names e w).end) (sym c.width_of-width.ensures.width) ∙ h))
-    c.in_err-value.ensures.broken)
+    (breach_on c.in_err-value.field-0.0 _ _
+    (input_broken (names_of c.args.outer.now) (ports_form c.args.ports.now)
+    (declaration_tree c.args.port.now) (expression_tree c.args.expr.now)
+    c.width_of-width.result c.width_of-width.ensures.width) c.in_err-value.ensures.broken)
 
 pub returns-clause-found : goal.returns-clause-found
 returns-clause-found c =
-    let names = names_of c.args.outer.now in
-    let ports = ports_form c.args.ports.now in
-    let d = declaration_tree c.args.port.now in
     let e = expression_tree c.args.expr.now in
     let v = typed_tree c.in_ok-value.value in
-    let width = c.width_of-width.ensures.width in
-    input_found names ports d e v (ap (λ w. (expression_walk names e w).end) (sym width)
-    ∙ c.in_ok-value.ensures.found)
-    ∙ ap (λ w. let r : Result ProcessForm WalkStep = Ok
-    (whole_assignment (place_of e) port_in (port_number ports d.name) w v) in r) (sym width)
+    input_found (names_of c.args.outer.now) (ports_form c.args.ports.now)
+    (declaration_tree c.args.port.now) e c.width_of-width.result c.width_of-width.ensures.width v
+    c.in_ok-value.ensures.found
     ∙ ap (λ n. let r : Result ProcessForm WalkStep = Ok
     (whole_assignment (place_of e) port_in n c.width_of-width.result v) in
     r) (sym c.in_ok-signal.ensures)

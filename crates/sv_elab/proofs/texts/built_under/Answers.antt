@@ -48,23 +48,16 @@ top_instance-requires-clause-shaped c =
     c.deref-2.result.now c.deref-2.ensures.value (module_tree c.in_ok-master.master.now)
     c.in_ok-master.ensures.found c.requires.shaped
 
-pub returns-clause-found : goal.returns-clause-found
-returns-clause-found c =
+pub returns : goal.returns
+returns c =
     let at = built_at c.args.text.now (asked_name c.args.top) c.args.points.now
     c.args.maps.now.entries c.deref.result.now c.deref.ensures.value c.in_ok-names.ensures.asked
     c.deref-2.result.now c.deref-2.ensures.value (module_tree c.in_ok-master.master.now)
     c.in_ok-master.ensures.found _ (tables_same c.args.points.now c.args.maps.now.entries
     c.args.text.now.modules.items c.deref-3.result.now c.names-2.result.now.keys c.least.result.0
     c.deref-3.ensures.value c.names-2.ensures.names c.least.ensures) in
-    ok_weaker c.top_instance.result _ _ (λ b h. at ∙ h) c.top_instance.ensures.found
-
-pub returns-clause-broken : goal.returns-clause-broken
-returns-clause-broken c =
-    let at = built_at c.args.text.now (asked_name c.args.top) c.args.points.now
-    c.args.maps.now.entries c.deref.result.now c.deref.ensures.value c.in_ok-names.ensures.asked
-    c.deref-2.result.now c.deref-2.ensures.value (module_tree c.in_ok-master.master.now)
-    c.in_ok-master.ensures.found _ (tables_same c.args.points.now c.args.maps.now.entries
-    c.args.text.now.modules.items c.deref-3.result.now c.names-2.result.now.keys c.least.result.0
-    c.deref-3.ensures.value c.names-2.ensures.names c.least.ensures) in
-    err_weaker c.top_instance.result _ _ (λ f h. breach_on f _ _ (λ s e. at ∙ e) h)
-    c.top_instance.ensures.broken
+    record {
+      found = ok_weaker c.top_instance.result _ _ (λ b h. at ∙ h) c.top_instance.ensures.found;
+      broken = err_weaker c.top_instance.result _ _ (λ f h. breach_on f _ _ (λ s e. at ∙ e) h)
+          c.top_instance.ensures.broken;
+    }

@@ -1,5 +1,5 @@
-use Rattle.std.proofs.Common.{◌≡◌, ℕ, ◌+◌, ◌<◌, length, get_or, ◌||◌, List, ◌++◌}
-use Rattle.std.proofs.Common.{drop, map, sym, ap, subst, ◌∙◌, append_assoc}
+use Rattle.std.proofs.Common.{ℕ, ◌+◌, ◌||◌, List, ◌++◌}
+use Rattle.std.proofs.Common.{drop, map, sym, ap, ◌∙◌, append_assoc}
 use Rattle.std.specs.List.{list_any}
 use Rattle.std.specs.Str.{bytes_eq}
 use Rattle.sv_ast.specs.declared.declarations.Decl.{Decl}
@@ -8,7 +8,7 @@ use Rattle.sv_ast.specs.Tree.{ItemTree, parameter_item, declared}
 use Rattle.sv_ast.specs.Views.{declaration_tree, item_tree, parameter_tree}
 use Rattle.sv_elab_rules.specs.Names.{item_declares}
 use Rattle.sv_width.specs.Scopes.{Known}
-use Rattle.sv_elab_decl.proofs.Lists.{left_more}
+use Rattle.sv_elab_decl.proofs.Lists.{more_listed}
 use Rattle.sv_elab_decl.proofs.SiteLemmas.{announced_more, moved, parameters_announce_none}
 use Rattle.sv_elab_decl.proofs.declarations.announced.Goals as goal
 
@@ -34,10 +34,8 @@ loop-port-preserved c =
     let ports = m.ports.items in
     let i = c.loop-port.port-index in
     let port = c.port-item.result in
-    let listed = c.deref-port-items.ensures.value in
-    let split = left_more ports i port (subst (λ (xs : List Decl).
-    i < length xs) listed c.loop-port-test.true)
-    (subst (λ (xs : List Decl). port ≡ get_or xs i port) listed c.port-item.is) in
+    let split = more_listed ports c.deref-port-items.result.now i port
+    c.deref-port-items.ensures.value c.loop-port-test.true c.port-item.is in
     record {
       empty = c.in_ok-announce.ensures.meanings ∙ c.loop-port.invariant.empty;
       later = λ n.
@@ -57,20 +55,16 @@ loop-port-preserved c =
 
 pub loop-item-preserved : goal.loop-item-preserved
 loop-item-preserved c =
-    let m = c.args.master.now in
-    let items = m.items.items in
-    let i = c.loop-item.item-index in
+    let items = c.args.master.now.items.items in
     let item = c.item-item.result in
-    let listed = c.deref-item-items.ensures.value in
-    let split = left_more items i item (subst (λ (xs : List Item).
-    i < length xs) listed c.loop-item-test.true)
-    (subst (λ (xs : List Item). item ≡ get_or xs i item) listed c.item-item.is) in
+    let split = more_listed items c.deref-item-items.result.now c.loop-item.item-index item
+    c.deref-item-items.ensures.value c.loop-item-test.true c.item-item.is in
     record {
       empty = c.in_ok-announce_item.ensures.meanings ∙ c.loop-item.invariant.empty;
       later = λ n.
           moved (list_any (bytes_eq n) c.loop-item.scope.announced)
           (item_declares n (item_tree item))
-          (list_any (item_declares n) (map item_tree (drop (i + 1) items)))
+          (list_any (item_declares n) (map item_tree (drop (c.loop-item.item-index + 1) items)))
           (list_any (bytes_eq n) c.announce_item.new.scope.announced)
           (c.in_ok-announce_item.ensures.later n)
           ∙ ap (λ (is : List Item). list_any (bytes_eq n) c.loop-item.scope.announced

@@ -105,7 +105,6 @@ returns-clause-found c =
     let tables = tables_of c.args.tables.now in
     let names = names_of c.args.scope.now in
     let all = declarations (module_tree c.args.master.now) in
-    let begin = map signal_form c.args.signals.items in
     let decls = c.deref-decl-items.result.now in
     let items = c.loop-index.signals.items in
     let i = c.loop-index.index in
@@ -113,7 +112,8 @@ returns-clause-found c =
     let listed : declaration_trees decls ≡ all =
     ap (λ (ds : List (Bor Decl)). declaration_trees ds) c.deref-decl-items.ensures.value
     ∙ c.in_ok-decls.ensures in
-    ap (λ (ds : List DeclarationTree). (labels_walk tables names ds begin).end) (sym listed)
+    ap (λ (ds : List DeclarationTree).
+    (labels_walk tables names ds (map signal_form c.args.signals.items)).end) (sym listed)
     ∙ sym c.loop-index.invariant.walk
     ∙ ap (λ (ds : List (Bor Decl)).
     behind front (labels_walk tables names (declaration_trees ds)

@@ -42,8 +42,7 @@ returns-in_err-first_signal-clause-broken c =
 pub returns-in_err-second_signal-clause-broken : goal.returns-in_err-second_signal-clause-broken
 returns-in_err-second_signal-clause-broken c =
     let tables = tables_of c.args.tables.now in
-    let known = c.args.scope.now in
-    let names = names_of known in
+    let names = names_of c.args.scope.now in
     let text = c.args.text.now in
     let q = err_from_is_err_and c.from_residual-in_err-second_signal.result
     c.from_residual-in_err-second_signal.ensures.1 in
@@ -53,7 +52,7 @@ returns-in_err-second_signal-clause-broken c =
     (label_walk tables names (map_label text)).end
     (λ s e. second_stops tables names text.name.now text.first.now text.second.now text.place
     c.in-Some.found.number c.in-Some.ensures.0
-    (selector_asked known text.first.now c.in_ok-first_signal.first_signal
+    (selector_asked c.args.scope.now text.first.now c.in_ok-first_signal.first_signal
     (bad_label text.place text.first.now) c.in_ok-first_signal.ensures.found) s e)
     c.in_err-second_signal.ensures.broken)
 

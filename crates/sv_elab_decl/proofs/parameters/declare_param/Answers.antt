@@ -22,17 +22,16 @@ use Rattle.sv_elab_decl.proofs.parameters.declare_param.Goals as goal
 
 pub returns-in_err-width-clause-stopped : goal.returns-in_err-width-clause-stopped
 returns-in_err-width-clause-stopped c =
-    let base = c.args.site.now.base in
-    let site = site_of c.args.site.now in
     let d = declared_of c.args.declared.now in
     let p = parameter_tree c.args.param.now in
-    let names = names_ahead c.args.declared.now.scope in
+    let end = (parameter_walk c.args.site.now.base (site_of c.args.site.now) d p).end in
     let q = err_from_is_err_and c.from_residual.result c.from_residual.ensures.1 in
     rw (q.1, q.2)
-    (stops_at c.in_err-width.field-0.0 (parameter_walk base site d p).end c.args.declared.now
-    (breach_on c.in_err-width.field-0.0 (range_steps names p.span).end
-    (parameter_walk base site d p).end
-    (λ s e. parameter_range_stops base site d p names c.requires.so_far.names s e)
+    (stops_at c.in_err-width.field-0.0 end c.args.declared.now
+    (breach_on c.in_err-width.field-0.0
+    (range_steps (names_ahead c.args.declared.now.scope) p.span).end end
+    (λ s e. parameter_range_stops c.args.site.now.base (site_of c.args.site.now) d p
+    (names_ahead c.args.declared.now.scope) c.requires.so_far.names s e)
     c.in_err-width.ensures.broken))
 
 pub returns-in_err-value-clause-stopped : goal.returns-in_err-value-clause-stopped
@@ -55,8 +54,6 @@ returns-in_err-value-clause-stopped c =
 
 pub returns-clause-found : goal.returns-clause-found
 returns-clause-found c =
-    let base = c.args.site.now.base in
-    let site = site_of c.args.site.now in
     let old = c.args.declared.now in
     let d = declared_of old in
     let p = parameter_tree c.args.param.now in
@@ -68,7 +65,8 @@ returns-clause-found c =
     c.in_ok-width.ensures.found.1 in
     ok_two c.add_param.result _ _ _
     (λ added new.
-    parameter_made base site d p names c.requires.so_far.names c.in_ok-width.ensures.found.0
+    parameter_made c.args.site.now.base (site_of c.args.site.now) d p names
+    c.requires.so_far.names c.in_ok-width.ensures.found.0
     (number_of c.in_ok-value.value) c.in_ok-value.ensures.found
     (bound_is old.scope p.name ∙ ap (λ (n : List ℕ). is_some (meaning_of old.scope n)) (sym same)
     ∙ ap (λ (r : Option Meaning). is_some r) new)

@@ -1,17 +1,15 @@
 use Rattle.std.proofs.Common.{◌+◌, ◌≤◌, List, ◌∷◌, ◌++◌, drop, sym, ap, subst, ◌∙◌, arith}
 use Rattle.std.specs.List.{list_all}
 use Rattle.std.proofs.lemmas.Bool.{and_parts}
-use Rattle.std.proofs.lemmas.Result.{err_from_is_err_and}
 use Rattle.sv_ast.specs.Shape.{is_shaped_expression}
 use Rattle.sv_flat.specs.Views.{typed_tree, typed_trees}
 use Rattle.sv_elab_rules.specs.Statements.{items_walk}
-use Rattle.sv_width.specs.Answers.{IsBreach}
 use Rattle.sv_width.specs.Scopes.{names_of}
 use Rattle.sv_elab_stmt.specs.declared.cases.CaseItem.{CaseItem}
 use Rattle.sv_elab_stmt.specs.Cases.{item_tree, item_trees, AreItems, greatest}
 use Rattle.sv_elab_stmt.proofs.WalkFacts.{left_more, left_none, forms_push, mapped, mapped_push}
-use Rattle.sv_elab_stmt.proofs.WalkFacts.{mapped_none, breach_mapped, items_none, items_more}
-use Rattle.sv_elab_stmt.proofs.WalkFacts.{items_broken}
+use Rattle.sv_elab_stmt.proofs.WalkFacts.{mapped_none, rest_broken, items_none, items_more}
+use Rattle.sv_elab_stmt.proofs.WalkFacts.{items_broken, handed_on}
 use Rattle.sv_elab_stmt.proofs.cases.typed_items.Goals as goal
 
 pub typed_item-requires : goal.typed_item-requires
@@ -39,34 +37,28 @@ returns-in_err-typed_item-clause-broken c =
     let names = names_of c.args.scope.now in
     let n = c.args.to.width in
     let s = c.args.to.signed in
-    let items = c.args.items.now in
     let i = c.loop-item.item-index in
     let item = c.item-item.result in
-    let typed = typed_trees c.loop-item.typed.items in
-    let fault = c.in_err-typed_item.field-0.0 in
-    let split = left_more items i item c.loop-item-test.true c.item-item.is in
-    let p = err_from_is_err_and c.from_residual-in_err-typed_item.result
-    c.from_residual-in_err-typed_item.ensures.1 in
-    rw (p.1, p.2)
-    (subst (λ r. IsBreach r fault) c.loop-item.invariant.walk
-    (breach_mapped (items_walk names n s (item_trees (drop i items))).end (λ fs. typed ++ fs) fault
-    (subst (λ xs. IsBreach (items_walk names n s (item_trees xs)).end fault) (sym split)
-    (items_broken names n s (item_tree item) (item_trees (drop (i + 1) items)) fault
-    c.in_err-typed_item.ensures.broken))))
+    handed_on c.from_residual-in_err-typed_item.result _ _
+    c.from_residual-in_err-typed_item.ensures.1
+    (rest_broken _ (λ xs. (items_walk names n s (item_trees xs)).end)
+    (λ fs. typed_trees c.loop-item.typed.items ++ fs) _ _ _ c.loop-item.invariant.walk
+    (left_more c.args.items.now i item c.loop-item-test.true c.item-item.is)
+    (items_broken names n s (item_tree item) (item_trees (drop (i + 1) c.args.items.now)) _
+    c.in_err-typed_item.ensures.broken))
 
 pub loop-item-preserved : goal.loop-item-preserved
 loop-item-preserved c =
     let names = names_of c.args.scope.now in
     let n = c.args.to.width in
     let s = c.args.to.signed in
-    let items = c.args.items.now in
-    let i = c.loop-item.item-index in
     let item = c.item-item.result in
-    let rest = drop (i + 1) items in
+    let rest = drop (c.loop-item.item-index + 1) c.args.items.now in
     let old = c.loop-item.typed.items in
     let new = c.in_ok-typed_item.field-0 in
     let found = c.in_ok-typed_item.ensures.found in
-    let split = left_more items i item c.loop-item-test.true c.item-item.is in
+    let split = left_more c.args.items.now c.loop-item.item-index item c.loop-item-test.true
+    c.item-item.is in
     let wide = subst (λ (xs : List CaseItem). greatest xs ≤ n) split c.loop-item.invariant.wide in
     record {
       walk = ap (λ ts. mapped (λ fs. ts ++ fs) (items_walk names n s (item_trees rest)).end)

@@ -1,14 +1,14 @@
 use Rattle.std.proofs.Common.{◌≡◌, ◌+◌, ◌≤◌, Bool, true, false, List, get_or, drop, refl, sym, ap}
 use Rattle.std.proofs.Common.{subst, ◌∙◌, arith}
 use Rattle.std.specs.Prelude.{◌||◌, ◌==◌}
-use Rattle.std.proofs.lemmas.Result.{err_from_is_err_and}
 use Rattle.sv_ast.specs.Values.{nowhere, value}
 use Rattle.sv_num.specs.Parts.{extended}
 use Rattle.sv_elab_stmt.specs.declared.cases.CaseItem.{CaseItem}
-use Rattle.sv_elab_stmt.specs.Cases.{item_tree, item_trees, AreItems, ArePassed, greatest, values_of}
+use Rattle.sv_elab_stmt.specs.Cases.{item_tree, item_trees, AreItems, ArePassed, greatest}
+use Rattle.sv_elab_stmt.specs.Cases.{values_of}
 use Rattle.sv_elab_stmt.specs.Cases.{is_held}
 use Rattle.sv_elab_stmt.proofs.CompleteFacts.{either_false}
-use Rattle.sv_elab_stmt.proofs.WalkFacts.{left_more, left_none}
+use Rattle.sv_elab_stmt.proofs.WalkFacts.{left_more, left_none, handed_on}
 use Rattle.sv_elab_stmt.proofs.complete.held_values.Goals as goal
 
 or_assoc : (a b c : Bool) → ((a || b) || c) ≡ (a || (b || c))
@@ -21,9 +21,7 @@ returns-in_err-mark_item-clause-memory c =
     let s = c.args.to.signed in
     let split = left_more c.args.items.now c.loop-item.item-index c.item-item.result
     c.loop-item-test.true c.item-item.is in
-    let p = err_from_is_err_and c.from_residual-in_err-mark_item.result
-    c.from_residual-in_err-mark_item.ensures.1 in
-    rw (p.1, p.2)
+    handed_on c.from_residual-in_err-mark_item.result _ _ c.from_residual-in_err-mark_item.ensures.1
     (λ names items passed.
     let h = c.loop-item.invariant.held names items passed in
     let each = subst (AreItems names) split h.0 in

@@ -4,7 +4,6 @@ use Rattle.std.specs.Prelude.{◌&&◌, filter, Ok, IsTrue}
 use Rattle.std.specs.List.{list_all}
 use Rattle.std.proofs.lemmas.Bool.{and_parts}
 use Rattle.std.proofs.lemmas.List.{drop-drop, length-drop}
-use Rattle.std.proofs.lemmas.Result.{err_from_is_err_and}
 use Rattle.sv_num.specs.declared.faults.Place.{Place}
 use Rattle.std.specs.declared.alloc.Global.{Global}
 use Rattle.std.specs.declared.boxed.Box.{Box}
@@ -33,10 +32,12 @@ use Rattle.sv_elab_stmt.specs.Cases.{item_trees, AreItems, ArePassed, greatest}
 use Rattle.sv_elab_stmt.specs.Chains.{flat_arm, flat_arms, has_items}
 use Rattle.sv_elab_stmt.proofs.ItemFacts.{trees_long}
 use Rattle.sv_elab_stmt.proofs.WalkFacts.{left_more, left_none, forms_push, mapped, mapped_push}
-use Rattle.sv_elab_stmt.proofs.WalkFacts.{mapped_none, breach_mapped, arms_none, arms_more, arms_broken}
-use Rattle.sv_elab_stmt.proofs.WalkFacts.{arm_found, arm_unasked, arm_unwalked, before, before_nothing}
+use Rattle.sv_elab_stmt.proofs.WalkFacts.{mapped_none, rest_broken, arms_none, arms_more}
+use Rattle.sv_elab_stmt.proofs.WalkFacts.{arms_broken}
+use Rattle.sv_elab_stmt.proofs.WalkFacts.{arm_found, arm_unasked, arm_unwalked, before}
+use Rattle.sv_elab_stmt.proofs.WalkFacts.{before_nothing}
 use Rattle.sv_elab_stmt.proofs.WalkFacts.{block_push, statements_none, statements_more}
-use Rattle.sv_elab_stmt.proofs.WalkFacts.{statements_broken}
+use Rattle.sv_elab_stmt.proofs.WalkFacts.{statements_broken, handed_on}
 use Rattle.sv_elab_stmt.proofs.CaseWalks.{trees_length, case_shape, own_items, passed_arms}
 use Rattle.sv_elab_stmt.proofs.CaseWalks.{common_type_is, case_unasked, case_undivided}
 use Rattle.sv_elab_stmt.proofs.CaseWalks.{selector_found, case_unarmed, case_found, if_unasked}
@@ -52,20 +53,12 @@ block-returns-in_err-flat-clause-broken t c =
     let stmts = c.args.stmts.now in
     let i = c.loop-stmt.stmt-index in
     let stmt = c.stmt-item.result in
-    let so_far = flat_statements c.loop-stmt.flats.items in
-    let fault = c.in_err-flat.field-0.0 in
-    let split = left_more stmts i stmt c.loop-stmt-test.true c.stmt-item.is in
-    let p = err_from_is_err_and c.from_residual-in_err-flat.result
-    c.from_residual-in_err-flat.ensures.1 in
-    rw (p.1, p.2)
-    (subst (λ r. IsBreach r fault) c.loop-stmt.invariant.walk
-    (breach_mapped (statements_walk names (statements_of (statement_trees (drop i stmts)))).end
-    (before so_far) fault
-    (subst (λ xs. IsBreach (statements_walk names (statements_of (statement_trees xs))).end fault)
-    (sym split)
+    handed_on c.from_residual-in_err-flat.result _ _ c.from_residual-in_err-flat.ensures.1
+    (rest_broken _ (λ xs. (statements_walk names (statements_of (statement_trees xs))).end)
+    (before (flat_statements c.loop-stmt.flats.items)) _ _ _ c.loop-stmt.invariant.walk
+    (left_more stmts i stmt c.loop-stmt-test.true c.stmt-item.is)
     (statements_broken names (statement_tree stmt)
-    (statements_of (statement_trees (drop (i + 1) stmts))) fault
-    c.in_err-flat.ensures.broken))))
+    (statements_of (statement_trees (drop (i + 1) stmts))) _ c.in_err-flat.ensures.broken))
 
 pub block-loop-stmt-preserved : goal.block-loop-stmt-preserved
 block-loop-stmt-preserved t c =
@@ -110,8 +103,7 @@ flat_arm-returns-in_err-items-clause-broken t c =
     let n = c.args.to.width in
     let s = c.args.to.signed in
     let fault = c.in_err-items.field-0.0 in
-    let p = err_from_is_err_and c.from_residual.result c.from_residual.ensures.1 in
-    rw (p.1, p.2)
+    handed_on c.from_residual.result _ _ c.from_residual.ensures.1
     (arm_unasked names n s (arm_tree c.args.arm.now) fault
     (subst (λ es. IsBreach (items_walk names n s es).end fault) c.requires.all
     c.in_err-items.ensures.broken))
@@ -121,9 +113,7 @@ flat_arm-returns-in_err-body-clause-broken t c =
     let names = names_of c.args.scope.now in
     let n = c.args.to.width in
     let s = c.args.to.signed in
-    let p = err_from_is_err_and c.from_residual-in_err-body.result
-    c.from_residual-in_err-body.ensures.1 in
-    rw (p.1, p.2)
+    handed_on c.from_residual-in_err-body.result _ _ c.from_residual-in_err-body.ensures.1
     (arm_unwalked names n s (arm_tree c.args.arm.now) (typed_trees c.in_ok-items.items.items)
     c.in_err-body.field-0.0
     (ap (λ es. (items_walk names n s es).end) (sym c.requires.all) ∙ c.in_ok-items.ensures.found)
@@ -194,18 +184,12 @@ flat_arms-returns-in_err-flat_arm-clause-broken t c =
     let arms = c.args.arms.now in
     let i = c.loop-arm.arm-index in
     let arm = c.arm-item.result in
-    let so_far = flat_arms c.loop-arm.flats.items in
-    let fault = c.in_err-flat_arm.field-0.0 in
-    let split = left_more arms i arm c.loop-arm-test.true c.arm-item.is in
-    let p = err_from_is_err_and c.from_residual-in_err-flat_arm.result
-    c.from_residual-in_err-flat_arm.ensures.1 in
-    rw (p.1, p.2)
-    (subst (λ r. IsBreach r fault) c.loop-arm.invariant.walk
-    (breach_mapped (arms_walk names n s (arms_of (arm_trees (drop i arms)))).end (λ fs.
-    so_far ++ fs) fault
-    (subst (λ xs. IsBreach (arms_walk names n s (arms_of (arm_trees xs))).end fault) (sym split)
-    (arms_broken names n s (arm_tree arm) (arm_trees (drop (i + 1) arms)) fault
-    c.in_err-flat_arm.ensures.broken))))
+    handed_on c.from_residual-in_err-flat_arm.result _ _ c.from_residual-in_err-flat_arm.ensures.1
+    (rest_broken _ (λ xs. (arms_walk names n s (arms_of (arm_trees xs))).end)
+    (λ fs. flat_arms c.loop-arm.flats.items ++ fs) _ _ _ c.loop-arm.invariant.walk
+    (left_more arms i arm c.loop-arm-test.true c.arm-item.is)
+    (arms_broken names n s (arm_tree arm) (arm_trees (drop (i + 1) arms)) _
+    c.in_err-flat_arm.ensures.broken))
 
 pub flat_arms-loop-arm-preserved : goal.flat_arms-loop-arm-preserved
 flat_arms-loop-arm-preserved t c =
@@ -390,8 +374,7 @@ else_at s place cond first second other is some =
 pub without_else-returns-in_err-cond-clause-broken :
     goal.without_else-returns-in_err-cond-clause-broken
 without_else-returns-in_err-cond-clause-broken t c =
-    let q = err_from_is_err_and c.from_residual.result c.from_residual.ensures.1 in
-    rw (q.1, q.2)
+    handed_on c.from_residual.result _ _ c.from_residual.ensures.1
     (if_unasked (names_of c.args.scope.now) c.args.place (expression_tree c.args.cond.now)
     (statement_tree c.args.yes.now)
     c.in_err-cond.field-0.0 c.in_err-cond.ensures.broken)
@@ -399,9 +382,7 @@ without_else-returns-in_err-cond-clause-broken t c =
 pub without_else-returns-in_err-yes-clause-broken :
     goal.without_else-returns-in_err-yes-clause-broken
 without_else-returns-in_err-yes-clause-broken t c =
-    let q = err_from_is_err_and c.from_residual-in_err-yes.result
-    c.from_residual-in_err-yes.ensures.1 in
-    rw (q.1, q.2)
+    handed_on c.from_residual-in_err-yes.result _ _ c.from_residual-in_err-yes.ensures.1
     (if_unwalked (names_of c.args.scope.now) c.args.place (expression_tree c.args.cond.now)
     (statement_tree c.args.yes.now)
     c.in_err-yes.field-0.0 (typed_tree c.in_ok-cond.cond) c.in_ok-cond.ensures.found
@@ -449,8 +430,7 @@ flat-returns-in_err-cond-in-Some-clause-broken t c =
     let second = statement_tree c.in-Some.no.value in
     let is = else_at c.args.stmt.now x.place x.cond x.yes c.in-Some.no x.no x.is c.in-Some.is in
     let fault = c.in_err-cond-in-Some.field-0.0 in
-    let q = err_from_is_err_and c.from_residual.result c.from_residual.ensures.1 in
-    rw (q.1, q.2)
+    handed_on c.from_residual.result _ _ c.from_residual.ensures.1
     (subst (λ tree. IsBreach (statement_walk names tree).end fault) (sym is)
     (else_unasked names x.place cond first second fault c.in_err-cond-in-Some.ensures.broken))
 
@@ -464,9 +444,8 @@ flat-returns-in_err-yes-in-Some-clause-broken t c =
     let second = statement_tree c.in-Some.no.value in
     let is = else_at c.args.stmt.now x.place x.cond x.yes c.in-Some.no x.no x.is c.in-Some.is in
     let fault = c.in_err-yes-in-Some.field-0.0 in
-    let q = err_from_is_err_and c.from_residual-in_err-yes-in-Some.result
-    c.from_residual-in_err-yes-in-Some.ensures.1 in
-    rw (q.1, q.2)
+    handed_on c.from_residual-in_err-yes-in-Some.result _ _
+    c.from_residual-in_err-yes-in-Some.ensures.1
     (subst (λ tree. IsBreach (statement_walk names tree).end fault) (sym is)
     (else_unwalked names x.place cond first second fault (typed_tree c.in_ok-cond-in-Some.cond)
     c.in_ok-cond-in-Some.ensures.found
@@ -482,9 +461,8 @@ flat-returns-in_err-no-in-Some-clause-broken t c =
     let second = statement_tree c.in-Some.no.value in
     let is = else_at c.args.stmt.now x.place x.cond x.yes c.in-Some.no x.no x.is c.in-Some.is in
     let fault = c.in_err-no-in-Some.field-0.0 in
-    let q = err_from_is_err_and c.from_residual-in_err-no-in-Some.result
-    c.from_residual-in_err-no-in-Some.ensures.1 in
-    rw (q.1, q.2)
+    handed_on c.from_residual-in_err-no-in-Some.result _ _
+    c.from_residual-in_err-no-in-Some.ensures.1
     (subst (λ tree. IsBreach (statement_walk names tree).end fault) (sym is)
     (else_broken names x.place cond first second fault (typed_tree c.in_ok-cond-in-Some.cond)
     (flat_statement c.in_ok-yes-in-Some.yes.value)
@@ -515,8 +493,7 @@ flat-returns-in_ok-no-in-Some-clause-found t c =
 
 pub case-returns-in_err-operand-clause-broken : goal.case-returns-in_err-operand-clause-broken
 case-returns-in_err-operand-clause-broken t c =
-    let q = err_from_is_err_and c.from_residual.result c.from_residual.ensures.1 in
-    rw (q.1, q.2)
+    handed_on c.from_residual.result _ _ c.from_residual.ensures.1
     (λ p. case_unasked (names_of c.args.scope.now) p (expression_tree c.args.selector.now)
     (arms_of (arm_trees c.args.arms.now)) _ _ refl refl
     c.in_err-operand.field-0.0 c.in_err-operand.ensures.broken)
@@ -532,9 +509,8 @@ case-returns-in_err-typed_selector-clause-broken t c =
     c.in_ok-items.ensures.each arms c.in_ok-items.ensures.all c.deref.result.now
     c.common_type-to.result.width c.common_type-to.result.signed c.deref.ensures.value
     c.common_type-to.ensures.width c.common_type-to.ensures.signed in
-    let q = err_from_is_err_and c.from_residual-in_err-typed_selector.result
-    c.from_residual-in_err-typed_selector.ensures.1 in
-    rw (q.1, q.2)
+    handed_on c.from_residual-in_err-typed_selector.result _ _
+    c.from_residual-in_err-typed_selector.ensures.1
     (λ p. case_undivided names p e arms c.common_type-to.result.width c.common_type-to.result.signed
     common.0 common.1 c.in_err-typed_selector.field-0.0 is.0
     (c.in_err-typed_selector.ensures.broken names false e is))
@@ -550,9 +526,7 @@ case-returns-in_err-flats-clause-broken t c =
     c.common_type-to.result.width c.common_type-to.result.signed c.deref.ensures.value
     c.common_type-to.ensures.width c.common_type-to.ensures.signed in
     let typed = c.in_ok-typed_selector.ensures.found names false e is in
-    let q = err_from_is_err_and c.from_residual-in_err-flats.result
-    c.from_residual-in_err-flats.ensures.1 in
-    rw (q.1, q.2)
+    handed_on c.from_residual-in_err-flats.result _ _ c.from_residual-in_err-flats.ensures.1
     (λ p. case_unarmed names p e arms c.common_type-to.result.width c.common_type-to.result.signed
     common.0 common.1 c.in_err-flats.field-0.0 (typed_tree c.in_ok-typed_selector.typed_selector)
     (selector_found names p e arms c.common_type-to.result.width c.common_type-to.result.signed
@@ -574,9 +548,7 @@ case-returns-in_err-complete-clause-broken t c =
     let all = subst (ArePassed names n s) (sym (ap item_trees value ∙ c.in_ok-items.ensures.all))
     passed in
     let memory = c.in_err-complete.ensures.memory names each all in
-    let q = err_from_is_err_and c.from_residual-in_err-complete.result
-    c.from_residual-in_err-complete.ensures.1 in
-    rw (q.1, q.2)
+    handed_on c.from_residual-in_err-complete.result _ _ c.from_residual-in_err-complete.ensures.1
     (λ p. breach_memory c.in_err-complete.field-0.0 memory
     (statement_walk names (case_of p e arms)).end)
 

@@ -3,7 +3,6 @@ use Rattle.std.proofs.Common.{subst, ◌∙◌, arith}
 use Rattle.std.specs.Prelude.{nat_le}
 use Rattle.std.specs.List.{list_all}
 use Rattle.std.proofs.lemmas.Bool.{and_from, leb-true}
-use Rattle.std.proofs.lemmas.Result.{err_from_is_err_and}
 use Rattle.sv_ast.specs.Runs.{targets_width}
 use Rattle.sv_ast.specs.Views.{expression_tree, target_tree}
 use Rattle.sv_flat.specs.Soundness.{is_whole}
@@ -19,6 +18,7 @@ use Rattle.sv_elab_stmt.specs.Targets.{parts_width, placed}
 use Rattle.sv_elab_stmt.proofs.TargetFacts.{parts_have, parts_placed, targets_broken, targets_wide}
 use Rattle.sv_elab_stmt.proofs.TargetFacts.{value_broken, assigned}
 use Rattle.sv_width.proofs.SoundStatements.{assignment_sound, pieces_whole}
+use Rattle.sv_elab_stmt.proofs.WalkFacts.{handed_on}
 use Rattle.sv_elab_stmt.proofs.targets.assignment.Goals as goal
 
 too_many : (n w : ℕ) → w ≡ min n 4294967295 → 64 < w → nat_le n 64 ≡ false
@@ -33,8 +33,7 @@ few_enough n w is few = omega (arith, is, few)
 
 pub returns-in_err-parts-clause-broken : goal.returns-in_err-parts-clause-broken
 returns-in_err-parts-clause-broken c =
-    let p = err_from_is_err_and c.from_residual.result c.from_residual.ensures.1 in
-    rw (p.1, p.2)
+    handed_on c.from_residual.result _ _ c.from_residual.ensures.1
     (targets_broken (names_of c.args.scope.now) (map target_tree c.args.targets.now) c.args.place
     c.args.blocking
     (expression_tree c.args.value.now) c.in_err-parts.field-0.0 c.in_err-parts.ensures.broken)
@@ -65,9 +64,7 @@ returns-in_err-value-clause-broken c =
     c.if-width-gt64.false in
     let few : targets_width names.scope ts ≤ 64 =
     omega (arith, have, same, c.if-width-gt64.false) in
-    let p = err_from_is_err_and c.from_residual-in_err-value.result
-    c.from_residual-in_err-value.ensures.1 in
-    rw (p.1, p.2)
+    handed_on c.from_residual-in_err-value.result _ _ c.from_residual-in_err-value.ensures.1
     (value_broken names ts c.args.place c.args.blocking e fault found.0 few
     (subst (λ n. IsBreach (expression_walk names e n).end fault) (sym same ∙ have)
     c.in_err-value.ensures.broken))

@@ -1,11 +1,11 @@
 use Rattle.std.proofs.Common.{◌≡◌, true, sym, ap}
 use Rattle.std.specs.Prelude.{option_map}
-use Rattle.std.proofs.lemmas.Result.{err_from_is_err_and}
 use Rattle.sv_ast.specs.Instances.{is_signal}
 use Rattle.sv_ast.specs.Views.{target_tree}
 use Rattle.sv_elab_rules.specs.Targets.{target_steps}
 use Rattle.sv_width.specs.Scopes.{names_of, bindings_of, binding_of, signal_number}
 use Rattle.sv_elab_stmt.proofs.TargetFacts.{target_unknown, target_unselected, target_found}
+use Rattle.sv_elab_stmt.proofs.WalkFacts.{handed_on}
 use Rattle.sv_elab_stmt.proofs.targets.part_of.Goals as goal
 use Rattle.sv_elab_stmt.proofs.targets.part_of.Goals.{In-Some-Signal}
 
@@ -20,8 +20,7 @@ pub returns-in_err-high-in-Some-Signal-clause-broken :
     goal.returns-in_err-high-in-Some-Signal-clause-broken
 returns-in_err-high-in-Some-Signal-clause-broken c =
     let a = (goal.at.returns-in_err-high-in-Some-Signal-clause-broken c).In-Some-Signal in
-    let p = err_from_is_err_and c.from_residual.result c.from_residual.ensures.1 in
-    rw (p.1, p.2)
+    handed_on c.from_residual.result _ _ c.from_residual.ensures.1
     (target_unselected (names_of c.args.scope.now) (target_tree c.args.target.now)
     c.in_err-high-in-Some-Signal.field-0.0 (there a)
     c.in_err-high-in-Some-Signal.ensures.broken)

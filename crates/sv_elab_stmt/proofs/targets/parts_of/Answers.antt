@@ -2,7 +2,6 @@ use Rattle.std.proofs.Common.{◌+◌, ◌∷◌, ◌++◌, drop, map, sym, ap, 
 use Rattle.std.specs.List.{list_all}
 use Rattle.std.proofs.lemmas.Bool.{and_parts}
 use Rattle.std.proofs.lemmas.List.{append-nil}
-use Rattle.std.proofs.lemmas.Result.{err_from_is_err_and}
 use Rattle.sv_ast.specs.Shape.{is_shaped_target}
 use Rattle.sv_ast.specs.Views.{target_tree}
 use Rattle.sv_elab_rules.specs.Walks.{each}
@@ -11,7 +10,7 @@ use Rattle.sv_width.specs.Answers.{IsBreach}
 use Rattle.sv_width.specs.Scopes.{names_of}
 use Rattle.sv_elab_stmt.specs.Targets.{piece_at, target_piece}
 use Rattle.sv_elab_stmt.proofs.TargetFacts.{each_none, each_more, each_broken}
-use Rattle.sv_elab_stmt.proofs.WalkFacts.{left_more, left_none, forms_more}
+use Rattle.sv_elab_stmt.proofs.WalkFacts.{left_more, left_none, forms_more, handed_on}
 use Rattle.sv_elab_stmt.proofs.targets.parts_of.Goals as goal
 
 pub returns-in_err-part_of-clause-broken : goal.returns-in_err-part_of-clause-broken
@@ -22,9 +21,7 @@ returns-in_err-part_of-clause-broken c =
     let t = c.target-item.result in
     let fault = c.in_err-part_of.field-0.0 in
     let split = left_more ts i t c.loop-target-test.true c.target-item.is in
-    let p = err_from_is_err_and c.from_residual-in_err-part_of.result
-    c.from_residual-in_err-part_of.ensures.1 in
-    rw (p.1, p.2)
+    handed_on c.from_residual-in_err-part_of.result _ _ c.from_residual-in_err-part_of.ensures.1
     (subst (λ r. IsBreach r fault)
     (ap (λ rest. (each steps (map target_tree rest)).end) (sym split)
     ∙ c.loop-target.invariant.asks)

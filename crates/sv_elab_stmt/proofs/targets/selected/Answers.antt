@@ -1,6 +1,5 @@
 use Rattle.std.proofs.Common.{◌≡◌, ◌-◌, false, refl, sym, ap, subst, ◌∙◌}
 use Rattle.std.specs.Prelude.{Err}
-use Rattle.std.proofs.lemmas.Result.{err_from_is_err_and}
 use Rattle.sv_num.specs.Vectors.{number_of as whole_number_of}
 use Rattle.sv_ast.specs.Views.{expression_tree, selection_of}
 use Rattle.sv_elab_rules.specs.Rules.{bad_select}
@@ -10,8 +9,10 @@ use Rattle.sv_width.specs.Answers.{IsBreach}
 use Rattle.sv_width.specs.Scopes.{names_of}
 use Rattle.sv_width.proofs.SameValue.{either}
 use Rattle.sv_width.proofs.Breaches.{breach_by}
-use Rattle.sv_elab_stmt.proofs.TargetFacts.{IsChosen, whole_chosen, bit_chosen, bit_refused, bit_unfound}
+use Rattle.sv_elab_stmt.proofs.TargetFacts.{IsChosen, whole_chosen, bit_chosen, bit_refused}
+use Rattle.sv_elab_stmt.proofs.TargetFacts.{bit_unfound}
 use Rattle.sv_elab_stmt.proofs.TargetFacts.{part_chosen, part_refused, high_unfound, low_unfound}
+use Rattle.sv_elab_stmt.proofs.WalkFacts.{handed_on}
 use Rattle.sv_elab_stmt.proofs.targets.selected.Goals as goal
 
 pub returns-in_err-bits-in-Bit-clause-broken : goal.returns-in_err-bits-in-Bit-clause-broken
@@ -19,8 +20,7 @@ returns-in_err-bits-in-Bit-clause-broken c =
     let names = names_of c.args.scope.now in
     let t = c.args.target.now in
     let fault = c.in_err-bits-in-Bit.field-0.0 in
-    let p = err_from_is_err_and c.from_residual.result c.from_residual.ensures.1 in
-    rw (p.1, p.2)
+    handed_on c.from_residual.result _ _ c.from_residual.ensures.1
     (subst (λ sel. IsBreach (selection_steps names t.name t.place sel).end fault)
     (sym (ap selection_of c.in-Bit.is))
     (bit_unfound names t.name t.place (expression_tree c.in-Bit.index) fault
@@ -28,16 +28,14 @@ returns-in_err-bits-in-Bit-clause-broken c =
 
 pub returns-in_err-high-in-Part-clause-broken : goal.returns-in_err-high-in-Part-clause-broken
 returns-in_err-high-in-Part-clause-broken c =
-    let names = names_of c.args.scope.now in
     let t = c.args.target.now in
-    let fault = c.in_err-high-in-Part.field-0.0 in
-    let p = err_from_is_err_and c.from_residual-in_err-high-in-Part.result
-    c.from_residual-in_err-high-in-Part.ensures.1 in
-    rw (p.1, p.2)
-    (subst (λ sel. IsBreach (selection_steps names t.name t.place sel).end fault)
+    handed_on c.from_residual-in_err-high-in-Part.result _ _
+    c.from_residual-in_err-high-in-Part.ensures.1
+    (subst (λ sel. IsBreach (selection_steps (names_of c.args.scope.now) t.name t.place sel).end
+    c.in_err-high-in-Part.field-0.0)
     (sym (ap selection_of c.in-Part.is))
-    (high_unfound names t.name t.place (expression_tree c.in-Part.high)
-    (expression_tree c.in-Part.low) fault
+    (high_unfound (names_of c.args.scope.now) t.name t.place (expression_tree c.in-Part.high)
+    (expression_tree c.in-Part.low) c.in_err-high-in-Part.field-0.0
     c.in_err-high-in-Part.ensures.broken))
 
 pub returns-in_err-low-in-Part-clause-broken : goal.returns-in_err-low-in-Part-clause-broken
@@ -45,9 +43,8 @@ returns-in_err-low-in-Part-clause-broken c =
     let names = names_of c.args.scope.now in
     let t = c.args.target.now in
     let fault = c.in_err-low-in-Part.field-0.0 in
-    let p = err_from_is_err_and c.from_residual-in_err-low-in-Part.result
-    c.from_residual-in_err-low-in-Part.ensures.1 in
-    rw (p.1, p.2)
+    handed_on c.from_residual-in_err-low-in-Part.result _ _
+    c.from_residual-in_err-low-in-Part.ensures.1
     (subst (λ sel. IsBreach (selection_steps names t.name t.place sel).end fault)
     (sym (ap selection_of c.in-Part.is))
     (low_unfound names t.name t.place (expression_tree c.in-Part.high)

@@ -32,7 +32,6 @@ update_at-requires-clause-clocked c =
 pub loop-k-preserved : goal.loop-k-preserved
 loop-k-preserved c =
     let design = design_of c.args.design.now in
-    let fine = c.update_at.ensures.design in
     let order = c.args.order.now in
     let i = c.loop-k.k-index in
     let k = slice_index order i in
@@ -44,6 +43,6 @@ loop-k-preserved c =
           ∙ ap (λ (p : ProcessForm). updated e (run design.signals p.body (e, before)).1)
           (sym (clocked_at design c.args.clocked.now c.requires.clocked k known))
           ∙ ap (updated e)
-          (tick_more design fine.is_sound fine.is_admitted order c.requires.order i
+          (tick_more design c.update_at.ensures.design.is_sound c.update_at.ensures.design.is_admitted order c.requires.order i
           c.loop-k-test.true e),
     )

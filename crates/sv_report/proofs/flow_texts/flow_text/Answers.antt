@@ -27,9 +27,8 @@ push_flow_line-requires-clause-read c =
 
 pub push_value_lines-requires-clause-known : goal.push_value_lines-requires-clause-known
 push_value_lines-requires-clause-known c =
-    let flat = c.args.design.now in
-    all_known flat c.signals-signals.result.now c.signals-signals.ensures.signals
-    (is_register (design_of flat)) c.registers.result.now c.registers.ensures.registers
+    all_known c.args.design.now c.signals-signals.result.now c.signals-signals.ensures.signals
+    (is_register (design_of c.args.design.now)) c.registers.result.now c.registers.ensures.registers
 
 pub push_value_lines-requires-clause-count : goal.push_value_lines-requires-clause-count
 push_value_lines-requires-clause-count c =

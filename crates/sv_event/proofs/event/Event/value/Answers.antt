@@ -8,9 +8,8 @@ use Rattle.sv_event.proofs.event.Event.value.Goals as goal
 pub bounds-values-s : goal.bounds-values-s
 bounds-values-s c =
     let design = design_of c.args.self.now.design in
-    let s = c.args.s.0 in
     subst (λ n. s < n)
     (ap (λ (v : EventState). length (design_of v.design).signals) (sym c.self.view_is)
     ∙ sym c.self.invariant.fit.count
     ∙ ap length (sym c.as_slice-values.ensures.value))
-    (those_below (length design.signals) (λ z. not (is_clock design z)) s c.requires)
+    (those_below (length design.signals) (λ z. not (is_clock design z)) c.args.s.0 c.requires)

@@ -2,7 +2,7 @@ use Rattle.std.proofs.Common.{◌++◌, codes, ap, ◌∙◌, append_assoc}
 use Rattle.std.specs.Prelude.{decimal}
 use Rattle.sv_gen.specs.Sample.{bin_of}
 use Rattle.sv_gen.proofs.SampleFacts.{two_parts, two_written, lane_parts}
-use Rattle.sv_gen.proofs.sample.push_lane.Goals as goal
+use Rattle.sv_gen.proofs.sample.push_instance.Goals as goal
 
 pub returns : goal.returns
 returns c =

@@ -1,7 +1,7 @@
 use Rattle.std.proofs.Common.{◌++◌, codes, ap, ◌∙◌, append_assoc}
 use Rattle.std.specs.Prelude.{decimal}
 use Rattle.sv_gen.proofs.SampleFacts.{two_written, port_parts}
-use Rattle.sv_gen.proofs.sample.push_port.Goals as goal
+use Rattle.sv_gen.proofs.sample.push_ports.Goals as goal
 
 pub returns : goal.returns
 returns c =

@@ -1,6 +1,0 @@
-use Rattle.std.proofs.Common.{◌≡◌, ◌++◌}
-use Rattle.sv_gen.specs.Sample.{lines_below, wire_line}
-use Rattle.sv_gen.proofs.sample.push_wires.Given as goal
-
-abbrev pub invariant-loop-i : goal.invariant-loop-i
-invariant-loop-i l = l.text.items ≡ l.fn.text.items ++ lines_below wire_line l.i

@@ -10,6 +10,12 @@ use Rattle.sv_flat.specs.Values.{signal_width}
 use Rattle.sv_flat.specs.Views.{signal_form}
 use Rattle.sv_design.specs.Numbers.{numbers}
 
+-- what is left of a list at a turn, by the item there
+pub turn_at : {A : Type 0} (items : List A) (i : ℕ) (item : A) → i < length items →
+    item ≡ get_or items i item → drop i items ≡ item ∷ drop (i + 1) items
+turn_at items i item inside is =
+    drop_more items i item inside ∙ ap (λ z. z ∷ drop (i + 1) items) (sym is)
+
 abbrev pub none : SigId
 none = record { 0 = 0 }
 

@@ -31,7 +31,6 @@ mark_all_reads-requires c =
 
 pub returns : goal.returns
 returns c =
-    let design = design_of c.args.design.now in
     let o = obligation_of c.args.query.now in
     let a = c.args.table.now in
     let b = c.mark_all_names.new.table in
@@ -45,8 +44,8 @@ returns c =
     c.mark_all_names.ensures)
     (subst (λ ss. Marks b c' (is_named_in (map (λ (step : StepForm). step.condition)
     (map step_form ss)))) c.deref-2.ensures.value c.mark_conditions.ensures)
-    (subst (λ ss. Marks c' d (holds (flat_map (label_selectors design) (numbers ss))))
+    (subst (λ ss. Marks c' d (holds (flat_map (label_selectors (design_of c.args.design.now)) (numbers ss))))
     c.deref-3.ensures.value c.mark_all_selectors.ensures)
     c.mark_asked_now.ensures
-    (subst (λ ss. Marks e c.mark_all_reads.new.table (holds (flat_map (reads_for design) ss)))
+    (subst (λ ss. Marks e c.mark_all_reads.new.table (holds (flat_map (reads_for (design_of c.args.design.now)) ss)))
     c.requires.registers c.mark_all_reads.ensures)

@@ -47,3 +47,13 @@ pub width_here : (signals : List Signal) (s : ℕ) (x : Signal) → s < length s
 width_here [] s x inside = absurd (omega arith)
 width_here (y ∷ signals) zero x inside = refl
 width_here (y ∷ signals) (suc s) x inside = width_here signals s x (omega arith)
+
+-- the same of the signal at a turn, in a list that is the design's
+pub width_at : (listed items : List Signal) (signals : List SigId) (i : ℕ) (x : Signal) →
+    i < length signals → All (λ s. s < length listed) (numbers signals) → items ≡ listed →
+    signal_width (map signal_form listed) (get_or signals i none).0
+    ≡ (get_or items (get_or signals i none).0 x).width
+width_at listed items signals i x inside known are =
+    let s = (get_or signals i none).0 in
+    width_here listed s x (number_at signals i inside (λ k. k < length listed) known)
+    ∙ ap (λ (z : List Signal). (get_or z s x).width) (sym are)

@@ -10,7 +10,8 @@ flow_size-requires-clause-known c =
 pub flow_size-requires-clause-target : goal.flow_size-requires-clause-target
 flow_size-requires-clause-target c =
     let is = c.signals-signals.ensures.design in
-    asked_known c.args.design.now is.is_sound is.is_admitted c.args.query.now c.requires _ c.in-Flow.is
+    asked_known c.args.design.now is.is_sound is.is_admitted c.args.query.now c.requires _
+    c.in-Flow.is
 
 pub flow_size-requires-in-Selector-clause-known : goal.flow_size-requires-in-Selector-clause-known
 flow_size-requires-in-Selector-clause-known c =
@@ -21,4 +22,5 @@ flow_size-requires-in-Selector-clause-known c =
 pub flow_size-requires-in-Selector-clause-target : goal.flow_size-requires-in-Selector-clause-target
 flow_size-requires-in-Selector-clause-target c =
     let is = c.signals-signals.ensures.design in
-    asked_known c.args.design.now is.is_sound is.is_admitted c.args.query.now c.requires _ c.in-Selector.is
+    asked_known c.args.design.now is.is_sound is.is_admitted c.args.query.now c.requires _
+    c.in-Selector.is

@@ -10,7 +10,8 @@ none_stays-requires-clause-known c =
 pub none_stays-requires-clause-target : goal.none_stays-requires-clause-target
 none_stays-requires-clause-target c =
     let is = c.know_design.ensures.design in
-    asked_known c.args.design.now is.is_sound is.is_admitted c.args.query.now c.requires _ c.in-Flow.is
+    asked_known c.args.design.now is.is_sound is.is_admitted c.args.query.now c.requires _
+    c.in-Flow.is
 
 pub none_stays-requires-in-Selector-clause-known : goal.none_stays-requires-in-Selector-clause-known
 none_stays-requires-in-Selector-clause-known c =
@@ -21,4 +22,5 @@ none_stays-requires-in-Selector-clause-known c =
 pub none_stays-requires-in-Selector-clause-target : goal.none_stays-requires-in-Selector-clause-target
 none_stays-requires-in-Selector-clause-target c =
     let is = c.know_design.ensures.design in
-    asked_known c.args.design.now is.is_sound is.is_admitted c.args.query.now c.requires _ c.in-Selector.is
+    asked_known c.args.design.now is.is_sound is.is_admitted c.args.query.now c.requires _
+    c.in-Selector.is

@@ -55,14 +55,15 @@ module _ (design : FlatDesign) (is : IsDesign design) (s : ℕ) (x : Bor Marked)
   by_process : (p : ProcessForm) → Contains (processes_of design) p → IsTrue (assigns p.body s) →
       drivers (processes_of design) s ≡ p ∷ [] → IsTarget design s x.now self
   by_process p at own alone =
+      let marked_body = body p at own in
       record {
         is = is;
         process = p;
         at = at;
         own = own;
         alone = alone;
-        body = (body p at own).0;
-        block = (body p at own).1;
+        body = marked_body.0;
+        block = marked_body.1;
         forms = forms;
         reads = reads;
         follows = follows p at own;

@@ -29,12 +29,8 @@ kept c =
     let n = c.expression.new.gates.variables in
     let m = c.args.gates.now.variables in
     let grows = c.in_ok-right.ensures.begins.grows in
-    let some : 1 ≤ n = omega (
-      arith,
-      c.variables-some.ensures.some,
-      c.variables-some.ensures.value,
-      grows,
-    ) in
+    let first = c.variables-some.ensures in
+    let some : 1 ≤ n = omega (arith, first.some, first.value, grows) in
     pieces_kept (signal_forms c.args.self.now.signals.now) (typed_tree c.args.value.now)
     c.args.self.now.target.0 n some c.in_ok-right.right.items c.in_ok-right.ensures.within
     (map piece_form c.args.pieces.now) c.requires.inside c.args.word.items

@@ -11,7 +11,7 @@ bounds-sizes-signal c =
 
 pub returns-else-is_top_input : goal.returns-else-is_top_input
 returns-else-is_top_input c =
-    let design = design_of c.args.design.now in
-    size_else c.args.design.now (is_top_input design c.args.signal.0)
-    (signal_width design.signals c.args.signal.0) c.args.sizes.now c.args.signal.0
+    size_else c.args.design.now (is_top_input (design_of c.args.design.now) c.args.signal.0)
+    (signal_width (design_of c.args.design.now).signals c.args.signal.0) c.args.sizes.now
+    c.args.signal.0
     (sym c.is_top_input.ensures ∙ c.if-is_top_input.false) c.requires.sizes c.requires.known

@@ -147,19 +147,21 @@ returns-in_err-make_next-clause-full c =
     let same : IsErrOf c.from_residual-in_err-make_next.result Full →
     IsErrOf c.make_next.result Full = search rules in
     let design = design_in c.args.self.now in
-    let o = obligation_in c.args.self.now in
-    let second = next_more c.args.self.now.design.now c.know_design.ensures.checked o
-    c.requires.encoder.query in
     λ e.
     let most = subst (λ (z : Formula × Words). most_variables < (z.0).variables)
-    (registers_from design o _
+    (registers_from design (obligation_in c.args.self.now) _
     (taken (inputs_in design) c.deref-2.ensures.value c.in_ok-inputs.ensures c.deref.ensures.value
     c.requires.encoder.next)
     _ c.new-words.ensures _ _ c.requires.now _ c.in_ok-make_fresh.ensures.made _
     (taken (registers_in design) c.deref-5.ensures.value c.in_ok-registers.ensures
     c.deref-4.ensures.value c.requires.encoder.next))
     (c.make_next.ensures.full (same e)) in
-    omega (arith, most, second)
+    omega (
+      arith,
+      most,
+      next_more c.args.self.now.design.now c.know_design.ensures.checked
+          (obligation_in c.args.self.now) c.requires.encoder.query,
+    )
 
 pub returns-in_err-make_settled-clause-full : goal.returns-in_err-make_settled-clause-full
 returns-in_err-make_settled-clause-full c =

@@ -52,9 +52,8 @@ module _ (system : System ℕ Point) (test : ℕ → Bool) (n : ℕ) where
       answer found
 
   of_both : (b c d : Bool) → ((b && d) || (c && d)) ≡ ((b || c) && d)
-  of_both true true true = refl
+  of_both true c true = refl
   of_both true true false = refl
-  of_both true false true = refl
   of_both true false false = refl
   of_both false c d = refl
 

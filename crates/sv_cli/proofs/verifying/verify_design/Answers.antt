@@ -33,10 +33,9 @@ pub returns-in_err-report_of_fault-in-Err : goal.returns-in_err-report_of_fault-
 returns-in_err-report_of_fault-in-Err g c =
     let C = g.C.Cabinet in
     let design = design_of c.args.design.now in
-    let proof = c.args.proof.now in
     let files = files_by C.exchanges C.held C.fetch_faults C.store_faults c.args.cabinet.now in
-    spent_readied (MayFetchOwn proof design)
-    (λ exchanges. Reports (Verifies proof design exchanges)) C.tells files files []
+    spent_readied (MayFetchOwn c.args.proof.now design)
+    (λ exchanges. Reports (Verifies c.args.proof.now design exchanges)) C.tells files files []
     c.from_residual-in_err-report_of_fault-in-Err.result (none_passed C.tells files) (inl refl)
     c.from_residual-in_err-report_of_fault-in-Err.ensures.1
 

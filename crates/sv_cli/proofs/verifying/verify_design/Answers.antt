@@ -43,9 +43,9 @@ pub returns-in_ok-report_of_fault-in-Err : goal.returns-in_ok-report_of_fault-in
 returns-in_ok-report_of_fault-in-Err g c =
     let C = g.C.Cabinet in
     let design = design_of c.args.design.now in
-    let proof = c.args.proof.now in
     let files = files_by C.exchanges C.held C.fetch_faults C.store_faults c.args.cabinet.now in
     let report = c.in_ok-report_of_fault-in-Err.field-0 in
-    made_readied (MayFetchOwn proof design)
-    (λ exchanges. Reports (Verifies proof design exchanges)) C.tells files (Whole report)
-    (inl refl) (excess_verified proof design report c.in_ok-report_of_fault-in-Err.ensures)
+    made_readied (MayFetchOwn c.args.proof.now design)
+    (λ exchanges. Reports (Verifies c.args.proof.now design exchanges)) C.tells files (Whole report)
+    (inl refl)
+    (excess_verified c.args.proof.now design report c.in_ok-report_of_fault-in-Err.ensures)

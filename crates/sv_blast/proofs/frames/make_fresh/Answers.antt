@@ -1,4 +1,4 @@
-use Rattle.std.proofs.Common.{rules, ◌≡◌, ◌∙◌, ◌<◌, ◌+◌, length, drop, get_or, ap, sym, subst}
+use Rattle.std.proofs.Common.{rules, ◌∙◌, ◌<◌, ◌+◌, length, drop, get_or, ap, sym, subst}
 use Rattle.std.specs.Result.{IsErrOf}
 use Rattle.sv_flat.specs.Values.{signal_width}
 use Rattle.sv_flat.specs.Views.{design_of}

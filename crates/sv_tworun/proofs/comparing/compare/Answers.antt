@@ -14,7 +14,7 @@ use Rattle.sv_tworun.proofs.RunFacts.{found_at_end}
 use Rattle.sv_tworun.proofs.RunTraces.{compared}
 use Rattle.sv_tworun.proofs.StimFacts.{shorter, length_of, cycle_fits, stim_in_cycle, stim_goes_on}
 use Rattle.sv_tworun.proofs.comparing.compare.Goals as goal
-use Rattle.sv_tworun.proofs.comparing.compare.Goals.{After-settle, After-settle-in-loop-cycle}
+use Rattle.sv_tworun.proofs.comparing.compare.Goals.{After-settle, After-values-in-loop-cycle}
 
 pub settle-requires : goal.settle-requires
 settle-requires c =
@@ -94,7 +94,7 @@ first_in_cycle c =
     (let test = c.loop-cycle-test.true in omega (arith, least)) c.index.ensures
     c.deref-in-loop-cycle.ensures.value c.settle.ensures.values c.loop-cycle.invariant.first
 
-second_in_cycle : (c : After-settle-in-loop-cycle) →
+second_in_cycle : (c : After-values-in-loop-cycle) →
     HasInCycle (design_of c.args.design.now) (run_of c.args.b.now) c.loop-cycle.cycle
     c.settle-in-loop-cycle.new.self.values
 second_in_cycle c =
@@ -121,7 +121,7 @@ returns-in-Some-clause-comparison c =
     (found_there (design_of flat) is c.args.level (run_of c.args.a.now) (run_of c.args.b.now) k
     one other c.in-Some.difference c.loop-cycle.invariant.alike
     (first_in_cycle (goal.at.returns-in-Some-clause-comparison c).After-settle)
-    (second_in_cycle (goal.at.returns-in-Some-clause-comparison c).After-settle-in-loop-cycle)
+    (second_in_cycle (goal.at.returns-in-Some-clause-comparison c).After-values-in-loop-cycle)
     (subst (λ vs. IsDifference system c.args.level k (by_number one) (by_number vs)
     c.in-Some.difference) c.values-in-loop-cycle.ensures.values
     (subst (λ vs. IsDifference system c.args.level k (by_number vs)
@@ -169,7 +169,7 @@ loop-cycle-preserved c =
           (still_alike (design_of flat) is c.args.level (run_of c.args.a.now)
           (run_of c.args.b.now) k one other c.loop-cycle.invariant.alike
           (first_in_cycle (goal.at.loop-cycle-preserved c).After-settle)
-          (second_in_cycle (goal.at.loop-cycle-preserved c).After-settle-in-loop-cycle)
+          (second_in_cycle (goal.at.loop-cycle-preserved c).After-values-in-loop-cycle)
           (subst (λ vs. view system c.args.level (by_number one) ≡
           view system c.args.level (by_number vs)) c.values-in-loop-cycle.ensures.values
           (subst (λ vs. view system c.args.level (by_number vs) ≡

@@ -37,7 +37,6 @@ pub fn command_named(word: &str) -> Option<CommandName>
 }
 
 /// The words of a command, as a command of `clap`.
-#[tactic(auto, unfolding(crate::specs::Lines::line_of))]
 pub fn line_of<'a>(alloc: Global, name: CommandName) -> Result<clap::Command<'a>, AllocError>
     ensures { IfOk result (λ line. app_of line ≡ line_of name) }
 {

@@ -122,6 +122,12 @@ module _ (signals : List SignalForm) (followed : List ℕ) where
       (λ u at. apart u (Contains-later s ts u at))
       ∙ put_other copy t made.1 ws (λ e. apart s (Contains-head s ts) (sym e))
 
+  -- what is made leaves the words, or none of it is
+  either_leaves : (c : Bool) (made : Formula × Words) (t : ℕ) (ws : Words) (f : Formula) →
+      made.1 t ≡ ws t → (cond c made (f, ws)).1 t ≡ ws t
+  either_leaves true made t ws f leaves = leaves
+  either_leaves false made t ws f leaves = refl
+
   pub after_leaves : (b : FlatStatement) (t : ℕ) → IsLeftBy b t → (ws : Words) (f : Formula) →
       (words_after signals followed b ws f).1 t ≡ ws t
   after_leaves nothing t left ws f = refl
@@ -130,43 +136,24 @@ module _ (signals : List SignalForm) (followed : List ℕ) where
       after_leaves y t (λ s at own. left s at (or_right (assigns x s) (assigns y s) own)) one.1 one.0
       ∙ after_leaves x t (λ s at own. left s at (or_left (assigns x s) (assigns y s) own)) ws f
   after_leaves (assign pieces place blocking right) t left ws f =
-      by (assigns_some followed (assign pieces place blocking right))
-    where
-      word : Formula × Word
-      word = expression_word both ws right f
-
-      by : (c : Bool) → (cond {A = Formula × Words} c (
-        word.0,
-        fold (with_piece_word signals followed word.1) ws pieces,
-      ) (f, ws)).1 t ≡ ws t
-      by true = folded_leaves (with_piece_word signals followed word.1) t pieces ws
-          (λ p at before. piece_leaves word.1 t p before (λ held.
-          left p.signal (Contains-from_holds followed p.signal held)
-          (some_from (λ (q : PieceForm). q.signal == p.signal) pieces p at
-          (eq-eqb p.signal p.signal refl))))
-      by false = refl
+      let word = expression_word both ws right f in
+      either_leaves (assigns_some followed (assign pieces place blocking right))
+      (word.0, fold (with_piece_word signals followed word.1) ws pieces) t ws f
+      (folded_leaves (with_piece_word signals followed word.1) t pieces ws
+      (λ p at before. piece_leaves word.1 t p before (λ held.
+      left p.signal (Contains-from_holds followed p.signal held)
+      (some_from (λ (q : PieceForm). q.signal == p.signal) pieces p at
+      (eq-eqb p.signal p.signal refl)))))
   after_leaves (branch place condition x y) t left ws f =
-      by (assigns_some followed (branch place condition x y))
-    where
-      assigned : List ℕ
-      assigned = filter (assigns (branch place condition x y)) followed
-
-      bit : Formula × ℤ
-      bit = is_true_bit both ws condition f
-
-      one : Formula × Words
-      one = words_after signals followed x ws bit.0
-
-      two : Formula × Words
-      two = words_after signals followed y ws one.0
-
-      by : (c : Bool) →
-          (cond {A = Formula × Words} c
-          (chosen_words signals bit.1 one.1 two.1 assigned ws two.0) (f, ws)).1 t ≡ ws t
-      by true = chosen_leave bit.1 one.1 two.1 t assigned ws two.0 (λ s at.
-          let found = Contains-from_filter (assigns (branch place condition x y)) followed s at in
-          left s found.1 found.0)
-      by false = refl
+      let assigned = filter (assigns (branch place condition x y)) followed in
+      let bit = is_true_bit both ws condition f in
+      let one = words_after signals followed x ws bit.0 in
+      let two = words_after signals followed y ws one.0 in
+      either_leaves (assigns_some followed (branch place condition x y))
+      (chosen_words signals bit.1 one.1 two.1 assigned ws two.0) t ws f
+      (chosen_leave bit.1 one.1 two.1 t assigned ws two.0 (λ s at.
+      let found = Contains-from_filter (assigns (branch place condition x y)) followed s at in
+      left s found.1 found.0))
 
   -- a statement that assigns no followed signal
   pub passed : (b : FlatStatement) → IsFalse (assigns_some followed b) → (ws : Words) (f : Formula) →

@@ -322,16 +322,21 @@ module _ (design : FlatDesign) (o : Obligation) where
           each_length (map (is_true_bit design.signals now_words) o.facts) (after_next design o).0
           ∙ length-map o.facts (is_true_bit design.signals now_words)
 
+      -- a part up to or from the seam
+      parted : (part : ℕ → List ℤ → List ℤ) (n : ℕ) → n ≡ length o.facts →
+          part n (literals_of truths)
+          ≡ part (length (after_facts design o).1)
+          ((after_facts design o).1 ++ (after_conditions design o).1)
+      parted part n e = ap₂ part (e ∙ sym count) both
+
       pub facts_are : (n : ℕ) → n ≡ length o.facts →
           literals_of (take n truths) ≡ (after_facts design o).1
       facts_are n e =
-          sym (take-map (λ (truth : Truth). truth.literal) n truths)
-          ∙ ap₂ take (e ∙ sym count) both
+          sym (take-map (λ (truth : Truth). truth.literal) n truths) ∙ parted take n e
           ∙ take-append_seam (after_facts design o).1 (after_conditions design o).1
 
       pub conditions_are : (n : ℕ) → n ≡ length o.facts →
           literals_of (drop n truths) ≡ (after_conditions design o).1
       conditions_are n e =
-          sym (drop-map (λ (truth : Truth). truth.literal) n truths)
-          ∙ ap₂ drop (e ∙ sym count) both
+          sym (drop-map (λ (truth : Truth). truth.literal) n truths) ∙ parted drop n e
           ∙ drop-append_seam (after_facts design o).1 (after_conditions design o).1

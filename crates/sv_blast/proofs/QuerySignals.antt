@@ -1,16 +1,20 @@
 -- The signals of an obligation are signals of the design.
-use Rattle.std.proofs.Common.{ℕ, ◌<◌, List, length, get_or, All, arith}
+use Rattle.std.proofs.Common.{◌≡◌, ℕ, ◌<◌, List, length, get_or, sym, subst, All, arith}
 use Rattle.std.specs.Prelude.{IsTrue}
 use Rattle.std.proofs.lemmas.List.Elements.{Contains-get_or}
 use Rattle.sv_flat.specs.declared.designs.Flat.{Flat}
+use Rattle.sv_flat.specs.declared.signals.SigId.{SigId}
 use Rattle.sv_flat.specs.Admission.{IsAdmitted}
 use Rattle.sv_flat.specs.Sets.{holds as is_held}
 use Rattle.sv_flat.specs.Soundness.{sound}
 use Rattle.sv_flat.specs.Views.{design_of}
 use Rattle.sv_flat.proofs.LeastSets.{holds-from_Contains}
+use Rattle.sv_design.specs.Numbers.{numbers}
+use Rattle.sv_obl.specs.declared.queries.Goal.{Goal}
+use Rattle.sv_obl.specs.declared.queries.Query.{Query}
 use Rattle.sv_obl.specs.DesignQueries.{IsGoalOf, IsQueryOf}
 use Rattle.sv_obl.specs.Obligations.{GoalForm, flow, holds, selector, Obligation}
-use Rattle.sv_obl.specs.Views.{IsGoalAmong}
+use Rattle.sv_obl.specs.Views.{goal_form, obligation_of, IsGoalAmong}
 use Rattle.sv_encoding.specs.Cones.{now_cone, next_cone}
 use Rattle.sv_encoding_laws.proofs.ConeFacts.{seen_below, Seen}
 use Rattle.sv_encoding_laws.proofs.QueryCones.{now_seen, next_seen}
@@ -32,6 +36,20 @@ module _ (flat : Flat) (is_sound : IsTrue (sound (design_of flat)))
   goal_known o (flow target frame) is = seen_known target is.0
   goal_known o (holds e frame) is = tt
   goal_known o (selector s) is = seen_known s is.0
+
+  -- the same of what stands in a query
+  module _ (query : Query) (is : IsQueryOf (design_of flat) (obligation_of query)) where
+    pub listed_known : (reads : List SigId) → reads ≡ query.reads.items →
+        All (λ s. s < length flat.signals.items) (numbers reads)
+    listed_known reads are =
+        subst (λ (rs : List SigId). All (λ s. s < length flat.signals.items) (numbers rs)) (sym are)
+        (reads_known (obligation_of query) is)
+
+    pub asked_known : (goal : Goal) → query.goal ≡ goal →
+        IsGoalAmong (length flat.signals.items) (goal_form goal)
+    asked_known goal e =
+        subst (λ (g : Goal). IsGoalAmong (length flat.signals.items) (goal_form g)) e
+        (goal_known (obligation_of query) (obligation_of query).goal is.goal)
 
   cone_known : (cone : List ℕ) →
       ((s : ℕ) → IsTrue (is_held cone s) → Seen (design_of flat) is_sound admitted s) →

@@ -10,6 +10,12 @@ use Rattle.sv_flat.specs.Values.{signal_width}
 use Rattle.sv_flat.specs.Views.{signal_form}
 use Rattle.sv_design.specs.Numbers.{numbers}
 
+-- what is left of a list at a turn, by the item there
+pub turn_at : {A : Type 0} (items : List A) (i : ℕ) (item : A) → i < length items →
+    item ≡ get_or items i item → drop i items ≡ item ∷ drop (i + 1) items
+turn_at items i item inside is =
+    drop_more items i item inside ∙ ap (λ z. z ∷ drop (i + 1) items) (sym is)
+
 abbrev pub none : SigId
 none = record { 0 = 0 }
 
@@ -41,3 +47,13 @@ pub width_here : (signals : List Signal) (s : ℕ) (x : Signal) → s < length s
 width_here [] s x inside = absurd (omega arith)
 width_here (y ∷ signals) zero x inside = refl
 width_here (y ∷ signals) (suc s) x inside = width_here signals s x (omega arith)
+
+-- the same of the signal at a turn, in a list that is the design's
+pub width_at : (listed items : List Signal) (signals : List SigId) (i : ℕ) (x : Signal) →
+    i < length signals → All (λ s. s < length listed) (numbers signals) → items ≡ listed →
+    signal_width (map signal_form listed) (get_or signals i none).0
+    ≡ (get_or items (get_or signals i none).0 x).width
+width_at listed items signals i x inside known are =
+    let s = (get_or signals i none).0 in
+    width_here listed s x (number_at signals i inside (λ k. k < length listed) known)
+    ∙ ap (λ (z : List Signal). (get_or z s x).width) (sym are)

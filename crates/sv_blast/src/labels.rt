@@ -251,8 +251,7 @@ fn append_label(
 ) -> Result<(), AllocError>
     ensures { OnOk result (labels.new.items ≡ labels.old.items ++ label ∷ []) }
 {
-    labels.push(label)?;
-    Ok(())
+    labels.push(label)
 }
 
 /// The literals of the labels of signals, one after the other.

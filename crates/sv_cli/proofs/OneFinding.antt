@@ -158,16 +158,13 @@ module _ (a b : List ℕ) (is_point : Bool) (form : StimForm) (Tells : TellsOfBo
         one_limit Lines 711 711 (codes "A" ∷ []) (codes "A" ∷ []) answer other printed others
         refl refl x.tells y.tells
     one_of_files (compares.first_oversized level x) (compares.second_oversized level' y) =
-        absurd (whole_or_not a y.first x.bytes exchanges (fetched b (too_long y.bytes) ∷ []) []
-        y.fetches x.fetches)
+        absurd (whole_or_not a y.first x.bytes exchanges _ [] y.fetches x.fetches)
     one_of_files (compares.first_oversized level x) (compares.compared level' y) =
-        absurd (whole_or_not a y.first x.bytes exchanges (fetched b (whole y.second) ∷ []) []
-        y.fetches x.fetches)
+        absurd (whole_or_not a y.first x.bytes exchanges _ [] y.fetches x.fetches)
     one_of_files (compares.second_oversized level x) (compares.no_level off none y) =
         absurd (both_ways is_point off level)
     one_of_files (compares.second_oversized level x) (compares.first_oversized level' y) =
-        absurd (whole_or_not a x.first y.bytes exchanges (fetched b (too_long x.bytes) ∷ []) []
-        x.fetches y.fetches)
+        absurd (whole_or_not a x.first y.bytes exchanges _ [] x.fetches y.fetches)
     one_of_files (compares.second_oversized level x) (compares.second_oversized level' y) =
         one_limit Lines 711 711 (codes "B" ∷ []) (codes "B" ∷ []) answer other printed others
         refl refl x.tells y.tells
@@ -176,8 +173,7 @@ module _ (a b : List ℕ) (is_point : Bool) (form : StimForm) (Tells : TellsOfBo
     one_of_files (compares.compared level x) (compares.no_level off none y) =
         absurd (both_ways is_point off level)
     one_of_files (compares.compared level x) (compares.first_oversized level' y) =
-        absurd (whole_or_not a x.first y.bytes exchanges (fetched b (whole x.second) ∷ []) []
-        x.fetches y.fetches)
+        absurd (whole_or_not a x.first y.bytes exchanges _ [] x.fetches y.fetches)
     one_of_files (compares.compared level x) (compares.second_oversized level' y) =
         absurd (second_or_not x.first x.second y.bytes y.first x.fetches y.fetches)
     one_of_files (compares.compared level x) (compares.compared level' y) = one_fetched level x y

@@ -16,20 +16,17 @@ IsProvedWithin design most o =
 -- a fact for the steps that show an obligation valid
 abbrev pub WhereValid : (List Step → Type 0) → Decided → Type 0
 WhereValid fact (Valid log) = fact (plain_log log)
-WhereValid fact (Fails v) = Unit {0}
-WhereValid fact (Spent log) = Unit {0}
+WhereValid fact answer = Unit {0}
 
 -- a fact for the valuation that falsifies one
 abbrev pub WhereFails : (Valuation → Type 0) → Decided → Type 0
-WhereFails fact (Valid log) = Unit {0}
 WhereFails fact (Fails v) = fact v
-WhereFails fact (Spent log) = Unit {0}
+WhereFails fact answer = Unit {0}
 
 -- a fact for the steps of a spent log
 abbrev pub WhereSpent : (List Step → Type 0) → Decided → Type 0
-WhereSpent fact (Valid log) = Unit {0}
-WhereSpent fact (Fails v) = Unit {0}
 WhereSpent fact (Spent log) = fact (plain_log log)
+WhereSpent fact answer = Unit {0}
 
 -- the answer is no spent log
 abbrev pub IsNotSpent : Decided → Type 0

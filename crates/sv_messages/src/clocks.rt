@@ -1,7 +1,7 @@
 // What is said of clocks that are not as a clock is to be.
 use crate::designs::flat_design;
 use crate::said::Said;
-use crate::uses::{driven_at, link_in, read_at, signal_named};
+use crate::uses::{Usage, link_in, signal_named, used_at};
 use std::alloc::{AllocError, Global};
 use sv_flat::{Flat, ProcKind, Process, SigId, SigKind, Signal};
 use sv_hints::{Case, Hole, PortLink, instance_words, owned, port_link, told};
@@ -294,9 +294,9 @@ fn use_in(process: &Process, number: usize) -> Option<Used> {
     if link_in(process).is_some() {
         return None;
     }
-    match driven_at(&process.body, number) {
+    match used_at(&process.body, Usage::Driven, number) {
         Some(place) => Some(Used::Driven(place)),
-        None => Some(Used::Read(read_at(&process.body, number)?)),
+        None => Some(Used::Read(used_at(&process.body, Usage::Read, number)?)),
     }
 }
 

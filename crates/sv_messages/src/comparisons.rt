@@ -35,32 +35,46 @@ fn with_label(signal: &Signal) -> Hole<'static> {
     }
 }
 
-/// Of two runs that are given what differs.
-pub fn unlike_given(
+/// How two runs differ in a signal.
+#[derive(Clone, Copy)]
+pub enum Difference {
+    /// They are given it differently.
+    Given,
+    /// They are given what looks alike, and it looks different.
+    Seen,
+}
+
+/// Of two runs that differ in a signal.
+pub fn unlike(
     alloc: Global,
     origin: &Origin,
     command: &Command,
+    difference: Difference,
     cycle: u64,
     signal: SigId,
 ) -> Result<String, AllocError> {
     match admitted_design(alloc, origin) {
-        Some(design) => unlike_in(alloc, &design, command, cycle, signal),
+        Some(design) => unlike_in(alloc, &design, command, difference, cycle, signal),
         None => Ok(String::new(alloc)),
     }
 }
 
-// Of a signal of a design that is given differently.
+// The same of a signal of a design.
 fn unlike_in(
     alloc: Global,
     design: &Design,
     command: &Command,
+    difference: Difference,
     cycle: u64,
     signal: SigId,
 ) -> Result<String, AllocError> {
-    match design.signals().get(signal.0 as usize) {
-        Some(found) if is_register(design, signal) => unlike_start(alloc, command, found),
-        Some(found) => unlike_input(alloc, command, cycle, found),
-        None => Ok(String::new(alloc)),
+    let Some(found) = design.signals().get(signal.0 as usize) else {
+        return Ok(String::new(alloc));
+    };
+    match difference {
+        Difference::Given if is_register(design, signal) => unlike_start(alloc, command, found),
+        Difference::Given => unlike_input(alloc, command, cycle, found),
+        Difference::Seen => leak(alloc, command, cycle, found),
     }
 }
 
@@ -126,31 +140,13 @@ fn is_register(design: &Design, signal: SigId) -> bool {
     false
 }
 
-/// Of two runs that are given what looks alike, and look different.
-pub fn leak(
+// Of a signal that looks different in a cycle.
+fn leak(
     alloc: Global,
-    origin: &Origin,
     command: &Command,
     cycle: u64,
-    signal: SigId,
+    found: &Signal,
 ) -> Result<String, AllocError> {
-    match admitted_design(alloc, origin) {
-        Some(design) => leak_in(alloc, &design, command, cycle, signal),
-        None => Ok(String::new(alloc)),
-    }
-}
-
-// Of a signal of a design that looks different in a cycle.
-fn leak_in(
-    alloc: Global,
-    design: &Design,
-    command: &Command,
-    cycle: u64,
-    signal: SigId,
-) -> Result<String, AllocError> {
-    let Some(found) = design.signals().get(signal.0 as usize) else {
-        return Ok(String::new(alloc));
-    };
     let name = shown(alloc, found.name.bytes())?;
     told(
         alloc,

@@ -92,20 +92,18 @@ fn nodes_in(expr: &FExpr) -> u64 {
 #[cycle(nodes_in)]
 fn nodes_under(node: &FNode) -> u64 {
     match node {
-        FNode::Number(_) => 0,
-        FNode::Signal(_, _) => 0,
-        FNode::Bit(_, _, index) => nodes_in(index),
-        FNode::Part(_, _, _, _) => 0,
-        FNode::Unary(_, operand) => nodes_in(operand),
-        FNode::Binary(_, left, right) => sum(nodes_in(left), nodes_in(right)),
+        FNode::Number(_) | FNode::Signal(_, _) | FNode::Part(_, _, _, _) => 0,
+        FNode::Bit(_, _, value)
+        | FNode::Unary(_, value)
+        | FNode::Held(_, value)
+        | FNode::HeldPart(_, _, value, _, _)
+        | FNode::Slice(value, _, _) => nodes_in(value),
+        FNode::Binary(_, first, second)
+        | FNode::HeldBit(_, _, first, second)
+        | FNode::Mend(_, first, _, _, second) => sum(nodes_in(first), nodes_in(second)),
         FNode::Choice(_, cond, yes, no) => { sum(sum(nodes_in(cond), nodes_in(yes)), nodes_in(no)) }
         FNode::Join(parts) => nodes_in_parts(parts),
         FNode::Repeat(_, parts) => nodes_in_parts(parts),
-        FNode::Held(_, value) => nodes_in(value),
-        FNode::HeldBit(_, _, value, index) => sum(nodes_in(value), nodes_in(index)),
-        FNode::HeldPart(_, _, value, _, _) => nodes_in(value),
-        FNode::Mend(_, old, _, _, piece) => sum(nodes_in(old), nodes_in(piece)),
-        FNode::Slice(value, _, _) => nodes_in(value),
     }
 }
 

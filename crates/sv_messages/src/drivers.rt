@@ -1,6 +1,6 @@
 // What is said of signals with two drivers.
 use crate::designs::flat_design;
-use crate::uses::{driven_at, signal_named};
+use crate::uses::{Usage, signal_named, used_at};
 use std::alloc::{AllocError, Global};
 use sv_flat::{Flat, ProcKind, Process, SigKind};
 use sv_hints::{Case, Hole, instance_words, told};
@@ -72,7 +72,9 @@ fn second_fault(
 // How two drivers of a signal become one.
 fn mend_of_two(flat: &Flat, number: usize) -> &'static str {
     for process in &flat.processes {
-        if process.kind == ProcKind::PortOut && driven_at(&process.body, number).is_some() {
+        if process.kind == ProcKind::PortOut
+            && used_at(&process.body, Usage::Driven, number).is_some()
+        {
             return "link each output to a `wire` of its own, and join those in one `assign`";
         }
     }
@@ -109,7 +111,7 @@ fn place_of(process: &Process) -> Hole<'static> {
 // The first process that drives a signal.
 fn first_driver(flat: &Flat, number: usize) -> Option<&Process> {
     for process in &flat.processes {
-        if driven_at(&process.body, number).is_some() {
+        if used_at(&process.body, Usage::Driven, number).is_some() {
             return Some(process);
         }
     }

@@ -1,6 +1,6 @@
 // The lines of a message.
 use crate::clocks::clock;
-use crate::comparisons::{leak, lengths, unlike_given};
+use crate::comparisons::{Difference, lengths, unlike};
 use crate::drivers::drivers;
 use crate::flows::{flow, spent};
 use crate::limits;
@@ -42,8 +42,12 @@ pub fn message(
         Broken::Stimulus(source, line, kind) => {
             stimulus(alloc, origin, command, given, (*source, *line, *kind))
         }
-        Broken::Input(cycle, signal) => unlike_given(alloc, origin, command, *cycle, *signal),
-        Broken::View(cycle, signal) => leak(alloc, origin, command, *cycle, *signal),
+        Broken::Input(cycle, signal) => {
+            unlike(alloc, origin, command, Difference::Given, *cycle, *signal)
+        }
+        Broken::View(cycle, signal) => {
+            unlike(alloc, origin, command, Difference::Seen, *cycle, *signal)
+        }
         Broken::Lengths(cycles) => lengths(alloc, command, *cycles),
     }
 }

@@ -78,7 +78,10 @@ pub fn stimulus(
     wrong: (StimSource, u64, StimKind),
 ) -> Result<String, AllocError> {
     let (source, line, kind) = wrong;
-    let wanted = wanted_of(alloc, origin, kind, given.stimulus(source, line))?;
+    let wanted = match admitted_design(alloc, origin) {
+        Some(design) => wanted_in(alloc, &design, kind, given.stimulus(source, line))?,
+        None => owned(alloc, "this line of the stimulus is wrong")?,
+    };
     match file_of(command, source) {
         Some(file) => told(
             alloc,
@@ -110,19 +113,6 @@ fn line_sentence(source: StimSource) -> &'static str {
     }
 }
 
-// What is wanted in place of a line, where the design is at hand.
-fn wanted_of(
-    alloc: Global,
-    origin: &Origin,
-    kind: StimKind,
-    found: Option<&[u8]>,
-) -> Result<String, AllocError> {
-    match admitted_design(alloc, origin) {
-        Some(design) => wanted(alloc, &design, kind, found),
-        None => owned(alloc, "this line of the stimulus is wrong"),
-    }
-}
-
 const CRLF: &str = "the line ends with CR and LF: let each line end with LF alone, as \
                     `tr -d '\\r'` makes it";
 
@@ -134,8 +124,8 @@ fn ends_with_return(found: Option<&[u8]>) -> bool {
     }
 }
 
-// What is wanted in place of a line.
-fn wanted(
+// What is wanted in place of a line of a stimulus of a design.
+fn wanted_in(
     alloc: Global,
     design: &Design,
     kind: StimKind,

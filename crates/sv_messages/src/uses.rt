@@ -54,23 +54,39 @@ fn earlier(first: Option<Place>, second: Option<Place>) -> Option<Place> {
     }
 }
 
-/// The place of the first name of a signal that a statement reads.
-#[cycle(read_at)]
-pub fn read_at(stmt: &FStmt, signal: usize) -> Option<Place> {
+/// How a statement uses a signal.
+#[derive(Clone, Copy)]
+pub enum Usage {
+    /// It reads it.
+    Read,
+    /// It assigns it.
+    Driven,
+}
+
+/// The place of the first name of a signal that a statement reads, or of its first target that is
+/// of the signal.
+#[cycle(used_at)]
+pub fn used_at(stmt: &FStmt, usage: Usage, signal: usize) -> Option<Place> {
     match stmt {
-        FStmt::Assign { value, .. } => named_at(value, signal),
-        FStmt::Block(stmts) => some_read_at(stmts, signal),
+        FStmt::Assign { pieces, value, .. } => match usage {
+            Usage::Read => named_at(value, signal),
+            Usage::Driven => piece_of(pieces, signal),
+        },
+        FStmt::Block(stmts) => some_used_at(stmts, usage, signal),
         FStmt::If { cond, yes, no, .. } => {
-            let in_arms = earlier(read_at(yes, signal), read_at(no, signal));
-            earlier(named_at(cond, signal), in_arms)
+            let in_arms = earlier(used_at(yes, usage, signal), used_at(no, usage, signal));
+            match usage {
+                Usage::Read => earlier(named_at(cond, signal), in_arms),
+                Usage::Driven => in_arms,
+            }
         }
     }
 }
 
-#[cycle(read_at)]
-fn some_read_at(stmts: &[FStmt], signal: usize) -> Option<Place> {
+#[cycle(used_at)]
+fn some_used_at(stmts: &[FStmt], usage: Usage, signal: usize) -> Option<Place> {
     for stmt in stmts {
-        if let Some(place) = read_at(stmt, signal) {
+        if let Some(place) = used_at(stmt, usage, signal) {
             return Some(place);
         }
     }
@@ -82,26 +98,6 @@ fn piece_of(pieces: &[Piece], signal: usize) -> Option<Place> {
     for piece in pieces {
         if piece.signal.0 as usize == signal {
             return Some(piece.place);
-        }
-    }
-    None
-}
-
-/// The place of the first target of a statement that is of the signal.
-#[cycle(driven_at)]
-pub fn driven_at(stmt: &FStmt, signal: usize) -> Option<Place> {
-    match stmt {
-        FStmt::Assign { pieces, .. } => piece_of(pieces, signal),
-        FStmt::Block(stmts) => some_driven_at(stmts, signal),
-        FStmt::If { yes, no, .. } => earlier(driven_at(yes, signal), driven_at(no, signal)),
-    }
-}
-
-#[cycle(driven_at)]
-fn some_driven_at(stmts: &[FStmt], signal: usize) -> Option<Place> {
-    for stmt in stmts {
-        if let Some(place) = driven_at(stmt, signal) {
-            return Some(place);
         }
     }
     None

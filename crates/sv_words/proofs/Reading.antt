@@ -32,15 +32,16 @@ use Rattle.sv_words.proofs.Given.{StandsAt, required_is_given, value_is_read}
 
 -- ---- the lines, computed
 
-free_line : (n : CommandName) → is_simple_and_free (line_of n) ≡ true
+line_forms : (n : CommandName) →
+    (is_simple_and_free (line_of n) ≡ true) × (is_simple (line_of n) ≡ true)
 unfolding line_of clap_on_literals
-free_line name.Check = refl
-free_line other = refl
-
-simple_line : (n : CommandName) → is_simple (line_of n) ≡ true
-unfolding line_of clap_on_literals
-simple_line name.Check = refl
-simple_line other = refl
+line_forms name.Check = (refl, refl)
+line_forms name.Verify = (refl, refl)
+line_forms name.List = (refl, refl)
+line_forms name.Cnf = (refl, refl)
+line_forms name.Sim = (refl, refl)
+line_forms name.Compare = (refl, refl)
+line_forms name.Gen = (refl, refl)
 
 file_of_check : StandsAt (line_of name.Check) 0 (needed (codes "FILE"))
 unfolding line_of
@@ -183,8 +184,8 @@ pub line_is_read : (n : CommandName) (c : Line) (m : ArgMatches) (words : List T
     → IsReadAs n words m
 line_is_read n c m words same p matches fails = record {
   read = sym (rejected_by (app_of c) n words same)
-      ∙ ap (λ (k : Kinds). is_empty k) (fails (ap is_simple_and_free same ∙ free_line n));
-  rows = (matches (ap is_simple same ∙ simple_line n)).0 ∙ found_by (app_of c) n words same;
+      ∙ ap (λ (k : Kinds). is_empty k) (fails (ap is_simple_and_free same ∙ (line_forms n).0));
+  rows = (matches (ap is_simple same ∙ (line_forms n).1)).0 ∙ found_by (app_of c) n words same;
   has = holds_words n c m p same;
 }
 
@@ -202,7 +203,7 @@ pub line_is_refused : (n : CommandName) (c : Line) (e : Error) (words : List Tex
 line_is_refused n c e words same fails other =
     sym (rejected_by (app_of c) n words same)
     ∙ some_kind (fault_of (app_of c) words) e
-    (fails (ap is_simple_and_free same ∙ free_line n)) other
+    (fails (ap is_simple_and_free same ∙ (line_forms n).0)) other
 
 pub rejects : (n : CommandName) (c : Line) (e : Error) (words : List Text) (k : ErrorKind)
     (fault : WordFault) → app_of c ≡ line_of n

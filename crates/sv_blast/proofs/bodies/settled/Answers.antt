@@ -19,6 +19,7 @@ use Rattle.sv_blast.specs.WordTables.{words_of}
 use Rattle.sv_blast.specs.TargetWords.{target_word, starting_word, AreReady}
 use Rattle.sv_blast.proofs.SliceWords.{known, settled_by_slice, slice_names}
 use Rattle.sv_blast.proofs.bodies.settled.Goals as goal
+use Rattle.sv_blast.proofs.bodies.settled.Goals.{After-after_slice}
 
 module _ (flat : Flat) (is : IsDesign (design_of flat)) (s : ℕ)
     (driven : IsTrue (is_register (design_of flat) s || is_combinational (design_of flat) s)) where
@@ -39,20 +40,30 @@ module _ (flat : Flat) (is : IsDesign (design_of flat)) (s : ℕ)
       ∙ ap (λ w. target_word (signal_forms flat.signals.items) words s body w f) (sym start_is)
       ∙ ap (λ xs. target_word (signal_forms xs) words s body start f) (sym signals_are)
 
+-- the word by the slice, over what is in hand
+by_slice : (c : After-after_slice) →
+    settled_word (design_of c.args.fan_in.now.design.now) (words_of c.args.fan_in.now.words.now)
+    c.args.target.0 c.args.gates.now
+    ≡ target_word (signal_forms c.signals-signals.result.now) (words_of c.args.fan_in.now.words.now)
+    c.args.target.0 (slice_statement c.in_ok-slice.slice) c.in_ok-word.word.items c.args.gates.now
+by_slice c =
+    from_slice c.args.fan_in.now.design.now c.signals-signals.ensures.design c.args.target.0
+    c.requires.driven (subst (IsMarkedFor (design_of c.args.fan_in.now.design.now) c.args.target.0)
+    c.in_default.is c.marked.ensures.body) (words_of c.args.fan_in.now.words.now) c.args.gates.now
+    (slice_statement c.in_ok-slice.slice) c.in_ok-slice.ensures c.signals-signals.result.now
+    c.signals-signals.ensures.signals c.in_ok-word.word.items c.in_ok-word.ensures.made
+
 pub marked-requires-clause-known : goal.marked-requires-clause-known
 marked-requires-clause-known c =
-    target_known c.args.fan_in.now.design.now c.signals-signals.ensures.design c.args.target.0
-    c.requires.driven
+    target_known c.args.fan_in.now.design.now c.signals-signals.ensures.design _ c.requires.driven
 
 pub slice-requires-clause-known : goal.slice-requires-clause-known
 slice-requires-clause-known c =
-    target_known c.args.fan_in.now.design.now c.signals-signals.ensures.design c.args.target.0
-    c.requires.driven
+    target_known c.args.fan_in.now.design.now c.signals-signals.ensures.design _ c.requires.driven
 
 pub starting-requires-clause-known : goal.starting-requires-clause-known
 starting-requires-clause-known c =
-    target_known c.args.fan_in.now.design.now c.signals-signals.ensures.design c.args.target.0
-    c.requires.driven
+    target_known c.args.fan_in.now.design.now c.signals-signals.ensures.design _ c.requires.driven
 
 pub after_slice-requires-clause-ready : goal.after_slice-requires-clause-ready
 after_slice-requires-clause-ready c =
@@ -68,21 +79,13 @@ after_slice-requires-clause-ready c =
 
 pub returns-clause-made : goal.returns-clause-made
 returns-clause-made c =
-    let whole = from_slice c.args.fan_in.now.design.now c.signals-signals.ensures.design c.args.target.0
-    c.requires.driven (subst (IsMarkedFor (design_of c.args.fan_in.now.design.now) c.args.target.0)
-    c.in_default.is c.marked.ensures.body) (words_of c.args.fan_in.now.words.now) c.args.gates.now
-    (slice_statement c.in_ok-slice.slice) c.in_ok-slice.ensures c.signals-signals.result.now
-    c.signals-signals.ensures.signals c.in_ok-word.word.items c.in_ok-word.ensures.made in
+    let whole = by_slice (goal.at.returns-clause-made c).After-after_slice in
     subst (λ (z : Formula × Word).
     IfOk c.after_slice.result (λ word. z ≡ (c.after_slice.new.gates, word.items))) (sym whole)
     c.after_slice.ensures.made
 
 pub returns-clause-full : goal.returns-clause-full
 returns-clause-full c =
-    let whole = from_slice c.args.fan_in.now.design.now c.signals-signals.ensures.design c.args.target.0
-    c.requires.driven (subst (IsMarkedFor (design_of c.args.fan_in.now.design.now) c.args.target.0)
-    c.in_default.is c.marked.ensures.body) (words_of c.args.fan_in.now.words.now) c.args.gates.now
-    (slice_statement c.in_ok-slice.slice) c.in_ok-slice.ensures c.signals-signals.result.now
-    c.signals-signals.ensures.signals c.in_ok-word.word.items c.in_ok-word.ensures.made in
+    let whole = by_slice (goal.at.returns-clause-full c).After-after_slice in
     λ e. subst (λ (z : Formula × Word). most_variables < z.0.variables) (sym whole)
     (c.after_slice.ensures.full e)

@@ -32,13 +32,13 @@ mark_all_reads-requires c =
 pub returns : goal.returns
 returns c =
     let design = design_of c.args.design.now in
-    let o = obligation_of c.args.query.now in
     let a = c.args.table.now in
     let b = c.mark_all_names.new.table in
     let c' = c.mark_conditions.new.table in
     let d = c.mark_all_selectors.new.table in
     let e = c.mark_asked_now.new.table in
-    now_marked c.args.design.now c.requires.design o c.requires.query a b c' d e
+    now_marked c.args.design.now c.requires.design (obligation_of c.args.query.now)
+    c.requires.query a b c' d e
     c.mark_all_reads.new.table c.requires.size c.mark_all_names.auto.table
     c.mark_conditions.auto.table c.mark_all_selectors.auto.table c.mark_asked_now.auto.table
     (subst (λ es. Marks a b (is_named_in (typed_trees es))) c.deref.ensures.value

@@ -1,6 +1,5 @@
-use Rattle.std.proofs.Common.{◌≡◌, ◌+◌, ◌∷◌, drop, ap, sym, ◌∙◌, rules}
+use Rattle.std.proofs.Common.{◌+◌, drop, sym, rules}
 use Rattle.std.specs.Result.{IsErrOf}
-use Rattle.std.proofs.lemmas.List.{drop_more}
 use Rattle.sv_gates.specs.Gates.{and_gate}
 use Rattle.sv_gates.specs.declared.gates.GateFault.TheVariants.{Full}
 use Rattle.sv_blast.specs.LabelViews.{point_form, label_form}
@@ -8,6 +7,7 @@ use Rattle.sv_blast.specs.LabelSteps.{point_stays}
 use Rattle.sv_blast.proofs.OrChains.{member_full, chain_left_full}
 use Rattle.sv_blast.proofs.FlowSteps.{stay_here, stays_grow}
 use Rattle.sv_blast.proofs.SignalLabels.{entry_up}
+use Rattle.sv_blast.proofs.SignalTurns.{turn_at}
 use Rattle.sv_blast.proofs.labels.point_stays.Goals as goal
 
 pub or_both-requires-clause-b : goal.or_both-requires-clause-b
@@ -24,9 +24,7 @@ returns-in_err-member-clause-full c =
     let to = c.to-item.result in
     let left = drop c.targets.to-index c.args.target.now in
     let more = drop (c.targets.to-index + 1) c.args.target.now in
-    let turn : left ≡ to ∷ more =
-    drop_more c.args.target.now c.targets.to-index to c.targets-test.true
-    ∙ ap (λ z. z ∷ more) (sym c.to-item.is) in
+    let turn = turn_at c.args.target.now c.targets.to-index to c.targets-test.true c.to-item.is in
     λ e. chain_left_full _ _ _ _ _ _ c.targets.invariant
     (member_full c.targets.after (and_gate from.literal to.literal)
     (point_stays lattice from (label_form more)) (point_stays lattice from (label_form left))

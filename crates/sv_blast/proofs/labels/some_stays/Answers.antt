@@ -1,8 +1,8 @@
-use Rattle.std.proofs.Common.{◌≡◌, ℕ, ◌+◌, ◌<◌, ◌∷◌, ◌++◌, drop, length, map, ap, sym, ◌∙◌, List}
+use Rattle.std.proofs.Common.{◌≡◌, ℕ, ◌+◌, ◌<◌, ◌++◌, drop, get_or, length, map, ap, ◌∙◌, List}
 use Rattle.std.proofs.Common.{rules, Vec, Global}
 use Rattle.std.specs.Prelude.{All}
 use Rattle.std.specs.Result.{IsErrOf}
-use Rattle.std.proofs.lemmas.List.{drop_more, drop_all}
+use Rattle.std.proofs.lemmas.List.{drop_all}
 use Rattle.sv_gates.specs.declared.gates.GateFault.TheVariants.{Full}
 use Rattle.sv_encoding.specs.Labels.{LabelForm}
 use Rattle.sv_blast.specs.declared.labels.PointLiteral.{PointLiteral}
@@ -13,6 +13,7 @@ use Rattle.sv_blast.proofs.OrChains.{or_done, or_full}
 use Rattle.sv_blast.proofs.PointSteps.{label_up}
 use Rattle.sv_blast.proofs.FlowSteps.{all_stays, all_grow}
 use Rattle.sv_blast.proofs.SignalLabels.{mapped_at}
+use Rattle.sv_blast.proofs.SignalTurns.{turn_at}
 use Rattle.sv_blast.proofs.labels.some_stays.Goals as goal
 
 abbrev form : Vec PointLiteral Global → LabelForm
@@ -22,11 +23,13 @@ abbrev entries : Vec PointLiteral Global → List PointLiteral
 entries label = label.items
 
 -- the pairs of one more label
-turn : (lattice : List ℕ) (target : LabelForm) (labels left more : List (Vec PointLiteral Global))
-    (label : Vec PointLiteral Global) → left ≡ label ∷ more →
-    all_stays lattice target (map form left)
-    ≡ label_stays lattice (form label) target ++ all_stays lattice target (map form more)
-turn lattice target labels left more label e = ap (λ z. all_stays lattice target (map form z)) e
+turn : (lattice : List ℕ) (target : LabelForm) (labels : List (Vec PointLiteral Global)) (i : ℕ)
+    (label : Vec PointLiteral Global) → i < length labels → label ≡ get_or labels i label →
+    all_stays lattice target (map form (drop i labels))
+    ≡ label_stays lattice (form label) target
+    ++ all_stays lattice target (map form (drop (i + 1) labels))
+turn lattice target labels i label inside is =
+    ap (λ z. all_stays lattice target (map form z)) (turn_at labels i label inside is)
 
 pub label_stays-requires-clause-points : goal.label_stays-requires-clause-points
 label_stays-requires-clause-points c =
@@ -50,17 +53,14 @@ returns-in_err-chain-clause-full c =
     let target = label_form c.args.target.now in
     let labels = c.args.labels.now in
     let label = c.label-item.result in
-    let left = drop c.labels.label-index labels in
     let more = drop (c.labels.label-index + 1) labels in
-    let next : left ≡ label ∷ more =
-    drop_more labels c.labels.label-index label c.labels-test.true
-    ∙ ap (λ z. z ∷ more) (sym c.label-item.is) in
     let full = rw (c.lattice.ensures.lattice, c.deref.ensures.value) at c.label_stays.ensures.full in
     λ e. or_full (all_stays lattice target (map form labels)) c.args.gates.now _
     (chain_left_full _ _ _ _ _ _ c.labels.invariant
     (join_full c.labels.chain (label_stays lattice (form label) target)
-    (all_stays lattice target (map form more)) (all_stays lattice target (map form left))
-    c.labels.gates _ (turn lattice target labels left more label next)
+    (all_stays lattice target (map form more))
+    (all_stays lattice target (map form (drop c.labels.label-index labels))) c.labels.gates _
+    (turn lattice target labels c.labels.label-index label c.labels-test.true c.label-item.is)
     (all_grow lattice target (map form more)) (full (same e))))
 
 pub labels-preserved : goal.labels-preserved
@@ -68,17 +68,14 @@ labels-preserved c =
     let lattice = c.args.design.now.lattice in
     let target = label_form c.args.target.now in
     let labels = c.args.labels.now in
+    let i = c.labels.label-index in
     let label = c.label-item.result in
-    let left = drop c.labels.label-index labels in
-    let more = drop (c.labels.label-index + 1) labels in
-    let next : left ≡ label ∷ more =
-    drop_more labels c.labels.label-index label c.labels-test.true
-    ∙ ap (λ z. z ∷ more) (sym c.label-item.is) in
     let made = rw (c.lattice.ensures.lattice, c.deref.ensures.value) at c.in_ok-chain.ensures.made in
     chain_more _ _ _ _ _ _ _ _ c.labels.invariant
     (join_step c.labels.chain c.in_ok-chain.chain (label_stays lattice (form label) target)
-    (all_stays lattice target (map form more)) (all_stays lattice target (map form left))
-    c.labels.gates c.label_stays.new.gates (turn lattice target labels left more label next) made)
+    (all_stays lattice target (map form (drop (i + 1) labels)))
+    (all_stays lattice target (map form (drop i labels))) c.labels.gates c.label_stays.new.gates
+    (turn lattice target labels i label c.labels-test.true c.label-item.is) made)
     c.in_ok-chain.ensures.begins c.in_ok-chain.ensures.within
 
 pub returns-clause-made : goal.returns-clause-made

@@ -7,17 +7,15 @@ use Rattle.sv_blast.proofs.sizes.encoding_size.Goals as goal
 
 pub frames_size-frames-requires-clause-now : goal.frames_size-frames-requires-clause-now
 frames_size-frames-requires-clause-now c =
-    let flat = c.args.design.now in
-    let is = c.know_design.ensures.checked in
-    subst (All (λ s. s < length flat.signals.items)) (sym c.requires.now)
-    (now_known flat is.is_sound is.admitted (obligation_of c.args.query.now) c.requires.query)
+    subst (All (λ s. s < length c.args.design.now.signals.items)) (sym c.requires.now)
+    (now_known c.args.design.now c.know_design.ensures.checked.is_sound
+    c.know_design.ensures.checked.admitted (obligation_of c.args.query.now) c.requires.query)
 
 pub frames_size-frames-requires-clause-next : goal.frames_size-frames-requires-clause-next
 frames_size-frames-requires-clause-next c =
-    let flat = c.args.design.now in
-    let is = c.know_design.ensures.checked in
-    subst (All (λ s. s < length flat.signals.items)) (sym c.requires.next)
-    (next_known flat is.is_sound is.admitted (obligation_of c.args.query.now) c.requires.query)
+    subst (All (λ s. s < length c.args.design.now.signals.items)) (sym c.requires.next)
+    (next_known c.args.design.now c.know_design.ensures.checked.is_sound
+    c.know_design.ensures.checked.admitted (obligation_of c.args.query.now) c.requires.query)
 
 pub size_with-requires-clause-frames : goal.size_with-requires-clause-frames
 size_with-requires-clause-frames c =

@@ -1,4 +1,4 @@
-use Rattle.std.proofs.Common.{ℕ, ◌+◌, ◌<◌, length, map, min, subst, sym, ap, ◌∙◌, All}
+use Rattle.std.proofs.Common.{ℕ, ◌+◌, map, min, sym, ap, ◌∙◌}
 use Rattle.std.specs.Prelude.{sum}
 use Rattle.sv_design.specs.Numbers.{numbers}
 use Rattle.sv_flat.specs.ByNumber.{signal_forms}
@@ -9,17 +9,15 @@ use Rattle.sv_encoding.specs.Sizes.{truth_size, label_size, label_of_signal, tar
 use Rattle.sv_encoding.specs.Sizes.{violation_size}
 use Rattle.sv_blast.specs.Framed.{frames_size}
 use Rattle.sv_blast.proofs.ConeSums.{all_sizes}
-use Rattle.sv_blast.proofs.QuerySignals.{reads_known}
+use Rattle.sv_blast.proofs.QuerySignals.{listed_known}
 use Rattle.sv_blast.proofs.SizeSums.{capped_parts}
 use Rattle.sv_blast.proofs.sizes.size_with.Goals as goal
 
 pub labels_size-labels-requires : goal.labels_size-labels-requires
 labels_size-labels-requires c =
-    let flat = c.args.design.now in
     let is = c.signals-signals.ensures.design in
-    subst (λ reads. All (λ s. s < length flat.signals.items) (numbers reads))
-    (sym c.deref.ensures.value)
-    (reads_known flat is.is_sound is.is_admitted (obligation_of c.args.query.now) c.requires.query)
+    listed_known c.args.design.now is.is_sound is.is_admitted c.args.query.now c.requires.query
+    c.deref.result.now c.deref.ensures.value
 
 pub returns : goal.returns
 returns c =

@@ -18,11 +18,10 @@ label_of-requires c =
 pub loop-read-preserved : goal.loop-read-preserved
 loop-read-preserved c =
     let design = design_of c.args.design.now in
-    let reads = c.args.reads.now in
     let target = c.args.target.now in
     let i = c.loop-read.read-index in
     let none : SigId = record { 0 = 0 } in
-    let read = get_or reads i none in
+    let read = get_or c.args.reads.now i none in
     let marks = c.points_of-label.result in
     capped_more _ (stays_at design target read.0) _ _ _ _ c.loop-read.invariant
     (c.stay_count.ensures
@@ -32,4 +31,5 @@ loop-read-preserved c =
     (λ p h. c.points_of-label.ensures.points p h
     ∙ ap (λ l. has_point design l p) c.label_of.ensures.label)))
     c.sum-total.ensures
-    (sum_by_more (λ (s : SigId). stays_at design target s.0) reads i none c.loop-read-test.true)
+    (sum_by_more (λ (s : SigId). stays_at design target s.0) c.args.reads.now i none
+    c.loop-read-test.true)

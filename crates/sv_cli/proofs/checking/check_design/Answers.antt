@@ -34,10 +34,11 @@ returns-in_ok-decide_design-in-Ok g c =
 pub returns-in_err-report_of_fault-in-Err : goal.returns-in_err-report_of_fault-in-Err
 returns-in_err-report_of_fault-in-Err g c =
     let C = g.C.Cabinet in
-    let design = design_of c.args.design.now in
+    let name = option_copied c.args.proof in
     let files = files_by C.exchanges C.held C.fetch_faults C.store_faults c.args.cabinet.now in
-    spent_readied (MayStoreOwn (option_copied c.args.proof) design c.args.budget)
-    (λ exchanges. Reports (Checks c.args.style (option_copied c.args.proof) c.args.budget design exchanges)) C.tells files files []
+    spent_readied (MayStoreOwn name (design_of c.args.design.now) c.args.budget)
+    (λ exchanges. Reports (Checks c.args.style name c.args.budget (design_of c.args.design.now)
+    exchanges)) C.tells files files []
     c.from_residual-in_err-report_of_fault-in-Err.result (none_passed C.tells files) (inl refl)
     c.from_residual-in_err-report_of_fault-in-Err.ensures.1
 

@@ -19,20 +19,19 @@ pub returns-in-Ok : goal.returns-in-Ok
 returns-in-Ok g c a =
     let C = g.C.Cabinet in
     let design = design_of c.args.design.now in
-    let level = c.args.level in
     let first = c.args.first.now in
     let b = c.args.b.now in
     let second = c.in-Ok.second.items in
     let report = c.in_ok-compare_bytes-in-Ok.field-0 in
     let small : length second ≤ largest_compared = grind (arith, c.in-Ok.ensures.within) in
     fetch_readied (MayFetchSecond b)
-    (λ exchanges. Says (ComparesSecond first a b design level exchanges)) C.tells
+    (λ exchanges. Says (ComparesSecond first a b design c.args.level exchanges)) C.tells
     (files_by C.exchanges C.held C.fetch_faults C.store_faults c.args.cabinet.now)
     (files_by C.exchanges C.held C.fetch_faults C.store_faults c.fetch_once.new.cabinet) b
     (λ got. inr (got, refl)) (whole second) c.in-Ok.ensures.passed (λ none. none)
     c.in-Ok.ensures.kept report
-    (both_told design level a b first c.requires.within second small report
-    (subst (λ (bytes : List ℕ). Says (ComparesStimuli (form_of design) (FindsAt design level)
+    (both_told design c.args.level a b first c.requires.within second small report
+    (subst (λ (bytes : List ℕ). Says (ComparesStimuli (form_of design) (FindsAt design c.args.level)
     first bytes) report) c.deref.ensures.value c.in_ok-compare_bytes-in-Ok.ensures))
 
 pub returns-in_err-compare_bytes-in-Ok : goal.returns-in_err-compare_bytes-in-Ok
@@ -55,18 +54,17 @@ pub returns-in-Err-Long : goal.returns-in-Err-Long
 returns-in-Err-Long g c a =
     let C = g.C.Cabinet in
     let design = design_of c.args.design.now in
-    let level = c.args.level in
     let first = c.args.first.now in
     let b = c.args.b.now in
     let bytes = c.in-Err-Long.field-0-0 in
     let report = c.in_ok-report_of_size-in-Err-Long.field-0 in
     long_readied (MayFetchSecond b)
-    (λ exchanges. Says (ComparesSecond first a b design level exchanges)) C.tells
+    (λ exchanges. Says (ComparesSecond first a b design c.args.level exchanges)) C.tells
     (files_by C.exchanges C.held C.fetch_faults C.store_faults c.args.cabinet.now)
     (files_by C.exchanges C.held C.fetch_faults C.store_faults c.fetch_once.new.cabinet) b
     (λ got. inr (got, refl)) c.in-Err-Long.field-0 c.in-Err-Long.ensures.passed bytes
     c.in-Err-Long.field-0-is c.in-Err-Long.ensures.kept report
-    (second_large design level a b first c.requires.within bytes.items
+    (second_large design c.args.level a b first c.requires.within bytes.items
     (subst (λ (f : FetchFault). let r : Result (Vec ℕ) FetchFault = Err f in
     IfLong r (λ bs. length bs ≡ largest_compared + 1)) c.in-Err-Long.field-0-is
     c.in-Err-Long.ensures.long)

@@ -22,11 +22,11 @@ pub returns-in-Ok-clause-refused : goal.returns-in-Ok-clause-refused
 returns-in-Ok-clause-refused g c =
     let old = g.K.Sink.accepted c.args.out.now in
     let new = g.K.Sink.accepted c.put_all.new.out in
-    let left = lines_left (design_of c.args.design.now) in
-    let i = c.args.target.0 in
+    let here = lines_left (design_of c.args.design.now) c.args.target.0 in
+    let later = lines_left (design_of c.args.design.now) (c.args.target.0 + 1) in
     on_failure c.put_all.result (WritesFront old c.deref.result.now new)
-    (WritesFront old (left i) new)
-    (λ w. front_of old (left i) c.deref.result.now (left (i + 1)) new
+    (WritesFront old here new)
+    (λ w. front_of old here c.deref.result.now later new
     (c.in-Ok.ensures.part
-    ∙ ap (λ (x : List ℕ). x ++ left (i + 1)) (sym c.deref.ensures.value)) w)
+    ∙ ap (λ (x : List ℕ). x ++ later) (sym c.deref.ensures.value)) w)
     c.put_all.ensures.refused

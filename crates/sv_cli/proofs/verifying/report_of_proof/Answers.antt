@@ -18,9 +18,8 @@ returns-in-Accepted c =
 
 pub returns-in-Fault : goal.returns-in-Fault
 returns-in-Fault c =
-    let design = design_of c.args.design.now in
-    fault_reports design c.args.bytes.now c.in-Fault.line
-    (subst (WhereFault (IsFaultLine design c.args.bytes.now)) c.in-Fault.is
+    fault_reports (design_of c.args.design.now) c.args.bytes.now c.in-Fault.line
+    (subst (WhereFault (IsFaultLine (design_of c.args.design.now) c.args.bytes.now)) c.in-Fault.is
     c.in_ok-count.ensures.fault)
     c.report_of_line.result c.report_of_line.ensures.answer c.report_of_line.ensures.text
 

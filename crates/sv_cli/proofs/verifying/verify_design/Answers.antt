@@ -47,4 +47,5 @@ returns-in_ok-report_of_fault-in-Err g c =
     let report = c.in_ok-report_of_fault-in-Err.field-0 in
     made_readied (MayFetchOwn c.args.proof.now design)
     (λ exchanges. Reports (Verifies c.args.proof.now design exchanges)) C.tells files (Whole report)
-    (inl refl) (excess_verified c.args.proof.now design report c.in_ok-report_of_fault-in-Err.ensures)
+    (inl refl)
+    (excess_verified c.args.proof.now design report c.in_ok-report_of_fault-in-Err.ensures)

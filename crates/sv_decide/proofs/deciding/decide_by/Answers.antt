@@ -11,6 +11,7 @@ use Rattle.sv_obl.specs.Valuations.{valuation_of}
 use Rattle.sv_obl.specs.Views.{obligation_of}
 use Rattle.sv_encoding.specs.BothWays.{IsZeroOutside}
 use Rattle.sv_encoding.specs.Deciding.{Fits}
+use Rattle.sv_encoding.specs.Encoding.{encoding}
 use Rattle.sv_encoding.specs.Valuations.{decoded}
 use Rattle.sv_blast.specs.Coded.{place_form}
 use Rattle.sv_blast.specs.Coders.{encoding_in}
@@ -22,6 +23,7 @@ use Rattle.sv_solve.specs.declared.solver.Solved.TheVariants.{Spent}
 use Rattle.sv_decide.proofs.FoundValues.{clauses_same, variables_same, made_fits, found}
 use Rattle.sv_decide.proofs.deciding.decide_by.Goals as goal
 use Rattle.sv_decide.proofs.deciding.decide_by.Goals.{In_ok-encode, In_ok-spelled-in-Found}
+use Rattle.sv_decide.proofs.deciding.decide_by.Goals.{After-clauses}
 
 pub solve-requires-clause-within : goal.solve-requires-clause-within
 solve-requires-clause-within c =
@@ -88,12 +90,18 @@ returns-in_ok-spelled-in-Found-clause-fails_zero c =
     (falsified
     (goal.at.returns-in_ok-spelled-in-Found-clause-fails_zero c).In_ok-spelled-in-Found).1
 
+-- the clauses in hand are those of the encoding
+same_clauses : (c : After-clauses) → c.clauses.result.now
+    ≡ (encoding (design_of c.args.design.now) (obligation_of c.args.query.now)).clauses
+same_clauses c =
+    clauses_same (design_of c.args.design.now) (obligation_of c.args.query.now)
+    (encoding_in c.encode.new.self) c.in_ok-encode.ensures.coded c.clauses.result.now
+    c.clauses.ensures
+
 pub returns-in-Refuted-clause-valid : goal.returns-in-Refuted-clause-valid
 returns-in-Refuted-clause-valid c =
     subst (λ (clauses : List (List ℤ)). Refutes clauses (plain_log c.in-Refuted.log))
-    (clauses_same (design_of c.args.design.now) (obligation_of c.args.query.now)
-    (encoding_in c.encode.new.self) c.in_ok-encode.ensures.coded c.clauses.result.now
-    c.clauses.ensures)
+    (same_clauses (goal.at.returns-in-Refuted-clause-valid c).After-clauses)
     (rw c.in-Refuted.is at c.in_ok-values.ensures.refuted)
 
 pub returns-in-Refuted-clause-valid_last : goal.returns-in-Refuted-clause-valid_last
@@ -108,9 +116,7 @@ pub returns-in-Spent-clause-spent : goal.returns-in-Spent-clause-spent
 returns-in-Spent-clause-spent c =
     subst (λ (clauses : List (List ℤ)).
     IsSpentLog clauses (plain_log c.in-Spent.log) c.args.budget)
-    (clauses_same (design_of c.args.design.now) (obligation_of c.args.query.now)
-    (encoding_in c.encode.new.self) c.in_ok-encode.ensures.coded c.clauses.result.now
-    c.clauses.ensures)
+    (same_clauses (goal.at.returns-in-Spent-clause-spent c).After-clauses)
     (rw c.in-Spent.is at c.in_ok-values.ensures.spent)
 
 pub returns-in-Spent-clause-spent_different : goal.returns-in-Spent-clause-spent_different
@@ -136,9 +142,7 @@ returns-in-Spent-clause-large_budget_never_spent c =
 pub returns-in-Spent-clause-units_never_spent : goal.returns-in-Spent-clause-units_never_spent
 returns-in-Spent-clause-units_never_spent c =
     let is : c.solve.result ≡ Ok (Spent c.in-Spent.log) = search rules in
-    let same = clauses_same (design_of c.args.design.now) (obligation_of c.args.query.now)
-    (encoding_in c.encode.new.self) c.in_ok-encode.ensures.coded c.clauses.result.now
-    c.clauses.ensures in
+    let same = same_clauses (goal.at.returns-in-Spent-clause-units_never_spent c).After-clauses in
     λ literals conflict. none_spent c.solve.result c.in-Spent.log is
     (c.solve.ensures.units_never_spent literals
     (subst (λ (clauses : List (List ℤ)). IsUnitConflict clauses literals) (sym same) conflict))

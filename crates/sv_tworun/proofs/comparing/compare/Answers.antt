@@ -9,10 +9,12 @@ use Rattle.sv_flat.specs.Given.{with_given}
 use Rattle.sv_tworun.specs.Forms.{run_of}
 use Rattle.sv_tworun.specs.Sights.{IsDifference}
 use Rattle.sv_tworun.proofs.LeakFacts.{no_leak}
-use Rattle.sv_tworun.proofs.RunFacts.{AreAlike, begins, still_alike, found_there, found_at_end}
+use Rattle.sv_tworun.proofs.RunFacts.{AreAlike, HasInCycle, begins, still_alike, found_there}
+use Rattle.sv_tworun.proofs.RunFacts.{found_at_end}
 use Rattle.sv_tworun.proofs.RunTraces.{compared}
 use Rattle.sv_tworun.proofs.StimFacts.{shorter, length_of, cycle_fits, stim_in_cycle, stim_goes_on}
 use Rattle.sv_tworun.proofs.comparing.compare.Goals as goal
+use Rattle.sv_tworun.proofs.comparing.compare.Goals.{After-settle, After-values-in-loop-cycle}
 
 pub settle-requires : goal.settle-requires
 settle-requires c =
@@ -80,6 +82,32 @@ loop-cycle-init c =
       alike = λ one other of_first of_second. refl;
     }
 
+-- what the stimuli give in this cycle
+first_in_cycle : (c : After-settle) → HasInCycle (design_of c.args.design.now) (run_of c.args.a.now)
+    c.loop-cycle.cycle c.settle.new.self.values
+first_in_cycle c =
+    let least = shorter c.args.a.now c.args.b.now c.common_cycles-count.result
+    c.common_cycles-count.ensures in
+    stim_in_cycle c.args.design.now c.loop-cycle.one.design c.loop-cycle.invariant.one_design
+    c.know_design.ensures.design c.args.a.now c.loop-cycle.cycle c.index.result.now
+    c.deref-in-loop-cycle.result.now c.loop-cycle.one.values c.settle.new.self.values
+    (let test = c.loop-cycle-test.true in omega (arith, least)) c.index.ensures
+    c.deref-in-loop-cycle.ensures.value c.settle.ensures.values c.loop-cycle.invariant.first
+
+second_in_cycle : (c : After-values-in-loop-cycle) →
+    HasInCycle (design_of c.args.design.now) (run_of c.args.b.now) c.loop-cycle.cycle
+    c.settle-in-loop-cycle.new.self.values
+second_in_cycle c =
+    let least = shorter c.args.a.now c.args.b.now c.common_cycles-count.result
+    c.common_cycles-count.ensures in
+    stim_in_cycle c.args.design.now c.loop-cycle.other.design c.loop-cycle.invariant.other_design
+    c.know_design.ensures.design c.args.b.now c.loop-cycle.cycle c.index-in-loop-cycle.result.now
+    c.deref-in-loop-cycle-2.result.now c.loop-cycle.other.values
+    c.settle-in-loop-cycle.new.self.values
+    (let test = c.loop-cycle-test.true in omega (arith, least)) c.index-in-loop-cycle.ensures
+    c.deref-in-loop-cycle-2.ensures.value c.settle-in-loop-cycle.ensures.values
+    c.loop-cycle.invariant.second
+
 pub returns-in-Some-clause-comparison : goal.returns-in-Some-clause-comparison
 returns-in-Some-clause-comparison c =
     let flat = c.args.design.now in
@@ -88,22 +116,12 @@ returns-in-Some-clause-comparison c =
     let k = c.loop-cycle.cycle in
     let one = c.settle.new.self.values in
     let other = c.settle-in-loop-cycle.new.self.values in
-    let least = shorter c.args.a.now c.args.b.now c.common_cycles-count.result
-    c.common_cycles-count.ensures in
     compared (design_of flat) is c.args.level (run_of c.args.a.now) (run_of c.args.b.now)
     c.in-Some.difference c.requires.first c.requires.second
     (found_there (design_of flat) is c.args.level (run_of c.args.a.now) (run_of c.args.b.now) k
     one other c.in-Some.difference c.loop-cycle.invariant.alike
-    (stim_in_cycle flat c.loop-cycle.one.design c.loop-cycle.invariant.one_design is c.args.a.now k
-    c.index.result.now c.deref-in-loop-cycle.result.now c.loop-cycle.one.values one
-    (let test = c.loop-cycle-test.true in omega (arith, least)) c.index.ensures
-    c.deref-in-loop-cycle.ensures.value c.settle.ensures.values c.loop-cycle.invariant.first)
-    (stim_in_cycle flat c.loop-cycle.other.design c.loop-cycle.invariant.other_design is
-    c.args.b.now k c.index-in-loop-cycle.result.now c.deref-in-loop-cycle-2.result.now
-    c.loop-cycle.other.values other
-    (let test = c.loop-cycle-test.true in omega (arith, least)) c.index-in-loop-cycle.ensures
-    c.deref-in-loop-cycle-2.ensures.value c.settle-in-loop-cycle.ensures.values
-    c.loop-cycle.invariant.second)
+    (first_in_cycle (goal.at.returns-in-Some-clause-comparison c).After-settle)
+    (second_in_cycle (goal.at.returns-in-Some-clause-comparison c).After-values-in-loop-cycle)
     (subst (λ vs. IsDifference system c.args.level k (by_number one) (by_number vs)
     c.in-Some.difference) c.values-in-loop-cycle.ensures.values
     (subst (λ vs. IsDifference system c.args.level k (by_number vs)
@@ -150,18 +168,8 @@ loop-cycle-preserved c =
           (run_of c.args.b.now)) (sym (add-one k))
           (still_alike (design_of flat) is c.args.level (run_of c.args.a.now)
           (run_of c.args.b.now) k one other c.loop-cycle.invariant.alike
-          (stim_in_cycle flat c.loop-cycle.one.design c.loop-cycle.invariant.one_design is
-          c.args.a.now k c.index.result.now c.deref-in-loop-cycle.result.now
-          c.loop-cycle.one.values one
-          (let test = c.loop-cycle-test.true in omega (arith, least)) c.index.ensures
-          c.deref-in-loop-cycle.ensures.value c.settle.ensures.values
-          c.loop-cycle.invariant.first)
-          (stim_in_cycle flat c.loop-cycle.other.design c.loop-cycle.invariant.other_design is
-          c.args.b.now k c.index-in-loop-cycle.result.now c.deref-in-loop-cycle-2.result.now
-          c.loop-cycle.other.values other
-          (let test = c.loop-cycle-test.true in omega (arith, least)) c.index-in-loop-cycle.ensures
-          c.deref-in-loop-cycle-2.ensures.value c.settle-in-loop-cycle.ensures.values
-          c.loop-cycle.invariant.second)
+          (first_in_cycle (goal.at.loop-cycle-preserved c).After-settle)
+          (second_in_cycle (goal.at.loop-cycle-preserved c).After-values-in-loop-cycle)
           (subst (λ vs. view system c.args.level (by_number one) ≡
           view system c.args.level (by_number vs)) c.values-in-loop-cycle.ensures.values
           (subst (λ vs. view system c.args.level (by_number vs) ≡

@@ -68,8 +68,6 @@ after_slice-returns-in_err-condition-clause-full t c =
     let forms = signal_forms c.args.self.now.signals.now in
     let words = words_of c.args.self.now.words.now in
     let s = c.args.self.now.target.0 in
-    let x = slice_statement c.in-Branch.yes.value in
-    let y = slice_statement c.in-Branch.no.value in
     let down = subst (λ r. DownAt forms words s
     (target_word forms words s (slice_statement c.args.slice.now) c.args.word.items c.args.gates.now)
     (signal_width forms s) c.args.gates.now c.loop-rest.gates c.loop-rest.arms.items r
@@ -77,7 +75,9 @@ after_slice-returns-in_err-condition-clause-full t c =
     let same : IsErrOf c.from_residual.result Full → IsErrOf c.is_true.result Full =
     search rules in
     λ e. condition_full forms words s _ _ _ c.loop-rest.gates c.loop-rest.arms.items
-    c.args.word.items c.in-Branch.place (typed_tree c.in-Branch.cond.now) x y down most_variables
+    c.args.word.items c.in-Branch.place (typed_tree c.in-Branch.cond.now)
+    (slice_statement c.in-Branch.yes.value) (slice_statement c.in-Branch.no.value) down
+    most_variables
     (c.is_true.ensures.full (same e))
 
 pub after_slice-after_slice-requires : goal.after_slice-after_slice-requires
@@ -107,8 +107,6 @@ after_slice-returns-in_err-word-clause-full t c =
     let forms = signal_forms c.args.self.now.signals.now in
     let words = words_of c.args.self.now.words.now in
     let s = c.args.self.now.target.0 in
-    let x = slice_statement c.in-Branch.yes.value in
-    let y = slice_statement c.in-Branch.no.value in
     let mid = c.is_true.new.gates in
     let down = subst (λ r. DownAt forms words s
     (target_word forms words s (slice_statement c.args.slice.now) c.args.word.items c.args.gates.now)
@@ -117,7 +115,8 @@ after_slice-returns-in_err-word-clause-full t c =
     let same : IsErrOf c.from_residual-in_err-word.result Full → IsErrOf c.after_slice.result Full =
     search rules in
     λ e. arm_full forms words s _ _ _ c.loop-rest.gates c.loop-rest.arms.items
-    c.args.word.items c.in-Branch.place (typed_tree c.in-Branch.cond.now) x y down mid
+    c.args.word.items c.in-Branch.place (typed_tree c.in-Branch.cond.now)
+    (slice_statement c.in-Branch.yes.value) (slice_statement c.in-Branch.no.value) down mid
     c.in_ok-condition.condition c.in_ok-condition.ensures.made most_variables
     (subst (λ (z : Formula × Word). most_variables < z.0.variables)
     (ap₂ (λ z w. target_word forms words s (slice_statement z) w mid) c.deref-in-Branch.ensures
@@ -139,7 +138,7 @@ after_slice-loop-rest-preserved t c =
     c.loop-rest.gates c.loop-rest.arms.items r c.args.word.items)
     (ap slice_statement c.in-Branch.is) c.loop-rest.invariant.0 in
     let arm : TargetArm =
-      record { condition = c.in_ok-condition.condition; word = c.in_ok-word.word } in
+    record { condition = c.in_ok-condition.condition; word = c.in_ok-word.word } in
     let made : target_word forms words s x c.args.word.items mid ≡ (later, arm.word.items) =
     sym (ap₂ (λ z w. target_word forms words s (slice_statement z) w mid) c.deref-in-Branch.ensures
     (c.in_ok-before.ensures ∙ c.deref.ensures.value))

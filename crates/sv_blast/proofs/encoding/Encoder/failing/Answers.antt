@@ -1,13 +1,15 @@
-use Rattle.std.proofs.Common.{rules, ◌∙◌, ◌<◌, ℤ, List, length, map, sym, ap, subst, arith}
+use Rattle.std.proofs.Common.{rules, ◌≡◌, ◌∙◌, ◌<◌, ℤ, List, length, map, sym, ap, subst, arith}
 use Rattle.std.specs.Prelude.{All, Contains}
 use Rattle.std.specs.Result.{IsErrOf}
 use Rattle.sv_design.specs.Numbers.{numbers}
 use Rattle.sv_gates.specs.Formulas.{Formula, most_variables}
 use Rattle.sv_gates.specs.declared.gates.GateFault.TheVariants.{Full}
+use Rattle.sv_encoding.specs.Encoding.{violation}
 use Rattle.sv_encoding.specs.Labels.{LabelForm}
 use Rattle.sv_blast.specs.Encoders.{design_in, obligation_in}
 use Rattle.sv_blast.specs.Goals.{IsTargetReady, IsHeldReady}
 use Rattle.sv_blast.specs.LabelViews.{label_form, AreWithin}
+use Rattle.sv_blast.specs.Steps.{after_violation}
 use Rattle.sv_blast.specs.WordTables.{words_of, StandsOf}
 use Rattle.sv_encoding_laws.proofs.Chain.{p9, p10}
 use Rattle.sv_blast.proofs.LiteralFacts.{target_ready, reads_stand, held_ready}
@@ -15,6 +17,7 @@ use Rattle.sv_blast.proofs.LiteralSteps.{within_up, target_path, in_hand, target
 use Rattle.sv_blast.proofs.LiteralSteps.{reads_gates, violation_from}
 use Rattle.sv_blast.proofs.QuerySignals.{reads_known}
 use Rattle.sv_blast.proofs.encoding.Encoder.failing.Goals as goal
+use Rattle.sv_blast.proofs.encoding.Encoder.failing.Goals.{After-violation}
 
 pub target_label-requires : goal.target_label-requires
 target_label-requires c =
@@ -76,17 +79,25 @@ violation-requires-clause-target c =
     (subst (λ z. AreWithin c.target_label.new.gates.variables (label_form z))
     (sym c.deref-2.ensures.value) c.in_ok-target.ensures.within)
 
-pub returns-clause-made : goal.returns-clause-made
-returns-clause-made c =
-    sym (violation_from (design_in c.args.self.now) (obligation_in c.args.self.now)
+-- the violation of what is in hand
+violated : (c : After-violation) →
+    violation (design_in c.args.self.now) (words_of c.args.now.now) (words_of c.args.next.now)
+    (label_form c.deref-2.result.now) (map (λ label. label_form label.items) c.deref-3.result.now)
+    (obligation_in c.args.self.now).goal c.signal_labels.new.gates
+    ≡ after_violation (design_in c.args.self.now) (obligation_in c.args.self.now)
+violated c =
+    violation_from (design_in c.args.self.now) (obligation_in c.args.self.now)
     (words_of c.args.now.now)
     (words_of c.args.next.now) c.requires.now c.requires.next
     c.args.gates.now c.requires.gates _ _
     c.in_ok-target.ensures.made _ (ap numbers c.deref.ensures.value) _ _ c.in_ok-reads.ensures.made
     (label_form c.deref-2.result.now) (ap label_form c.deref-2.ensures.value)
     (map (λ label. label_form label.items) c.deref-3.result.now)
-    (ap (map (λ label. label_form label.items)) c.deref-3.ensures.value)) ∙
-    c.in_ok-fails.ensures.made
+    (ap (map (λ label. label_form label.items)) c.deref-3.ensures.value)
+
+pub returns-clause-made : goal.returns-clause-made
+returns-clause-made c =
+    sym (violated (goal.at.returns-clause-made c).After-violation) ∙ c.in_ok-fails.ensures.made
 
 pub returns-in_err-target-clause-full : goal.returns-in_err-target-clause-full
 returns-in_err-target-clause-full c =
@@ -125,12 +136,5 @@ returns-in_err-fails-clause-full c =
     let same : IsErrOf c.from_residual-in_err-fails.result Full →
     IsErrOf c.violation.result Full = search rules in
     λ e. subst (λ (z : Formula × ℤ). most_variables < (z.0).variables)
-    (violation_from (design_in c.args.self.now) (obligation_in c.args.self.now)
-    (words_of c.args.now.now)
-    (words_of c.args.next.now) c.requires.now c.requires.next
-    c.args.gates.now c.requires.gates _ _
-    c.in_ok-target.ensures.made _ (ap numbers c.deref.ensures.value) _ _ c.in_ok-reads.ensures.made
-    (label_form c.deref-2.result.now) (ap label_form c.deref-2.ensures.value)
-    (map (λ label. label_form label.items) c.deref-3.result.now)
-    (ap (map (λ label. label_form label.items)) c.deref-3.ensures.value))
+    (violated (goal.at.returns-in_err-fails-clause-full c).After-violation)
     (c.violation.ensures.full (same e))

@@ -1,4 +1,4 @@
-use Rattle.std.proofs.Common.{rules, ◌∙◌, ◌<◌, ◌≤◌, ◌++◌, length, map, false, ap, sym, subst}
+use Rattle.std.proofs.Common.{rules, ◌≡◌, ◌∙◌, ◌<◌, ◌≤◌, ◌++◌, length, map, false, ap, sym, subst}
 use Rattle.std.proofs.Common.{arith}
 use Rattle.std.specs.Prelude.{All}
 use Rattle.std.specs.Result.{IsErrOf}
@@ -9,11 +9,12 @@ use Rattle.sv_encoding.specs.Encoding.{bit_places, given_in, settled_in}
 use Rattle.sv_encoding.specs.Expressions.{Words}
 use Rattle.sv_blast.specs.Coded.{place_form}
 use Rattle.sv_blast.specs.Encoders.{design_in, obligation_in}
-use Rattle.sv_blast.specs.Steps.{AreReady}
+use Rattle.sv_blast.specs.Steps.{AreReady, after_given}
 use Rattle.sv_blast.specs.WordTables.{words_of, StandsOf}
 use Rattle.sv_blast.proofs.FrameSteps.{taken, taken_all, given_from, given_made, settled_from}
 use Rattle.sv_blast.proofs.StepFacts.{given_known, given_narrow, now_ready, settled_more}
 use Rattle.sv_blast.proofs.encoding.Encoder.words_now.Goals as goal
+use Rattle.sv_blast.proofs.encoding.Encoder.words_now.Goals.{In_ok-make_fresh}
 
 pub make_fresh-requires : goal.make_fresh-requires
 make_fresh-requires c = record {
@@ -24,6 +25,16 @@ make_fresh-requires c = record {
       (obligation_in c.args.self.now) c.requires.encoder.query);
 }
 
+-- the words of what is given are in hand
+given_there : (c : In_ok-make_fresh) →
+    after_given (design_in c.args.self.now) (obligation_in c.args.self.now)
+    ≡ (c.make_fresh.new.gates, words_of c.make_fresh.new.words)
+given_there c =
+    given_made (design_in c.args.self.now) (obligation_in c.args.self.now) _
+    (taken (given_in (design_in c.args.self.now)) c.deref-2.ensures.value c.in_ok-given.ensures
+    c.deref.ensures.value c.requires.encoder.now)
+    _ c.new-words.ensures _ c.requires.begin _ c.in_ok-make_fresh.ensures.made
+
 pub add_places-requires : goal.add_places-requires
 add_places-requires c =
     let design = design_in c.args.self.now in
@@ -32,9 +43,7 @@ add_places-requires c =
     c.deref-3.ensures.value c.in_ok-given.ensures c.deref.ensures.value c.requires.encoder.now
     (subst (λ (z : Formula × Words). All (λ s. length (z.1 s) ≤ 64)
     (given_in design (now_cone design o)))
-    (given_made design o _ (taken (given_in design) c.deref-2.ensures.value c.in_ok-given.ensures
-    c.deref.ensures.value c.requires.encoder.now)
-    _ c.new-words.ensures _ c.requires.begin _ c.in_ok-make_fresh.ensures.made)
+    (given_there (goal.at.add_places-requires c).In_ok-make_fresh)
     (given_narrow c.args.self.now.design.now c.know_design.ensures.checked o
     c.requires.encoder.query))
 
@@ -51,9 +60,7 @@ make_settled-requires-clause-ready c =
     c.deref-4.ensures.value c.requires.encoder.now))
     (subst (λ (z : Formula × Words). AreReady design (StandsOf design.signals (z.0).variables z.1)
     (settled_in design (now_cone design o)))
-    (given_made design o _ (taken (given_in design) c.deref-2.ensures.value c.in_ok-given.ensures
-    c.deref.ensures.value c.requires.encoder.now)
-    _ c.new-words.ensures _ c.requires.begin _ c.in_ok-make_fresh.ensures.made)
+    (given_there (goal.at.make_settled-requires-clause-ready c).In_ok-make_fresh)
     (now_ready c.args.self.now.design.now c.know_design.ensures.checked o
     c.requires.encoder.query))
 
@@ -78,9 +85,7 @@ returns-clause-bits c =
     (taken (given_in design) c.deref-3.ensures.value c.in_ok-given.ensures c.deref.ensures.value
     c.requires.encoder.now)
     ∙ ap (λ (z : Formula × Words). old ++ bit_places false z.1 (given_in design (now_cone design o)))
-    (sym (given_made design o _ (taken (given_in design) c.deref-2.ensures.value
-    c.in_ok-given.ensures c.deref.ensures.value c.requires.encoder.now)
-    _ c.new-words.ensures _ c.requires.begin _ c.in_ok-make_fresh.ensures.made))
+    (sym (given_there (goal.at.returns-clause-bits c).In_ok-make_fresh))
 
 pub returns-in_err-make_fresh-clause-full : goal.returns-in_err-make_fresh-clause-full
 returns-in_err-make_fresh-clause-full c =

@@ -36,13 +36,13 @@ returns-then-not-follows_some t c =
     let forms = forms_in self in
     let follows = follows_in self in
     let whole = statement_size forms follows (marked_statement c.args.stmt.now) in
-    let x = marked_statement c.in-Chain.first.value in
-    let y = marked_statement c.in-Chain.second.value in
+    let here = after (marked_statement c.in-Chain.first.value)
+    (marked_statement c.in-Chain.second.value) in
     let tells = subst TellsTargets c.in-Chain.is c.parts.invariant.1.0 in
     let at = subst (SizeAt forms follows whole c.parts.total) (ap marked_statement c.in-Chain.is)
     c.parts.invariant.0 in
-    size_ends forms follows whole c.parts.total (after x y) at
-    (sym (some_assigned self.follows.now c.in-Chain.targets (after x y) tells.0)
+    size_ends forms follows whole c.parts.total here at
+    (sym (some_assigned self.follows.now c.in-Chain.targets here tells.0)
     ∙ sym c.follows_some.ensures ∙ c.if-not-follows_some.true)
 
 pub returns-then-not-follows_some-2 : goal.returns-then-not-follows_some-2
@@ -51,10 +51,8 @@ returns-then-not-follows_some-2 t c =
     let forms = forms_in self in
     let follows = follows_in self in
     let whole = statement_size forms follows (marked_statement c.args.stmt.now) in
-    let x = marked_statement c.in-Branch.yes.value in
-    let y = marked_statement c.in-Branch.no.value in
-    let cond = typed_tree c.in-Branch.cond in
-    let here = branch c.in-Branch.place cond x y in
+    let here = branch c.in-Branch.place (typed_tree c.in-Branch.cond)
+    (marked_statement c.in-Branch.yes.value) (marked_statement c.in-Branch.no.value) in
     let tells = subst TellsTargets c.in-Branch.is c.parts.invariant.1.0 in
     let at = subst (SizeAt forms follows whole c.parts.total) (ap marked_statement c.in-Branch.is)
     c.parts.invariant.0 in

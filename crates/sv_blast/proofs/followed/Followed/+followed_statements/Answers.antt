@@ -125,7 +125,6 @@ pub after_plain-returns-in_err-after-in-Chain-clause-full :
 after_plain-returns-in_err-after-in-Chain-clause-full t c =
     let self = c.args.self.now in
     let ws = words_of c.args.words.now in
-    let f = c.args.gates.now in
     let x = marked_statement c.deref.result.now in
     let y = marked_statement c.in-Chain.second.value in
     let whole : marked_statement c.args.stmt.now ≡ after x y =
@@ -133,9 +132,9 @@ after_plain-returns-in_err-after-in-Chain-clause-full t c =
     ∙ ap (λ z. after (marked_statement z) y) (sym c.deref.ensures) in
     let same : IsErrOf c.from_residual.result Full → IsErrOf c.after.result Full = search rules in
     λ e. subst (λ z. most_variables
-    < (words_after (forms_in self) (follows_in self) z ws f).0.variables) (sym whole)
-    (first_full (forms_in self) (follows_in self) (IsAtHand self) (self_copies self) x y ws f
-    most_variables (c.after.ensures.full (same e)))
+    < (words_after (forms_in self) (follows_in self) z ws c.args.gates.now).0.variables) (sym whole)
+    (first_full (forms_in self) (follows_in self) (IsAtHand self) (self_copies self) x y ws
+    c.args.gates.now most_variables (c.after.ensures.full (same e)))
 
 -- ---- the way down a chain of branches
 

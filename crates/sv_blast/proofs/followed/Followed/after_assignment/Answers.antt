@@ -32,9 +32,8 @@ put_pieces-requires-clause-pieces c =
 
 pub returns-clause-made : goal.returns-clause-made
 returns-clause-made c =
-    let self = c.args.self.now in
-    let forms = forms_in self in
-    let follows = follows_in self in
+    let forms = forms_in c.args.self.now in
+    let follows = follows_in c.args.self.now in
     let ws = words_of c.args.words.now in
     let f = c.args.gates.now in
     let right = typed_tree c.args.right.now in

@@ -318,11 +318,11 @@ f_outer l (statements n) t ts rest is = f_statements l n t ts rest is
 f_outer l perhaps_block_name t ts rest is = f_perhaps perhaps_block_name tt l t ts rest is
 f_outer l (perhaps_else n) t ts rest is = f_perhaps (perhaps_else n) tt l t ts rest is
 f_outer l (perhaps_bits n) t ts rest is = f_perhaps (perhaps_bits n) tt l t ts rest is
-f_outer l (bits_end n) t ts rest is = f_bits_end l n t ts rest is
-f_outer l (more_targets n) t ts rest is = f_more_targets l n t ts rest is
+f_outer l (bits_end n) t ts rest is = f_bits_end n l t ts rest is
+f_outer l (more_targets n) t ts rest is = f_more_targets n l t ts rest is
 f_outer l assigns t ts rest is = f_assigns l t ts rest is
 f_outer l (arms n before default) t ts rest is = f_arms l n before default t ts rest is
-f_outer l (more_choices n) t ts rest is = f_more_choices l n t ts rest is
+f_outer l (more_choices n) t ts rest is = f_more_choices n l t ts rest is
 f_outer l perhaps_colon t ts rest is = f_perhaps perhaps_colon tt l t ts rest is
 
 pub b_outer : (l : Limits) (y : Outer) (x : Lexeme) (p : Place) (ts rest : List Placed) →
@@ -388,11 +388,11 @@ b_outer l (statements n) x p ts rest is = b_statements l n x p ts rest is
 b_outer l perhaps_block_name x p ts rest is = b_perhaps perhaps_block_name tt l x p ts rest is
 b_outer l (perhaps_else n) x p ts rest is = b_perhaps (perhaps_else n) tt l x p ts rest is
 b_outer l (perhaps_bits n) x p ts rest is = b_perhaps (perhaps_bits n) tt l x p ts rest is
-b_outer l (bits_end n) x p ts rest is = b_bits_end l n x p ts rest is
-b_outer l (more_targets n) x p ts rest is = b_more_targets l n x p ts rest is
+b_outer l (bits_end n) x p ts rest is = b_bits_end n l x p ts rest is
+b_outer l (more_targets n) x p ts rest is = b_more_targets n l x p ts rest is
 b_outer l assigns x p ts rest is = b_assigns l x p ts rest is
 b_outer l (arms n before default) x p ts rest is = b_arms l n before default x p ts rest is
-b_outer l (more_choices n) x p ts rest is = b_more_choices l n x p ts rest is
+b_outer l (more_choices n) x p ts rest is = b_more_choices n l x p ts rest is
 b_outer l perhaps_colon x p ts rest is = b_perhaps perhaps_colon tt l x p ts rest is
 
 pub none_outer : (l : Limits) (y : Outer) (rest : List Placed) → outer_form l y [] rest →
@@ -458,11 +458,11 @@ none_outer l (statements n) rest is = absurd (none_statements l n rest is)
 none_outer l perhaps_block_name rest is = (refl, none_perhaps perhaps_block_name tt l rest is)
 none_outer l (perhaps_else n) rest is = (refl, none_perhaps (perhaps_else n) tt l rest is)
 none_outer l (perhaps_bits n) rest is = (refl, none_perhaps (perhaps_bits n) tt l rest is)
-none_outer l (bits_end n) rest is = absurd (none_bits_end l n rest is)
-none_outer l (more_targets n) rest is = absurd (none_more_targets l n rest is)
+none_outer l (bits_end n) rest is = absurd (none_bits_end n l rest is)
+none_outer l (more_targets n) rest is = absurd (none_more_targets n l rest is)
 none_outer l assigns rest is = absurd (none_assigns l rest is)
 none_outer l (arms n before default) rest is = absurd (none_arms l n before default rest is)
-none_outer l (more_choices n) rest is = absurd (none_more_choices l n rest is)
+none_outer l (more_choices n) rest is = absurd (none_more_choices n l rest is)
 none_outer l perhaps_colon rest is = (refl, none_perhaps perhaps_colon tt l rest is)
 
 pub empty_outer : (l : Limits) (y : Outer) → IsTrue (may_be_empty (outer y)) → outer_form l y [] []

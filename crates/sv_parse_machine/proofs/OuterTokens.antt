@@ -51,13 +51,13 @@ pub by_row : {x : Lexeme} {p : Place} {ts mid : List Placed} (l : Limits) (t : P
 by_row l t rest on at is = by_token (λ x us. Accepts l t us rest (on x)) at is
 
 -- either of two tokens
-pub f_either : (on : Lexeme → OuterReaction) (x y : Lexeme) {ys zs : List Outer}
-    → on x ≡ takes_all ys → on y ≡ takes_all zs
+pub f_either : (on : Lexeme → OuterReaction) (x : Lexeme) (ys : List Outer) (y : Lexeme)
+    (zs : List Outer) → on x ≡ takes_all ys → on y ≡ takes_all zs
     → StepsBy on (λ l. (somewhere (lexeme_at x) ⨾ outer_forms l ys)
     or (somewhere (lexeme_at y) ⨾ outer_forms l zs))
-f_either on x y first second l t ts rest (inl (m, (p, e), behind)) =
+f_either on x ys y zs first second l t ts rest (inl (m, (p, e), behind)) =
     by_row l t rest on e (subst (Accepts l t m rest) (sym first) (none_opens l, no_arm l, behind))
-f_either on x y first second l t ts rest (inr (m, (p, e), behind)) =
+f_either on x ys y zs first second l t ts rest (inr (m, (p, e), behind)) =
     by_row l t rest on e (subst (Accepts l t m rest) (sym second) (none_opens l, no_arm l, behind))
 
 -- ---- any number of the one, and then the other
@@ -99,10 +99,10 @@ unrefused l ys t ts rest x free is =
     (none_opens l, no_arm l, is)
 
 -- a name, and the others behind it
-pub f_named : (on : Lexeme → OuterReaction) {ys : List Outer}
+pub f_named : (on : Lexeme → OuterReaction) (ys : List Outer)
     → ((x : List ℕ) → on (identifier x) ≡ unless_refused (is_refused_word x) (takes_all ys))
     → StepsBy on (λ l. some_name ⨾ outer_forms l ys)
-f_named on {ys} row l t ts rest (m, (x, (p, (free, e))), behind) =
+f_named on ys row l t ts rest (m, (x, (p, (free, e))), behind) =
     by_row l t rest on e
     (subst (Accepts l t m rest) (sym (row x)) (unrefused l ys t m rest x free behind))
 
@@ -118,14 +118,14 @@ skipped l t ts rest over kind same = same
 skipped l t ts rest r kind same = absurd kind
 
 -- none of the symbol, or either of two tokens
-pub f_perhaps_either : (on : Lexeme → OuterReaction) (x y : Lexeme) {ys zs : List Outer}
-    → on x ≡ takes_all ys → on y ≡ takes_all zs
+pub f_perhaps_either : (on : Lexeme → OuterReaction) (x : Lexeme) (ys : List Outer) (y : Lexeme)
+    (zs : List Outer) → on x ≡ takes_all ys → on y ≡ takes_all zs
     → StepsBy on (λ l. skip_form on or (somewhere (lexeme_at x) ⨾ outer_forms l ys)
     or (somewhere (lexeme_at y) ⨾ outer_forms l zs))
-f_perhaps_either on x y first second l t ts rest (inl (over, same)) =
+f_perhaps_either on x ys y zs first second l t ts rest (inl (over, same)) =
     skipped l t ts rest (on t.lexeme) over same
-f_perhaps_either on x y first second l t ts rest (inr is) =
-    f_either on x y first second l t ts rest is
+f_perhaps_either on x ys y zs first second l t ts rest (inr is) =
+    f_either on x ys y zs first second l t ts rest is
 
 pub taken_star : (l : Limits) (t : Placed) (ts rest : List Placed) (b : Option BinOp) →
     Accepts l t ts rest (taken_if (is_star b)) → (b ≡ Some Mul) × (ts ≡ rest)

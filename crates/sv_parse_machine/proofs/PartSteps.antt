@@ -1,8 +1,8 @@
 -- Parts of statements: from forms to steps, and back.
-use Rattle.std.proofs.Common.{ℕ, zero, suc, ◌∷◌, inl, inr, refl, ◌∙◌}
+use Rattle.std.proofs.Common.{ℕ, zero, suc, [], ◌∷◌, inl, inr, refl, ◌∙◌}
 use Rattle.sv_token.specs.declared.signs.SignKind.TheVariants as signs
 use Rattle.sv_token.specs.Lexemes.{sign}
-use Rattle.sv_parse_machine.specs.Symbols.{expression, more_choices}
+use Rattle.sv_parse_machine.specs.Symbols.{punctuation, expression, more_choices}
 use Rattle.sv_parse_machine.specs.StatementTable.{bits_end_on, more_targets_on, more_choices_on}
 use Rattle.sv_parse_machine.proofs.InnerSteps.{placed, no_token, none_opens, no_arm}
 use Rattle.sv_parse_machine.proofs.OuterForms.{bits_end_form, more_targets_row, more_targets_end}
@@ -13,7 +13,8 @@ use Rattle.sv_parse_machine.proofs.OuterTokens.{f_commas, loop_closes, loop_goes
 
 pub f_bits_end : (n : ℕ) → StepsBy (bits_end_on n) (λ l. bits_end_form l n)
 f_bits_end n =
-    f_either (bits_end_on n) (sign signs.CloseBracket) (sign signs.Colon) refl refl
+    f_either (bits_end_on n) (sign signs.CloseBracket) [] (sign signs.Colon)
+    (expression n ∷ punctuation signs.CloseBracket ∷ []) refl refl
 
 pub b_bits_end : (n : ℕ) → FormsBy (bits_end_on n) (λ l. bits_end_form l n)
 b_bits_end n l (sign signs.CloseBracket) p ts rest is = inl (ts, (p, refl), is.2)

@@ -6,13 +6,14 @@ use Rattle.sv_token.specs.Lexemes.{word, sign}
 use Rattle.sv_parse_machine.specs.Symbols.{punctuation, plain_name, expression}
 use Rattle.sv_parse_machine.specs.Symbols.{more_values, lattice_lines, less_equal}
 use Rattle.sv_parse_machine.specs.Symbols.{later_header_parameter, more_header_parameters}
-use Rattle.sv_parse_machine.specs.Symbols.{later_port, more_ports}
+use Rattle.sv_parse_machine.specs.Symbols.{perhaps_second_name, later_port, more_ports}
 use Rattle.sv_parse_machine.specs.StatementTable.{more_values_on}
 use Rattle.sv_parse_machine.specs.ModuleTable.{lattice_lines_on, map_name_on, end_of_map_on}
 use Rattle.sv_parse_machine.specs.ModuleTable.{rows_on, perhaps_maps_on, parameter_type_on}
 use Rattle.sv_parse_machine.specs.ModuleTable.{header_parameter_on, later_header_parameter_on}
 use Rattle.sv_parse_machine.specs.ModuleTable.{more_header_parameters_on, perhaps_wire_or_reg_on}
 use Rattle.sv_parse_machine.specs.ModuleTable.{label_end_on, later_port_on, more_ports_on, ports_on}
+use Rattle.sv_parse_machine.specs.ModuleTable.{number_range, value_range, behind_selector}
 use Rattle.sv_parse_machine.proofs.ExpressionForms.{Next}
 use Rattle.sv_parse_machine.proofs.InnerSteps.{none_opens, no_arm}
 use Rattle.sv_parse_machine.proofs.OuterForms.{IsOver, more_values_form, lattice_lines_form}
@@ -43,7 +44,8 @@ f_lattice_lines l t ts rest
     m0 rest x free (q0, a0, (q1, a1, (m1, a2, (rest, (k, (m, others, final)), refl)))))
 
 pub f_map_name : StepsBy map_name_on map_name_form
-f_map_name = f_named map_name_on (λ x. refl)
+f_map_name =
+    f_named map_name_on (punctuation signs.OpenBracket ∷ number_range) (λ x. refl)
 
 pub f_end_of_map : StepsBy end_of_map_on end_of_map_form
 f_end_of_map l t ts rest (m, (p, e), behind) =
@@ -81,7 +83,8 @@ f_perhaps_maps l t ts rest (suc k, (m, (m1, (m0, (p, e), (q0, a0, (q1, a1, a2)))
 
 pub f_parameter_type : StepsBy parameter_type_on parameter_type_form
 f_parameter_type =
-    f_perhaps_either parameter_type_on (word words.Signed) (sign signs.OpenBracket) refl refl
+    f_perhaps_either parameter_type_on (word words.Signed)
+    (punctuation signs.OpenBracket ∷ value_range) (sign signs.OpenBracket) value_range refl refl
 
 pub f_header_parameter : StepsBy header_parameter_on header_parameter_form
 f_header_parameter l t ts rest (m, (p, e), behind) =
@@ -101,10 +104,12 @@ f_more_header_parameters l t ts rest is =
 
 pub f_perhaps_wire_or_reg : StepsBy perhaps_wire_or_reg_on perhaps_wire_or_reg_form
 f_perhaps_wire_or_reg =
-    f_perhaps_either perhaps_wire_or_reg_on (word words.Wire) (word words.Reg) refl refl
+    f_perhaps_either perhaps_wire_or_reg_on (word words.Wire) [] (word words.Reg) [] refl refl
 
 pub f_label_end : StepsBy label_end_on label_end_form
-f_label_end = f_either label_end_on (sign signs.CloseBrace) (sign signs.OpenParenthesis) refl refl
+f_label_end =
+    f_either label_end_on (sign signs.CloseBrace) [] (sign signs.OpenParenthesis)
+    (plain_name ∷ perhaps_second_name ∷ behind_selector []) refl refl
 
 pub f_later_port : StepsBy later_port_on later_port_form
 f_later_port l t ts rest (inl (m, (p, e), behind)) =
@@ -122,5 +127,7 @@ f_more_ports l t ts rest is =
 pub f_ports : StepsBy ports_on ports_form
 f_ports l t ts rest (inl (m, (p, e), behind)) =
     by_row l t rest ports_on e (none_opens l, no_arm l, behind)
-f_ports l t ts rest (inr is) =
-    f_either ports_on (word words.Output) (sign signs.CloseParenthesis) refl refl l t ts rest is
+f_ports l t ts rest (inr (inl (m, (p, e), behind))) =
+    by_row l t rest ports_on e (none_opens l, no_arm l, behind)
+f_ports l t ts rest (inr (inr (m, (p, e), behind))) =
+    by_row l t rest ports_on e (none_opens l, no_arm l, behind)

@@ -4,6 +4,7 @@ use Rattle.std.proofs.Common.{sym, ap, subst, ◌∙◌}
 use Rattle.std.proofs.lemmas.Bool.{false≢true}
 use Rattle.sv_num.specs.declared.operators.BinOp.TheVariants.{Le}
 use Rattle.sv_num.specs.declared.faults.Place.{Place}
+use Rattle.sv_token.specs.declared.keywords.WordKind.{WordKind}
 use Rattle.sv_token.specs.declared.keywords.WordKind.TheVariants as words
 use Rattle.sv_token.specs.declared.signs.SignKind.{SignKind}
 use Rattle.sv_token.specs.declared.signs.SignKind.TheVariants as signs
@@ -302,13 +303,10 @@ one_map a b =
 abbrev AtEnd : Behind
 AtEnd ts = ts ≡ []
 
-abbrev is_no_labelmap : Lexeme → Bool
-is_no_labelmap (word words.Labelmap) = false
-is_no_labelmap x = true
-
-abbrev is_no_lattice : Lexeme → Bool
-is_no_lattice (word words.Lattice) = false
-is_no_lattice x = true
+abbrev comes_not : WordKind → Lexeme → Bool
+comes_not words.Labelmap (word words.Labelmap) = false
+comes_not words.Lattice (word words.Lattice) = false
+comes_not w x = true
 
 leads_module : {F D : Behind} (l : Limits) (m : ModuleTree) → At F (word words.Module) →
     Leads F D (IsModule l m)
@@ -334,10 +332,10 @@ leads_lattice {F = F} a begins = record {
 }
 
 leads_maps : (l : Limits) (t : TextTree) →
-    Leads (NextIs is_no_lattice) AtEnd (each IsMap t.maps ⨾ some (IsModule l) t.modules)
+    Leads (NextIs (comes_not words.Lattice)) AtEnd (each IsMap t.maps ⨾ some (IsModule l) t.modules)
 leads_maps l t = leads_through
-    (leads_each {D = NextIs is_no_lattice} (λ a. leads_map a (λ p rest. refl)) (λ ts known.
-    known) t.maps)
+    (leads_each {D = NextIs (comes_not words.Lattice)} (λ a. leads_map a (λ p rest. refl))
+    (λ ts known. known) t.maps)
     (leads_modules l t.modules (λ p rest. refl))
 
 no_end : (p : Place) (rest : List Placed) →
@@ -352,7 +350,7 @@ one_text_of l t u =
     (one_before (one_perhaps (λ a b. one_anywhere (one_lattice a b)) (λ a.
     leads_lattice a (λ p rest. false≢true)) t.lattice u.lattice)
     (leads_maps l t) (leads_maps l u)
-    (λ lattice. one_before {F = NextIs is_no_labelmap}
+    (λ lattice. one_before {F = NextIs (comes_not words.Labelmap)}
     (one_each one_map (λ a. leads_map a (λ p rest. false≢true)) t.maps u.maps)
     (leads_modules l t.modules (λ p rest. refl)) (leads_modules l u.modules (λ p rest. refl))
     (λ maps. one_some (one_module l) (λ m. leads_module l m no_end) t.modules u.modules)))

@@ -297,7 +297,7 @@ no_name_at : (s : SignKind) (y : List ℕ) → sign s ≡ identifier y → ⊥
 no_name_at s y same = cc
 
 -- a sign other than `.` may begin where the lexeme stands
-may_sign : (s : SignKind) {before : List Placed} {e : Expected} →
+may_sign : {before : List Placed} {e : Expected} (s : SignKind) →
     (sign s ≡ sign signs.Dot → ⊥) → Known before (sign s) e → May before e
 may_sign s no_dot known = known.may (no_name_at s) no_dot
 

@@ -23,7 +23,7 @@ use Rattle.sv_parse_machine.specs.Verdict.{word_if, name_word, is_star_lexeme, s
 use Rattle.sv_parse_machine.specs.Verdict.{parenthesis_word, is_body, hash_word, equals_word}
 use Rattle.sv_parse_machine.specs.Verdict.{bracket_word, at_word, is_posedge, stop_at_clock, dot_word}
 use Rattle.sv_parse_machine.specs.Verdict.{stop_at_declared, refused_word}
-use Rattle.sv_parse_machine.proofs.AgreedRows.{is_item, is_statement, is_edge, is_port}
+use Rattle.sv_parse_machine.proofs.AgreedRows.{is_expected}
 
 -- ---- tests
 
@@ -118,16 +118,16 @@ is_clock ts (others, p, q, x, same) =
 -- ---- what may begin, by what a stuck place says
 
 pub record May (before : List Placed) (e : Expected) : Type 0 where
-  pub items : is_item e ≡ true → ItemMayBegin before
-  pub no_items : is_item e ≡ false → ItemMayBegin before → ⊥
-  pub statements : is_statement e ≡ true → StatementMayBegin before
-  pub no_statements : is_statement e ≡ false → StatementMayBegin before → ⊥
+  pub items : is_expected an_item e ≡ true → ItemMayBegin before
+  pub no_items : is_expected an_item e ≡ false → ItemMayBegin before → ⊥
+  pub statements : is_expected a_statement e ≡ true → StatementMayBegin before
+  pub no_statements : is_expected a_statement e ≡ false → StatementMayBegin before → ⊥
 
 pub record MayBeName (before : List Placed) (e : Expected) : Type 0 where
-  pub edges : is_edge e ≡ true → EdgeMayFollow before
-  pub no_edges : is_edge e ≡ false → EdgeMayFollow before → ⊥
-  pub ports : is_port e ≡ true → PortMayBegin before
-  pub no_ports : is_port e ≡ false → PortMayBegin before → ⊥
+  pub edges : is_expected an_edge e ≡ true → EdgeMayFollow before
+  pub no_edges : is_expected an_edge e ≡ false → EdgeMayFollow before → ⊥
+  pub ports : is_expected a_port e ≡ true → PortMayBegin before
+  pub no_ports : is_expected a_port e ≡ false → PortMayBegin before → ⊥
 
 -- ---- words
 

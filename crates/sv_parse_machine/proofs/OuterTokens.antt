@@ -1,6 +1,6 @@
 -- Single steps outside expressions: names, operators, and the first token of an expression.
 use Rattle.std.proofs.Common.{◌≡◌, ℕ, zero, suc, Bool, true, false, not, List, [], ◌∷◌}
-use Rattle.std.proofs.Common.{Option, Some, refl, sym, subst, ◌∙◌}
+use Rattle.std.proofs.Common.{Option, Some, inl, inr, refl, sym, subst, ◌∙◌}
 use Rattle.std.specs.Prelude.{IsTrue}
 use Rattle.sv_num.specs.declared.operators.BinOp.{BinOp}
 use Rattle.sv_num.specs.declared.operators.BinOp.TheVariants.{Mul, Le}

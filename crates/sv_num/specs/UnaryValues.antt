@@ -10,14 +10,8 @@ use Rattle.sv_num.specs.Vectors.{as_number, reduced, truth, is_true}
 abbrev pub gives_one_bit : UnOp → Bool
 gives_one_bit Plus = false
 gives_one_bit Minus = false
-gives_one_bit LogicNot = true
 gives_one_bit Invert = false
-gives_one_bit And = true
-gives_one_bit Nand = true
-gives_one_bit Or = true
-gives_one_bit Nor = true
-gives_one_bit Xor = true
-gives_one_bit Xnor = true
+gives_one_bit _ = true
 
 -- what an operator gives for a value of n bits, signed or not. A reduction joins all bits: `&` asks
 -- whether each is 1, `|` whether some is, `^` whether their number is odd, and the others say the

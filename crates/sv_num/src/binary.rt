@@ -2,6 +2,7 @@
 ghost use Rattle.std.specs.Prelude.{◌≡◌, ◌≢◌, ◌-◌, ◌*◌, ◌/◌, ◌%◌, ◌^◌, ◌<◌, ◌+ℤ◌, ◌-ℤ◌, ◌*ℤ◌};
 ghost use Rattle.std.specs.Prelude.{int_div, int_rem, int_lt, bit_and, bit_or, bit_xor};
 ghost use Rattle.std.specs.Int.{int_shr};
+ghost use Rattle.sv_num.specs.declared.operators.OpClass.TheVariants.{Compare, Context};
 ghost use Rattle.sv_num.specs.Vectors.{width_of, is_signed, value_of, number_of, reduced};
 ghost use Rattle.sv_num.specs.BinaryValues.{class_of, HaveOneType, HasDivisor, result_width};
 ghost use Rattle.sv_num.specs.BinaryValues.{result_signed, binary_value};
@@ -53,8 +54,7 @@ pub fn apply_binary(op: BinOp, a: Bits, b: Bits) -> Bits
 }
 
 fn product(a: Bits, b: Bits) -> u64
-    requires width { width_of a ≡ width_of b }
-    requires signed { is_signed a ≡ is_signed b }
+    requires types { HaveOneType Context a b }
     ensures value { result ≡ reduced (width_of a) (number_of a *ℤ number_of b) }
     ensures low { result < 2 ^ width_of a }
 {
@@ -62,8 +62,7 @@ fn product(a: Bits, b: Bits) -> u64
 }
 
 fn sum(a: Bits, b: Bits) -> u64
-    requires width { width_of a ≡ width_of b }
-    requires signed { is_signed a ≡ is_signed b }
+    requires types { HaveOneType Context a b }
     ensures value { result ≡ reduced (width_of a) (number_of a +ℤ number_of b) }
     ensures low { result < 2 ^ width_of a }
 {
@@ -71,8 +70,7 @@ fn sum(a: Bits, b: Bits) -> u64
 }
 
 fn difference(a: Bits, b: Bits) -> u64
-    requires width { width_of a ≡ width_of b }
-    requires signed { is_signed a ≡ is_signed b }
+    requires types { HaveOneType Context a b }
     ensures value { result ≡ reduced (width_of a) (number_of a -ℤ number_of b) }
     ensures low { result < 2 ^ width_of a }
 {
@@ -80,8 +78,7 @@ fn difference(a: Bits, b: Bits) -> u64
 }
 
 fn quotient(a: Bits, b: Bits) -> u64
-    requires width { width_of a ≡ width_of b }
-    requires signed { is_signed a ≡ is_signed b }
+    requires types { HaveOneType Context a b }
     requires divisor { value_of b ≢ 0 }
     ensures value { result ≡ reduced (width_of a) (int_div (number_of a) (number_of b)) }
     ensures low { result < 2 ^ width_of a }
@@ -95,8 +92,7 @@ fn quotient(a: Bits, b: Bits) -> u64
 }
 
 fn remainder(a: Bits, b: Bits) -> u64
-    requires width { width_of a ≡ width_of b }
-    requires signed { is_signed a ≡ is_signed b }
+    requires types { HaveOneType Context a b }
     requires divisor { value_of b ≢ 0 }
     ensures value { result ≡ reduced (width_of a) (int_rem (number_of a) (number_of b)) }
     ensures low { result < 2 ^ width_of a }
@@ -134,8 +130,7 @@ fn shifted_with_sign(a: Bits, amount: u64) -> u64
 }
 
 fn is_less(a: Bits, b: Bits) -> bool
-    requires width { width_of a ≡ width_of b }
-    requires signed { is_signed a ≡ is_signed b }
+    requires types { HaveOneType Compare a b }
     ensures { result ≡ int_lt (number_of a) (number_of b) }
 {
     if a.is_negative() == b.is_negative() {

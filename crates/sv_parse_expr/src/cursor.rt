@@ -86,10 +86,8 @@ pub fn behind(sign: SignKind, tokens: &[Token]) -> Option<&[Token]>
     ensures none { (bytes : List ℕ) →
         IfNone result (NextIsNotSign sign (placed_tokens bytes tokens.now)) }
 {
-    match sign_at(sign, tokens) {
-        Some((_place, rest)) => Some(rest),
-        None => None,
-    }
+    let (_place, rest) = sign_at(sign, tokens)?;
+    Some(rest)
 }
 
 /// The tokens behind this word, if it comes.
@@ -102,10 +100,8 @@ pub fn behind_word(word: WordKind, tokens: &[Token]) -> Option<&[Token]>
     ensures none { (bytes : List ℕ) →
         IfNone result (NextIsNotWord word (placed_tokens bytes tokens.now)) }
 {
-    match word_at(word, tokens) {
-        Some((_place, rest)) => Some(rest),
-        None => None,
-    }
+    let (_place, rest) = word_at(word, tokens)?;
+    Some(rest)
 }
 
 /// The tokens behind this punctuation, which has to come.

@@ -62,21 +62,12 @@ operand_is_plain n x = tt
 
 -- ---- what may begin
 
-abbrev pub is_item : Expected → Bool
-is_item an_item = true
-is_item e = false
-
-abbrev pub is_statement : Expected → Bool
-is_statement a_statement = true
-is_statement e = false
-
-abbrev pub is_edge : Expected → Bool
-is_edge an_edge = true
-is_edge e = false
-
-abbrev pub is_port : Expected → Bool
-is_port a_port = true
-is_port e = false
+abbrev pub is_expected : (form found : Expected) → Bool
+is_expected an_item an_item = true
+is_expected a_statement a_statement = true
+is_expected an_edge an_edge = true
+is_expected a_port a_port = true
+is_expected form found = false
 
 -- it is taken, or no text goes on with it, as it should
 abbrev pub is_as : Bool → OuterReaction → Bool
@@ -93,8 +84,8 @@ is_over r = false
 abbrev pub agrees : (named : Bool) → (on : OuterReaction) →
     (always begin posedge input : OuterReaction) → Bool
 agrees named (stuck e) a b p i =
-    is_as (is_item e) a && (is_as (is_statement e) b
-    && (is_as (is_edge e) p && (not named || is_as (is_port e) i)))
+    is_as (is_expected an_item e) a && (is_as (is_expected a_statement e) b
+    && (is_as (is_expected an_edge e) p && (not named || is_as (is_expected a_port e) i)))
 agrees named over a b p i = is_over a && (is_over b && (is_over p && is_over i))
 agrees named r a b p i = true
 

@@ -35,13 +35,9 @@ use Rattle.sv_ast.specs.GrammarGroups.{literal}
 use Rattle.sv_ast.specs.GrammarExpressions.{Limits, is_within}
 use Rattle.sv_ast.specs.Tree.{null, no_arms, more_arms}
 use Rattle.sv_parse_machine.proofs.StatementForms.{expression_tree}
-use Rattle.sv_parse_machine.proofs.QuietTokens.{is_quiet, Quiet, ends_tail_quietly, skip_perhaps_lattice}
-use Rattle.sv_parse_machine.proofs.QuietTokens.{skip_perhaps_maps, skip_perhaps_key_range}
-use Rattle.sv_parse_machine.proofs.QuietTokens.{skip_perhaps_header_parameters, skip_parameter_type}
-use Rattle.sv_parse_machine.proofs.QuietTokens.{skip_perhaps_wire, skip_perhaps_wire_or_reg}
-use Rattle.sv_parse_machine.proofs.QuietTokens.{skip_perhaps_signed, skip_perhaps_range}
-use Rattle.sv_parse_machine.proofs.QuietTokens.{skip_perhaps_label, skip_perhaps_overrides}
-use Rattle.sv_parse_machine.proofs.QuietTokens.{skip_perhaps_else, skip_perhaps_bits}
+use Rattle.sv_parse_machine.proofs.QuietTokens.{is_quiet, Quiet, ends_tail_quietly, skip_perhaps}
+use Rattle.sv_parse_machine.proofs.QuietTokens.{skip_perhaps_maps, skip_parameter_type}
+use Rattle.sv_parse_machine.proofs.QuietTokens.{skip_perhaps_wire_or_reg}
 
 -- ---- tokens that complete
 
@@ -306,13 +302,13 @@ closed l (expression n) us few sane quiet less = a_value l n us quiet less
 closed l (more_names s) us few sane quiet less = closed_names l s us sane
 closed l more_values us few sane quiet less =
     (zero, (a_token (sign signs.CloseParenthesis) ∷ us, refl, (first_place, refl)))
-closed l perhaps_lattice us few sane quiet less = skip_perhaps_lattice l us quiet
+closed l perhaps_lattice us few sane quiet less = skip_perhaps perhaps_lattice tt refl l us quiet
 closed l lattice_lines us few sane quiet less =
     (zero, (a_token (word words.Endlattice) ∷ us, refl, (first_place, refl)))
 closed l less_equal us few sane quiet less = (first_place, (less_equal_sign, refl, refl))
 closed l perhaps_maps us few sane quiet less = skip_perhaps_maps l us quiet
 closed l map_name us few sane quiet less = closed_range l us
-closed l perhaps_key_range us few sane quiet less = skip_perhaps_key_range l us quiet
+closed l perhaps_key_range us few sane quiet less = skip_perhaps perhaps_key_range tt refl l us quiet
 closed l rows us few sane quiet less =
     (zero, (a_token (word words.Endlabelmap) ∷ us, refl, inr (first_place, refl)))
 closed l perhaps_second_key us few sane quiet less =
@@ -329,7 +325,7 @@ closed l one_module us few sane quiet less = (
     (
       a_token (sign signs.Semicolon) ∷ a_token (word words.Endmodule) ∷
           us,
-      skip_perhaps_header_parameters l
+      skip_perhaps perhaps_header_parameters tt refl l
           (a_token (sign signs.Semicolon) ∷ a_token (word words.Endmodule) ∷ us)
           refl,
       (
@@ -347,7 +343,7 @@ closed l one_module us few sane quiet less = (
   ),
 )
 closed l perhaps_header_parameters us few sane quiet less =
-    skip_perhaps_header_parameters l us quiet
+    skip_perhaps perhaps_header_parameters tt refl l us quiet
 closed l header_parameter us few sane quiet less = (
   a_name ∷ a_token (sign signs.Equals) ∷ a_number ∷
       us,
@@ -377,11 +373,11 @@ closed l later_port us few sane quiet less =
     inr (inr (us, (short_name, (first_place, (short_name_is_free, refl))), refl))
 closed l more_ports us few sane quiet less =
     (zero, (a_token (sign signs.CloseParenthesis) ∷ us, refl, (first_place, refl)))
-closed l perhaps_wire us few sane quiet less = skip_perhaps_wire l us quiet
+closed l perhaps_wire us few sane quiet less = skip_perhaps perhaps_wire tt refl l us quiet
 closed l perhaps_wire_or_reg us few sane quiet less = skip_perhaps_wire_or_reg l us quiet
-closed l perhaps_signed us few sane quiet less = skip_perhaps_signed l us quiet
-closed l perhaps_range us few sane quiet less = skip_perhaps_range l us quiet
-closed l perhaps_label us few sane quiet less = skip_perhaps_label l us quiet
+closed l perhaps_signed us few sane quiet less = skip_perhaps perhaps_signed tt refl l us quiet
+closed l perhaps_range us few sane quiet less = skip_perhaps perhaps_range tt refl l us quiet
+closed l perhaps_label us few sane quiet less = skip_perhaps perhaps_label tt refl l us quiet
 closed l label_end us few sane quiet less = inl (us, (first_place, refl), refl)
 closed l perhaps_second_name us few sane quiet less =
     inr (
@@ -503,7 +499,7 @@ closed l event us few sane quiet less =
       (us, closed_edge l us, refl),
     )
 closed l event_inside us few sane quiet less = closed_edge l us
-closed l perhaps_overrides us few sane quiet less = skip_perhaps_overrides l us quiet
+closed l perhaps_overrides us few sane quiet less = skip_perhaps perhaps_overrides tt refl l us quiet
 closed l overrides us few sane quiet less =
     inr (
       a_token (sign signs.CloseParenthesis) ∷
@@ -541,8 +537,8 @@ closed l perhaps_block_name us few sane quiet less =
       (first_place, refl),
       (us, (short_name, (first_place, (short_name_is_free, refl))), refl),
     )
-closed l (perhaps_else n) us few sane quiet less = skip_perhaps_else l n us quiet
-closed l (perhaps_bits n) us few sane quiet less = skip_perhaps_bits l n us quiet
+closed l (perhaps_else n) us few sane quiet less = skip_perhaps (perhaps_else n) tt refl l us quiet
+closed l (perhaps_bits n) us few sane quiet less = skip_perhaps (perhaps_bits n) tt refl l us quiet
 closed l (bits_end n) us few sane quiet less = inl (us, (first_place, refl), refl)
 closed l (more_targets n) us few sane quiet less =
     (zero, (a_token (sign signs.CloseBrace) ∷ us, refl, (first_place, refl)))

@@ -69,23 +69,12 @@ f_parameters l (q ∷ qs) ts rest (m, (m1, (m2, is, (m3, type, named)), others),
     (m, others, final))
     (next_later ends_tail (IsLaterParameter l) q qs signs.Semicolon m1 rest tt tt
     (m, others, final)) in
+    let further = f_later (IsLaterParameter l) (named_parameter_form l) Any signs.Semicolon
+    (f_later_parameter l) q qs m1 rest tt (m, others, final) in
     f_word l q.local ts m2 rest is (
       m3,
       f_parameter_type l q.signed q.span m2 m3 m4 type name,
-      (
-        m4,
-        name,
-        (
-          m5,
-          sets,
-          (
-            m1,
-            value,
-            f_later (IsLaterParameter l) (named_parameter_form l) Any signs.Semicolon
-                (f_later_parameter l) q qs m1 rest tt (m, others, final),
-          ),
-        ),
-      ),
+      (m4, name, (m5, sets, (m1, value, further))),
     )
 
 abbrev NextParameter : Limits → ParameterTree → List Placed → List Placed → Type 0
@@ -94,15 +83,9 @@ NextParameter l a ts rest = (b : ParameterTree) × Any b × IsLaterParameter l a
 b_later_parameter : (l : Limits) (a : ParameterTree) (ts rest : List Placed) → Any a →
     named_parameter_form l ts rest → NextParameter l a ts rest
 b_later_parameter l a ts rest known is =
-    let named = b_named_parameter l ts rest is in (
-      record a {
-        name = named.0;
-        place = named.1;
-        value = named.2;
-      },
-      tt,
-      ((refl, refl, refl), named.3),
-    )
+    let named = b_named_parameter l ts rest is in
+    let next : ParameterTree = record a { name = named.0; place = named.1; value = named.2 } in
+    (next, tt, ((refl, refl, refl), named.3))
 
 abbrev pub Parameters : Limits → List Placed → List Placed → Type 0
 Parameters l ts rest =

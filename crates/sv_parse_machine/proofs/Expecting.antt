@@ -14,13 +14,14 @@ use Rattle.sv_ast.specs.GrammarRules.{no_limits}
 use Rattle.sv_parse_machine.specs.Symbols.{Inner, operand, tail, selection, selection_end}
 use Rattle.sv_parse_machine.specs.Symbols.{members_or_count, members, inner_colon, inner_parenthesis}
 use Rattle.sv_parse_machine.specs.Symbols.{inner_bracket, inner_brace, Outer, inner, outer, State}
-use Rattle.sv_parse_machine.specs.Symbols.{Expected, something, InnerReaction, takes_inner, over_inner}
+use Rattle.sv_parse_machine.specs.Symbols.{Expected, something, an_item, a_statement, an_edge}
+use Rattle.sv_parse_machine.specs.Symbols.{a_port, InnerReaction, takes_inner, over_inner}
 use Rattle.sv_parse_machine.specs.Symbols.{stuck_inner, OuterReaction, takes, begins, over, stuck}
 use Rattle.sv_parse_machine.specs.ExpressionTable.{operand_on, infix_tail, inner_on}
 use Rattle.sv_parse_machine.specs.ModuleTable.{one_module_on}
 use Rattle.sv_parse_machine.specs.Machine.{outer_on, MachineStep, goes, fails_as, stuck_at}
 use Rattle.sv_parse_machine.specs.Machine.{after_inner, after_outer, step}
-use Rattle.sv_parse_machine.proofs.AgreedRows.{is_item, is_statement, is_edge, is_port, is_as, is_over}
+use Rattle.sv_parse_machine.proofs.AgreedRows.{is_expected, is_as, is_over}
 use Rattle.sv_parse_machine.proofs.AgreedRows.{agrees, is_named, IsFree, rows_agree, PlainlyStuck}
 use Rattle.sv_parse_machine.proofs.AgreedRows.{operand_is_plain}
 
@@ -82,10 +83,11 @@ inner_agrees inner_brace x w no_dot = refl
 
 -- what the state would do with the words
 pub record Expects (a : ℕ) (s : State) (x : Lexeme) (e : Expected) : Type 0 where
-  pub items : goes_on (step no_limits a s (word words.Always)) ≡ is_item e
-  pub statements : goes_on (step no_limits a s (word words.Begin)) ≡ is_statement e
-  pub edges : goes_on (step no_limits a s (word words.Posedge)) ≡ is_edge e
-  pub ports : IsTrue (is_named x) → goes_on (step no_limits a s (word words.Input)) ≡ is_port e
+  pub items : goes_on (step no_limits a s (word words.Always)) ≡ is_expected an_item e
+  pub statements : goes_on (step no_limits a s (word words.Begin)) ≡ is_expected a_statement e
+  pub edges : goes_on (step no_limits a s (word words.Posedge)) ≡ is_expected an_edge e
+  pub ports : IsTrue (is_named x) →
+      goes_on (step no_limits a s (word words.Input)) ≡ is_expected a_port e
 
 no_module_expected : (a : ℕ) (x : Lexeme) (e : Expected) →
     after_outer no_limits a [] (goes []) (one_module_on x) ≡ fails_as (stuck_at e) → e ≡ something
@@ -116,14 +118,17 @@ expects_inside a start s below x e over_inner no_dot found halts further =
     let same = λ (w : WordKind).
     subst (λ r. InnerAgrees r (inner_on s (word w))) found (inner_agrees s x w no_dot) in
     record {
-      items = over_inside words.Always a start s below (is_item e) (same words.Always) others.items;
+      items =
+          over_inside words.Always a start s below (is_expected an_item e) (same words.Always)
+          others.items;
       statements =
-          over_inside words.Begin a start s below (is_statement e) (same words.Begin)
+          over_inside words.Begin a start s below (is_expected a_statement e) (same words.Begin)
           others.statements;
       edges =
-          over_inside words.Posedge a start s below (is_edge e) (same words.Posedge) others.edges;
+          over_inside words.Posedge a start s below (is_expected an_edge e) (same words.Posedge)
+          others.edges;
       ports =
-          λ named. over_inside words.Input a start s below (is_port e) (same words.Input)
+          λ named. over_inside words.Input a start s below (is_expected a_port e) (same words.Input)
           (others.ports named);
     }
 expects_inside a start s below x e (stuck_inner something) no_dot found halts further =
@@ -178,43 +183,45 @@ expects_outside a y below x e over agree halts further =
     (is_over (outer_on y (word words.Input))) second.1 in
     record {
       items =
-          over_goes a below (step no_limits a below (word words.Always)) (is_item e)
+          over_goes a below (step no_limits a below (word words.Always)) (is_expected an_item e)
           (outer_on y (word words.Always)) first.0 others.items;
       statements =
-          over_goes a below (step no_limits a below (word words.Begin)) (is_statement e)
+          over_goes a below (step no_limits a below (word words.Begin)) (is_expected a_statement e)
           (outer_on y (word words.Begin)) second.0 others.statements;
       edges =
-          over_goes a below (step no_limits a below (word words.Posedge)) (is_edge e)
+          over_goes a below (step no_limits a below (word words.Posedge)) (is_expected an_edge e)
           (outer_on y (word words.Posedge)) third.0 others.edges;
       ports =
-          λ named. over_goes a below (step no_limits a below (word words.Input)) (is_port e)
-          (outer_on y (word words.Input)) third.1 (others.ports named);
+          λ named. over_goes a below (step no_limits a below (word words.Input))
+          (is_expected a_port e) (outer_on y (word words.Input)) third.1 (others.ports named);
     }
 expects_outside a y below x e (stuck f) agree halts further =
     let none : f ≡ e = cc in
-    let first = and_parts (is_as (is_item f) (outer_on y (word words.Always)))
-    (is_as (is_statement f) (outer_on y (word words.Begin))
-    && (is_as (is_edge f) (outer_on y (word words.Posedge))
-    && (not (is_named x) || is_as (is_port f) (outer_on y (word words.Input))))) agree in
-    let second = and_parts (is_as (is_statement f) (outer_on y (word words.Begin)))
-    (is_as (is_edge f) (outer_on y (word words.Posedge))
-    && (not (is_named x) || is_as (is_port f) (outer_on y (word words.Input)))) first.1 in
-    let third = and_parts (is_as (is_edge f) (outer_on y (word words.Posedge))) (not (is_named x)
-    || is_as (is_port f) (outer_on y (word words.Input))) second.1 in
+    let first = and_parts (is_as (is_expected an_item f) (outer_on y (word words.Always)))
+    (is_as (is_expected a_statement f) (outer_on y (word words.Begin))
+    && (is_as (is_expected an_edge f) (outer_on y (word words.Posedge))
+    && (not (is_named x) || is_as (is_expected a_port f) (outer_on y (word words.Input))))) agree in
+    let second = and_parts (is_as (is_expected a_statement f) (outer_on y (word words.Begin)))
+    (is_as (is_expected an_edge f) (outer_on y (word words.Posedge))
+    && (not (is_named x) || is_as (is_expected a_port f) (outer_on y (word words.Input))))
+    first.1 in
+    let third = and_parts (is_as (is_expected an_edge f) (outer_on y (word words.Posedge)))
+    (not (is_named x) || is_as (is_expected a_port f) (outer_on y (word words.Input))) second.1 in
     subst (Expects a (outer y ∷ below) x) none (record {
       items =
-          as_goes a below (step no_limits a below (word words.Always)) (is_item f)
+          as_goes a below (step no_limits a below (word words.Always)) (is_expected an_item f)
           (outer_on y (word words.Always)) first.0;
       statements =
-          as_goes a below (step no_limits a below (word words.Begin)) (is_statement f)
+          as_goes a below (step no_limits a below (word words.Begin)) (is_expected a_statement f)
           (outer_on y (word words.Begin)) second.0;
       edges =
-          as_goes a below (step no_limits a below (word words.Posedge)) (is_edge f)
+          as_goes a below (step no_limits a below (word words.Posedge)) (is_expected an_edge f)
           (outer_on y (word words.Posedge)) third.0;
       ports =
-          λ named. as_goes a below (step no_limits a below (word words.Input)) (is_port f)
-          (outer_on y (word words.Input))
-          (or_parts (is_named x) (is_as (is_port f) (outer_on y (word words.Input))) third.1 named);
+          λ named. as_goes a below (step no_limits a below (word words.Input))
+          (is_expected a_port f) (outer_on y (word words.Input))
+          (or_parts (is_named x) (is_as (is_expected a_port f) (outer_on y (word words.Input)))
+          third.1 named);
     })
 
 pub expects : (a : ℕ) (s : State) (x : Lexeme) (e : Expected) → IsFree x → IsNoDot x →

@@ -109,32 +109,9 @@ f_named_overrides : (l : Limits) (o : NamedOverride) (os : List NamedOverride)
     → overrides_form l ts rest
 f_named_overrides l o os ts m rest is others =
     let (m1, dot, (m2, name, (m3, opens, (m4, value, close)))) = f_named_override l o ts m is in
-    inl (
-      m1,
-      dot,
-      (
-        m2,
-        name,
-        (
-          m3,
-          opens,
-          (
-            m4,
-            value,
-            (
-              m,
-              close,
-              (
-                rest,
-                f_later (LaterOverride l) (named_override_form l) Any signs.CloseParenthesis
-                    (f_later_override l) o os m rest tt others,
-                refl,
-              ),
-            ),
-          ),
-        ),
-      ),
-    )
+    let further = f_later (LaterOverride l) (named_override_form l) Any signs.CloseParenthesis
+    (f_later_override l) o os m rest tt others in
+    inl (m1, dot, (m2, name, (m3, opens, (m4, value, (m, close, (rest, further, refl))))))
 
 f_ordered_overrides : (l : Limits) (ts rest : List Placed) → values_form l ts rest →
     overrides_form l ts rest
@@ -147,33 +124,14 @@ f_overrides l (named_overrides []) ts rest (m, hash, (m1, opens, (m2, never, clo
     absurd never
 f_overrides l (named_overrides (o ∷ os)) ts rest
     (m, hash, (m1, opens, (m2, (m3, is, others), close))) next =
-    inr (
-      m,
-      hash,
-      (
-        m1,
-        opens,
-        (rest, f_named_overrides l o os m1 m3 rest is (m2, others, close), refl),
-      ),
-    )
+    let named = f_named_overrides l o os m1 m3 rest is (m2, others, close) in
+    inr (m, hash, (m1, opens, (rest, named, refl)))
 f_overrides l (ordered_overrides []) ts rest same next =
     inl (subst (Next (λ x. IsOver (perhaps_overrides_on x))) (sym same) next, same)
 f_overrides l (ordered_overrides (e ∷ es)) ts rest
     (m, hash, (m1, opens, (m2, (m3, is, others), close))) next =
-    inr (
-      m,
-      hash,
-      (
-        m1,
-        opens,
-        (
-          rest,
-          f_ordered_overrides l m1 rest
-              (f_values l e es m1 m3 rest is (m2, others, close)),
-          refl,
-        ),
-      ),
-    )
+    let values = f_values l e es m1 m3 rest is (m2, others, close) in
+    inr (m, hash, (m1, opens, (rest, f_ordered_overrides l m1 rest values, refl)))
 
 abbrev Override : Limits → List Placed → List Placed → Type 0
 Override l ts rest = (o : NamedOverride) × IsNamedOverride l o ts rest
@@ -268,28 +226,9 @@ f_named_links : (l : Limits) (k : NamedLink) (ks : List NamedLink) (ts m rest : 
     → (later (LaterLink l) k ks ⨾ a_sign signs.CloseParenthesis) m rest → links_form l ts rest
 f_named_links l k ks ts m rest is others =
     let (m1, dot, (m2, name, (m3, opens, link))) = f_named_link l k ts m is in
-    inr (inl (
-      m1,
-      dot,
-      (
-        m2,
-        name,
-        (
-          m3,
-          opens,
-          (
-            m,
-            link,
-            (
-              rest,
-              f_later (LaterLink l) (named_link_form l) Any signs.CloseParenthesis
-                  (f_later_link l) k ks m rest tt others,
-              refl,
-            ),
-          ),
-        ),
-      ),
-    ))
+    let further = f_later (LaterLink l) (named_link_form l) Any signs.CloseParenthesis
+    (f_later_link l) k ks m rest tt others in
+    inr (inl (m1, dot, (m2, name, (m3, opens, (m, link, (rest, further, refl))))))
 
 f_ordered_links : (l : Limits) (ts rest : List Placed) → values_form l ts rest →
     links_form l ts rest
@@ -375,27 +314,16 @@ pub f_instances : (l : Limits) (is : List InstanceTree) (ts rest : List Placed) 
     (AreInstances l is ⨾ a_sign signs.Semicolon) ts rest → instances_form l ts rest
 f_instances l [] ts rest (m, never, final) = absurd never
 f_instances l (i ∷ is) ts rest (m, (m1, (m2, master, (m3, overrides, named)), others), final) =
-    let (m4, name, (m5, opens, links)) = f_named_instance l i m3 m1 named in (
+    let (m4, name, (m5, opens, links)) = f_named_instance l i m3 m1 named in
+    let further = f_later (LaterInstance l) (named_instance_form l) Any signs.Semicolon
+    (f_later_instance l) i is m1 rest tt (m, others, final) in (
       m2,
       (i.master, (i.place, master)),
       (
         m3,
         f_overrides l i.overrides m2 m3 overrides
             (next_name (λ x. IsOver (perhaps_overrides_on x)) m3 m4 (λ x. tt) name),
-        (
-          m4,
-          name,
-          (
-            m5,
-            opens,
-            (
-              m1,
-              links,
-              f_later (LaterInstance l) (named_instance_form l) Any signs.Semicolon
-                  (f_later_instance l) i is m1 rest tt (m, others, final),
-            ),
-          ),
-        ),
+        (m4, name, (m5, opens, (m1, links, further))),
       ),
     )
 
@@ -417,15 +345,9 @@ NextInstance l a ts rest = (b : InstanceTree) × Any b × LaterInstance l a b ts
 b_later_instance : (l : Limits) (a : InstanceTree) (ts rest : List Placed) → Any a →
     named_instance_form l ts rest → NextInstance l a ts rest
 b_later_instance l a ts rest known is =
-    let this = b_named_instance l a.master a.place a.overrides ts rest is in (
-      record a {
-        name = this.0;
-        name_place = this.1;
-        links = this.2;
-      },
-      tt,
-      ((refl, refl, refl), this.3),
-    )
+    let this = b_named_instance l a.master a.place a.overrides ts rest is in
+    let next : InstanceTree = record a { name = this.0; name_place = this.1; links = this.2 } in
+    (next, tt, ((refl, refl, refl), this.3))
 
 abbrev pub Instances : Limits → List Placed → List Placed → Type 0
 Instances l ts rest =

@@ -18,7 +18,6 @@ use Rattle.sv_parse_machine.specs.ModuleTable.{event_on, more_named_overrides_on
 use Rattle.sv_parse_machine.specs.ModuleTable.{link_on, more_named_links_on, links_on}
 use Rattle.sv_parse_machine.specs.ModuleTable.{more_instances_on, items_on, one_module_on}
 use Rattle.sv_parse_machine.proofs.InnerSteps.{placed, no_token}
-use Rattle.sv_parse_machine.proofs.InnerForms.{last_token}
 use Rattle.sv_parse_machine.proofs.OuterForms.{more_parameters_form, more_wires_form}
 use Rattle.sv_parse_machine.proofs.OuterForms.{behind_reg_name_form, memory_name_form}
 use Rattle.sv_parse_machine.proofs.OuterForms.{label_selector_form, reg_name_form}
@@ -38,13 +37,11 @@ use Rattle.sv_parse_machine.proofs.OuterForms.{more_assigned_end, more_named_ove
 use Rattle.sv_parse_machine.proofs.OuterForms.{more_named_overrides_end, more_named_links_row}
 use Rattle.sv_parse_machine.proofs.OuterForms.{more_named_links_end, more_instances_row}
 use Rattle.sv_parse_machine.proofs.OuterForms.{more_instances_end, items_row, items_end}
-use Rattle.sv_parse_machine.proofs.OuterTokens.{loop_ends, loop_goes_on}
+use Rattle.sv_parse_machine.proofs.OuterTokens.{loop_closes, loop_goes_on}
 
 pub b_more_parameters : FormsBy more_parameters_on more_parameters_form
 b_more_parameters l (sign signs.Semicolon) p ts rest is =
-    loop_ends (more_parameters_row l) (more_parameters_end l)
-    (placed (sign signs.Semicolon) p ∷ ts) rest
-    (p, last_token (sign signs.Semicolon) p ts rest is.2)
+    loop_closes (more_parameters_row l) (sign signs.Semicolon) p ts rest is.2
 b_more_parameters l (sign signs.Comma) p ts rest (opens, arm, (q0, a0, (q1, a1, (m1, a2, again)))) =
     loop_goes_on (more_parameters_row l) (more_parameters_end l)
     (placed (sign signs.Comma) p ∷ ts) m1 rest (ts, (p, refl), (q0, a0, (q1, a1, a2))) again
@@ -56,8 +53,7 @@ none_more_parameters l rest (suc k, (m, (m1, (m0, (p, e), behind), others), fina
 
 pub b_more_wires : FormsBy more_wires_on more_wires_form
 b_more_wires l (sign signs.Semicolon) p ts rest is =
-    loop_ends (more_wires_row l) (more_wires_end l) (placed (sign signs.Semicolon) p ∷ ts) rest
-    (p, last_token (sign signs.Semicolon) p ts rest is.2)
+    loop_closes (more_wires_row l) (sign signs.Semicolon) p ts rest is.2
 b_more_wires l (sign signs.Comma) p ts rest (opens, arm, (q0, a0, (m1, a1, again))) =
     loop_goes_on (more_wires_row l) (more_wires_end l) (placed (sign signs.Comma) p ∷ ts) m1 rest
     (ts, (p, refl), (q0, a0, a1)) again
@@ -145,8 +141,7 @@ none_later_assigned l rest (inr (m, (p, e), behind)) = no_token e
 
 pub b_more_assigned : FormsBy more_assigned_on more_assigned_form
 b_more_assigned l (sign signs.Semicolon) p ts rest is =
-    loop_ends (more_assigned_row l) (more_assigned_end l) (placed (sign signs.Semicolon) p ∷ ts)
-    rest (p, last_token (sign signs.Semicolon) p ts rest is.2)
+    loop_closes (more_assigned_row l) (sign signs.Semicolon) p ts rest is.2
 b_more_assigned l (sign signs.Comma) p ts rest (opens, arm, (m1, a0, again)) =
     loop_goes_on (more_assigned_row l) (more_assigned_end l) (placed (sign signs.Comma) p ∷ ts) m1
     rest (ts, (p, refl), a0) again
@@ -202,9 +197,7 @@ none_event l rest (inr (m, (p, e), behind)) = no_token e
 
 pub b_more_named_overrides : FormsBy more_named_overrides_on more_named_overrides_form
 b_more_named_overrides l (sign signs.CloseParenthesis) p ts rest is =
-    loop_ends (more_named_overrides_row l) (more_named_overrides_end l)
-    (placed (sign signs.CloseParenthesis) p ∷ ts) rest
-    (p, last_token (sign signs.CloseParenthesis) p ts rest is.2)
+    loop_closes (more_named_overrides_row l) (sign signs.CloseParenthesis) p ts rest is.2
 b_more_named_overrides l (sign signs.Comma) p ts rest
     (opens, arm, (q0, a0, (q1, a1, (q2, a2, (q3, a3, (m1, a4, again)))))) =
     loop_goes_on (more_named_overrides_row l) (more_named_overrides_end l)
@@ -238,9 +231,7 @@ none_link l rest (inr (m, is, behind)) = no_expression l 0 m is
 
 pub b_more_named_links : FormsBy more_named_links_on more_named_links_form
 b_more_named_links l (sign signs.CloseParenthesis) p ts rest is =
-    loop_ends (more_named_links_row l) (more_named_links_end l)
-    (placed (sign signs.CloseParenthesis) p ∷ ts) rest
-    (p, last_token (sign signs.CloseParenthesis) p ts rest is.2)
+    loop_closes (more_named_links_row l) (sign signs.CloseParenthesis) p ts rest is.2
 b_more_named_links l (sign signs.Comma) p ts rest
     (opens, arm, (q0, a0, (q1, a1, (q2, a2, (m1, a3, again))))) =
     loop_goes_on (more_named_links_row l) (more_named_links_end l)
@@ -266,8 +257,7 @@ none_links l rest (inr (inr (m, is, behind))) = no_expression l 0 m is
 
 pub b_more_instances : FormsBy more_instances_on more_instances_form
 b_more_instances l (sign signs.Semicolon) p ts rest is =
-    loop_ends (more_instances_row l) (more_instances_end l) (placed (sign signs.Semicolon) p ∷ ts)
-    rest (p, last_token (sign signs.Semicolon) p ts rest is.2)
+    loop_closes (more_instances_row l) (sign signs.Semicolon) p ts rest is.2
 b_more_instances l (sign signs.Comma) p ts rest (opens, arm, (q0, a0, (q1, a1, (m1, a2, again)))) =
     loop_goes_on (more_instances_row l) (more_instances_end l) (placed (sign signs.Comma) p ∷ ts)
     m1 rest (ts, (p, refl), (q0, a0, (q1, a1, a2))) again
@@ -279,8 +269,7 @@ none_more_instances l rest (suc k, (m, (m1, (m0, (p, e), behind), others), final
 
 pub b_items : FormsBy items_on items_form
 b_items l (word words.Endmodule) p ts rest is =
-    loop_ends (items_row l) (items_end l) (placed (word words.Endmodule) p ∷ ts) rest
-    (p, last_token (word words.Endmodule) p ts rest is.2)
+    loop_closes (items_row l) (word words.Endmodule) p ts rest is.2
 b_items l (word words.Parameter) p ts rest
     (opens, arm, (q0, a0, (q1, a1, (q2, a2, (q3, a3, (m1, a4, again)))))) =
     loop_goes_on (items_row l) (items_end l) (placed (word words.Parameter) p ∷ ts) m1 rest

@@ -4,9 +4,10 @@ use Rattle.sv_token.specs.declared.keywords.WordKind.TheVariants as words
 use Rattle.sv_token.specs.declared.signs.SignKind.TheVariants as signs
 use Rattle.sv_token.specs.Lexemes.{Lexeme, word, sign, Placed}
 use Rattle.sv_ast.specs.GrammarExpressions.{Limits}
-use Rattle.sv_parse_machine.specs.Symbols.{punctuation, plain_name, plain_number, expression}
+use Rattle.sv_parse_machine.specs.Symbols.{punctuation, plain_name, expression}
 use Rattle.sv_parse_machine.specs.Symbols.{more_names, more_values, perhaps_second_name, items}
-use Rattle.sv_parse_machine.specs.Symbols.{behind_reg_name, value_or_release, later_assigned}
+use Rattle.sv_parse_machine.specs.Symbols.{reg_name, label_selector, behind_reg_name}
+use Rattle.sv_parse_machine.specs.Symbols.{value_or_release, later_assigned}
 use Rattle.sv_parse_machine.specs.Symbols.{more_assigned, perhaps_overrides, links, more_instances}
 use Rattle.sv_parse_machine.specs.ExpressionTable.{expression_on}
 use Rattle.sv_parse_machine.specs.StatementTable.{is_star, taken_if}
@@ -18,7 +19,7 @@ use Rattle.sv_parse_machine.specs.ModuleTable.{value_or_release_on, assigned_on,
 use Rattle.sv_parse_machine.specs.ModuleTable.{event_on, more_named_overrides_on, overrides_on}
 use Rattle.sv_parse_machine.specs.ModuleTable.{link_on, more_named_links_on, links_on}
 use Rattle.sv_parse_machine.specs.ModuleTable.{more_instances_on, items_on, one_module_on}
-use Rattle.sv_parse_machine.specs.ModuleTable.{star_in_event}
+use Rattle.sv_parse_machine.specs.ModuleTable.{number_range, star_in_event}
 use Rattle.sv_parse_machine.proofs.InnerSteps.{none_opens, no_arm}
 use Rattle.sv_parse_machine.proofs.OuterForms.{more_parameters_form, more_wires_form}
 use Rattle.sv_parse_machine.proofs.OuterForms.{behind_reg_name_form, memory_name_form}
@@ -31,7 +32,8 @@ use Rattle.sv_parse_machine.proofs.OuterForms.{more_named_overrides_form, overri
 use Rattle.sv_parse_machine.proofs.OuterForms.{more_named_links_form, links_form}
 use Rattle.sv_parse_machine.proofs.OuterForms.{more_instances_form, items_form, one_module_form}
 use Rattle.sv_parse_machine.proofs.OuterForms.{Accepts}
-use Rattle.sv_parse_machine.proofs.OuterTokens.{by_row, f_commas, StepsBy, unrefused, f_begins}
+use Rattle.sv_parse_machine.proofs.OuterTokens.{by_row, f_commas, f_either, f_named, StepsBy}
+use Rattle.sv_parse_machine.proofs.OuterTokens.{unrefused, f_begins}
 
 pub f_more_parameters : StepsBy more_parameters_on more_parameters_form
 f_more_parameters l t ts rest (zero, (m, none, (p, e))) =
@@ -55,16 +57,13 @@ f_more_wires l t ts rest (suc k, (m, (m1, (m0, (p, e), (q0, a0, a1)), others), f
 pub f_behind_reg_name : StepsBy behind_reg_name_on behind_reg_name_form
 f_behind_reg_name l t ts rest (inl (m, (p, e), behind)) =
     by_row l t rest behind_reg_name_on e (none_opens l, no_arm l, behind)
-f_behind_reg_name l t ts rest (inr (inl (m, (p, e), behind))) =
-    by_row l t rest behind_reg_name_on e (none_opens l, no_arm l, behind)
-f_behind_reg_name l t ts rest (inr (inr (m, (p, e), behind))) =
-    by_row l t rest behind_reg_name_on e (none_opens l, no_arm l, behind)
+f_behind_reg_name l t ts rest (inr is) =
+    f_either behind_reg_name_on (sign signs.Comma) (plain_name ∷ more_names signs.Semicolon ∷ [])
+    (sign signs.Semicolon) [] refl refl l t ts rest is
 
 pub f_memory_name : StepsBy memory_name_on memory_name_form
-f_memory_name l t ts rest (m, (x, (p, (free, e))), behind) =
-    by_row l t rest memory_name_on e
-    (unrefused l (punctuation signs.OpenBracket ∷ plain_number ∷ punctuation signs.Colon ∷
-    plain_number ∷ punctuation signs.CloseBracket ∷ []) t m rest x free behind)
+f_memory_name =
+    f_named memory_name_on (punctuation signs.OpenBracket ∷ number_range) (λ x. refl)
 
 pub f_label_selector : StepsBy label_selector_on label_selector_form
 f_label_selector l t ts rest (inl (m, (p, e), behind)) =
@@ -76,14 +75,12 @@ f_label_selector l t ts rest (inr (m, (x, (p, (free, e))), behind)) =
     free behind)
 
 pub f_reg_name : StepsBy reg_name_on reg_name_form
-f_reg_name l t ts rest (m, (x, (p, (free, e))), behind) =
-    by_row l t rest reg_name_on e (unrefused l (behind_reg_name ∷ []) t m rest x free behind)
+f_reg_name = f_named reg_name_on (behind_reg_name ∷ []) (λ x. refl)
 
 pub f_reg_label_end : StepsBy reg_label_end_on reg_label_end_form
-f_reg_label_end l t ts rest (inl (m, (p, e), behind)) =
-    by_row l t rest reg_label_end_on e (none_opens l, no_arm l, behind)
-f_reg_label_end l t ts rest (inr (m, (p, e), behind)) =
-    by_row l t rest reg_label_end_on e (none_opens l, no_arm l, behind)
+f_reg_label_end =
+    f_either reg_label_end_on (sign signs.CloseBrace) (reg_name ∷ []) (sign signs.OpenParenthesis)
+    (label_selector ∷ []) refl refl
 
 pub f_reg_label : StepsBy reg_label_on reg_label_form
 f_reg_label l t ts rest (inl (m, (p, e), behind)) =

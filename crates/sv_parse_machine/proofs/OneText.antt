@@ -1,10 +1,12 @@
 -- Modules, lattices and label maps determine their trees, and tokens mean at most one text.
-use Rattle.std.proofs.Common.{◌≡◌, ℕ, Bool, true, false, List, [], ◌∷◌, flat_map, Option, refl, sym}
-use Rattle.std.proofs.Common.{ap, subst, ◌∙◌}
+use Rattle.std.proofs.Common.{◌≡◌, ℕ, Bool, true, false, not, List, [], ◌∷◌, flat_map, Option, refl}
+use Rattle.std.proofs.Common.{sym, ap, subst, ◌∙◌}
 use Rattle.std.proofs.lemmas.Bool.{false≢true}
 use Rattle.sv_num.specs.declared.operators.BinOp.TheVariants.{Le}
 use Rattle.sv_num.specs.declared.faults.Place.{Place}
+use Rattle.sv_token.specs.declared.keywords.WordKind.{WordKind}
 use Rattle.sv_token.specs.declared.keywords.WordKind.TheVariants as words
+use Rattle.sv_token.specs.declared.signs.SignKind.{SignKind}
 use Rattle.sv_token.specs.declared.signs.SignKind.TheVariants as signs
 use Rattle.sv_token.specs.Lexemes.{Lexeme, word, numeral, sign, Placed}
 use Rattle.sv_token.proofs.Agreement.{tokens_are_one}
@@ -23,6 +25,7 @@ use Rattle.sv_ast.specs.GrammarModules.{IsNumber, IsKeyRange, IsKey, IsRow, IsMa
 use Rattle.sv_ast.specs.GrammarMeaning.{Means}
 use Rattle.sv_ast.specs.GrammarRules.{TokensMean, all_limits}
 use Rattle.sv_ast.proofs.GrammarOneToken.{NextIs, is_no_bracket}
+use Rattle.sv_parse_machine.specs.StatementTable.{is_sign}
 use Rattle.sv_parse_machine.proofs.TreeParts.{same_module, same_map}
 use Rattle.sv_parse_machine.proofs.OneForm.{Behind, Anything, AreOne, AreApart, Leads, At, one_as}
 use Rattle.sv_parse_machine.proofs.OneForm.{one_anywhere, one_apart, one_turned, apart_turned}
@@ -44,13 +47,15 @@ use Rattle.sv_parse_machine.proofs.OneItem.{one_placed_name, one_items}
 
 -- ---- modules
 
-abbrev is_no_hash : Lexeme → Bool
-is_no_hash (sign signs.Hash) = false
-is_no_hash x = true
+abbrev is_no_sign : SignKind → Lexeme → Bool
+is_no_sign s (sign t) = not (is_sign s t)
+is_no_sign s x = true
 
-abbrev is_no_parenthesis : Lexeme → Bool
-is_no_parenthesis (sign signs.OpenParenthesis) = false
-is_no_parenthesis x = true
+abbrev NoHash : Behind
+NoHash = NextIs (is_no_sign signs.Hash)
+
+abbrev NoParenthesis : Behind
+NoParenthesis = NextIs (is_no_sign signs.OpenParenthesis)
 
 abbrev is_a_word : Lexeme → Bool
 is_a_word (word w) = true
@@ -59,7 +64,7 @@ is_a_word x = false
 abbrev HeaderParameters : Limits → List ParameterTree → Form
 HeaderParameters l qs = given (qs ≡ []) nothing or hash_parentheses (AreHeaderParameters l qs)
 
-hash_refused : (P : Form) → Refuses (NextIs is_no_hash) (hash_parentheses P)
+hash_refused : (P : Form) → Refuses NoHash (hash_parentheses P)
 hash_refused P = leads_first (leads_sign signs.Hash (λ p rest. false≢true))
 
 none_or : {A E : Type 0} {F : Behind} {P : Form} → Refuses F P → AreOne F E (given A nothing) P
@@ -70,7 +75,7 @@ none_or {F = F} refuses =
     }
 
 one_parameters_of_header : (l : Limits) (qs rs : List ParameterTree)
-    → AreOne (NextIs is_no_hash) (qs ≡ rs) (HeaderParameters l qs) (HeaderParameters l rs)
+    → AreOne NoHash (qs ≡ rs) (HeaderParameters l qs) (HeaderParameters l rs)
 one_parameters_of_header l qs rs = one_or
     (one_given (λ none none_too. one_as (λ same. none ∙ sym none_too) one_nothing))
     (none_or (hash_refused _)) (one_turned (none_or (hash_refused _)))
@@ -79,7 +84,7 @@ one_parameters_of_header l qs rs = one_or
 abbrev Ports : Limits → List DeclarationTree → Form
 Ports l ds = given (ds ≡ []) (optional (in_parentheses nothing)) or in_parentheses (ArePorts l ds)
 
-parenthesis_refused : (P : Form) → Refuses (NextIs is_no_parenthesis) (in_parentheses P)
+parenthesis_refused : (P : Form) → Refuses NoParenthesis (in_parentheses P)
 parenthesis_refused P = leads_first (leads_sign signs.OpenParenthesis (λ p rest. false≢true))
 
 leads_port_kind : (k : DeclKind) → Leads (FirstIs is_a_word) Anything (IsPortKind k)
@@ -97,25 +102,25 @@ empty_or_ports l ds =
     (leads_sign signs.CloseParenthesis (λ p rest. false≢true)))
     (leads_first (leads_listed _ (λ d. leads_first (leads_port_kind d.kind)) ds)))
 
-one_empty : AreOne (NextIs is_no_parenthesis) (Unit {0}) (optional (in_parentheses nothing))
+one_empty : AreOne NoParenthesis (Unit {0}) (optional (in_parentheses nothing))
     (optional (in_parentheses nothing))
 one_empty =
     one_optional (sign_behind signs.OpenParenthesis (then_sign signs.CloseParenthesis one_nothing))
     (parenthesis_refused _)
 
 none_or_ports : {A E : Type 0} (l : Limits) (ds : List DeclarationTree)
-    → AreOne (NextIs is_no_parenthesis) E (given A (optional (in_parentheses nothing)))
+    → AreOne NoParenthesis E (given A (optional (in_parentheses nothing)))
     (in_parentheses (ArePorts l ds))
 none_or_ports l ds =
     record { one = λ ts r s is is_too ends ends_too. either.one ts r s is.1 is_too ends ends_too }
   where
     either : {E : Type 0} →
-        AreOne (NextIs is_no_parenthesis) E (optional (in_parentheses nothing))
+        AreOne NoParenthesis E (optional (in_parentheses nothing))
         (in_parentheses (ArePorts l ds))
     either = one_of_either (one_apart (empty_or_ports l ds)) (one_or_none (parenthesis_refused _))
 
 one_ports_of_header : (l : Limits) (ds es : List DeclarationTree) →
-    AreOne (NextIs is_no_parenthesis) (ds ≡ es) (Ports l ds) (Ports l es)
+    AreOne NoParenthesis (ds ≡ es) (Ports l ds) (Ports l es)
 one_ports_of_header l ds es = one_or
     (one_given (λ none none_too. one_as (λ same. none ∙ sym none_too) one_empty))
     (none_or_ports l es) (one_turned (none_or_ports l ds))
@@ -123,7 +128,7 @@ one_ports_of_header l ds es = one_or
     (before_sign signs.CloseParenthesis (one_ports l ds es) (λ p rest. refl)))
 
 leads_ports : (l : Limits) (ds : List DeclarationTree) →
-    Leads (NextIs is_no_hash) Anything (Ports l ds ⨾ a_sign signs.Semicolon)
+    Leads NoHash Anything (Ports l ds ⨾ a_sign signs.Semicolon)
 leads_ports l ds = leads_through (leads_or
     (leads_given (leads_or (leads_first (leads_sign signs.OpenParenthesis (λ p rest. refl)))
     (leads_nothing (λ ts known. known))))
@@ -298,13 +303,10 @@ one_map a b =
 abbrev AtEnd : Behind
 AtEnd ts = ts ≡ []
 
-abbrev is_no_labelmap : Lexeme → Bool
-is_no_labelmap (word words.Labelmap) = false
-is_no_labelmap x = true
-
-abbrev is_no_lattice : Lexeme → Bool
-is_no_lattice (word words.Lattice) = false
-is_no_lattice x = true
+abbrev comes_not : WordKind → Lexeme → Bool
+comes_not words.Labelmap (word words.Labelmap) = false
+comes_not words.Lattice (word words.Lattice) = false
+comes_not w x = true
 
 leads_module : {F D : Behind} (l : Limits) (m : ModuleTree) → At F (word words.Module) →
     Leads F D (IsModule l m)
@@ -330,10 +332,10 @@ leads_lattice {F = F} a begins = record {
 }
 
 leads_maps : (l : Limits) (t : TextTree) →
-    Leads (NextIs is_no_lattice) AtEnd (each IsMap t.maps ⨾ some (IsModule l) t.modules)
+    Leads (NextIs (comes_not words.Lattice)) AtEnd (each IsMap t.maps ⨾ some (IsModule l) t.modules)
 leads_maps l t = leads_through
-    (leads_each {D = NextIs is_no_lattice} (λ a. leads_map a (λ p rest. refl)) (λ ts known.
-    known) t.maps)
+    (leads_each {D = NextIs (comes_not words.Lattice)} (λ a. leads_map a (λ p rest. refl))
+    (λ ts known. known) t.maps)
     (leads_modules l t.modules (λ p rest. refl))
 
 no_end : (p : Place) (rest : List Placed) →
@@ -348,7 +350,7 @@ one_text_of l t u =
     (one_before (one_perhaps (λ a b. one_anywhere (one_lattice a b)) (λ a.
     leads_lattice a (λ p rest. false≢true)) t.lattice u.lattice)
     (leads_maps l t) (leads_maps l u)
-    (λ lattice. one_before {F = NextIs is_no_labelmap}
+    (λ lattice. one_before {F = NextIs (comes_not words.Labelmap)}
     (one_each one_map (λ a. leads_map a (λ p rest. false≢true)) t.maps u.maps)
     (leads_modules l t.modules (λ p rest. refl)) (leads_modules l u.modules (λ p rest. refl))
     (λ maps. one_some (one_module l) (λ m. leads_module l m no_end) t.modules u.modules)))

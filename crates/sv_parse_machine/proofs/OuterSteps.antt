@@ -44,7 +44,7 @@ use Rattle.sv_parse_machine.specs.StatementTable.{taken_if}
 use Rattle.sv_parse_machine.specs.Machine.{outer_on, may_be_empty}
 use Rattle.sv_parse_machine.proofs.OuterForms.{punctuation_form, outer_form}
 use Rattle.sv_parse_machine.proofs.OuterTokens.{by_row, taken_less_equal, b_begins, f_begins}
-use Rattle.sv_parse_machine.proofs.OuterTokens.{unrefused, taken_as_name, no_expression, loop_ends}
+use Rattle.sv_parse_machine.proofs.OuterTokens.{unrefused, taken_as_name, no_expression, loop_closes}
 use Rattle.sv_parse_machine.proofs.OuterTokens.{loop_goes_on}
 use Rattle.sv_parse_machine.specs.Symbols.{Outer, outer}
 use Rattle.sv_parse_machine.proofs.StatementSteps.{f_assigns, f_statement, f_statements, f_arms}
@@ -62,9 +62,9 @@ use Rattle.sv_parse_machine.proofs.TextForms.{b_parameter_type, b_header_paramet
 use Rattle.sv_parse_machine.proofs.TextForms.{b_later_header_parameter, b_more_header_parameters}
 use Rattle.sv_parse_machine.proofs.TextForms.{b_perhaps_wire_or_reg, b_label_end, b_later_port}
 use Rattle.sv_parse_machine.proofs.TextForms.{b_more_ports, b_ports, none_more_values}
-use Rattle.sv_parse_machine.proofs.TextForms.{none_lattice_lines, none_map_name, none_end_of_map}
+use Rattle.sv_parse_machine.proofs.TextForms.{none_lattice_lines, none_map_name}
 use Rattle.sv_parse_machine.proofs.TextForms.{none_rows, none_perhaps_maps, none_parameter_type}
-use Rattle.sv_parse_machine.proofs.TextForms.{none_header_parameter, none_later_header_parameter}
+use Rattle.sv_parse_machine.proofs.TextForms.{none_later_header_parameter}
 use Rattle.sv_parse_machine.proofs.TextForms.{none_more_header_parameters, none_perhaps_wire_or_reg}
 use Rattle.sv_parse_machine.proofs.TextForms.{none_label_end, none_later_port, none_more_ports}
 use Rattle.sv_parse_machine.proofs.TextForms.{none_ports}
@@ -198,15 +198,13 @@ b_more_names : (l : Limits) (s : SignKind) (x : Lexeme) (p : Place) (ts rest : L
     → Accepts l (placed x p) ts rest (more_names_on s x)
     → more_names_form l s (placed x p ∷ ts) rest
 b_more_names l signs.Semicolon (sign signs.Semicolon) p ts rest is =
-    loop_ends (a_sign signs.Comma ⨾ some_name) (a_sign signs.Semicolon)
-    (placed (sign signs.Semicolon) p ∷ ts) rest (p, last_token (sign signs.Semicolon) p ts rest is.2)
+    loop_closes (a_sign signs.Comma ⨾ some_name) (sign signs.Semicolon) p ts rest is.2
 b_more_names l signs.Semicolon (sign signs.Comma) p ts rest
     (opens, arm, (m1, name, again)) =
     loop_goes_on (a_sign signs.Comma ⨾ some_name) (a_sign signs.Semicolon)
     (placed (sign signs.Comma) p ∷ ts) m1 rest (ts, (p, refl), name) again
 b_more_names l signs.CloseBrace (sign signs.CloseBrace) p ts rest is =
-    loop_ends (a_sign signs.Comma ⨾ some_name) (a_sign signs.CloseBrace)
-    (placed (sign signs.CloseBrace) p ∷ ts) rest (p, last_token (sign signs.CloseBrace) p ts rest is.2)
+    loop_closes (a_sign signs.Comma ⨾ some_name) (sign signs.CloseBrace) p ts rest is.2
 b_more_names l signs.CloseBrace (sign signs.Comma) p ts rest
     (opens, arm, (m1, name, again)) =
     loop_goes_on (a_sign signs.Comma ⨾ some_name) (a_sign signs.CloseBrace)
@@ -318,11 +316,11 @@ f_outer l (statements n) t ts rest is = f_statements l n t ts rest is
 f_outer l perhaps_block_name t ts rest is = f_perhaps perhaps_block_name tt l t ts rest is
 f_outer l (perhaps_else n) t ts rest is = f_perhaps (perhaps_else n) tt l t ts rest is
 f_outer l (perhaps_bits n) t ts rest is = f_perhaps (perhaps_bits n) tt l t ts rest is
-f_outer l (bits_end n) t ts rest is = f_bits_end l n t ts rest is
-f_outer l (more_targets n) t ts rest is = f_more_targets l n t ts rest is
+f_outer l (bits_end n) t ts rest is = f_bits_end n l t ts rest is
+f_outer l (more_targets n) t ts rest is = f_more_targets n l t ts rest is
 f_outer l assigns t ts rest is = f_assigns l t ts rest is
 f_outer l (arms n before default) t ts rest is = f_arms l n before default t ts rest is
-f_outer l (more_choices n) t ts rest is = f_more_choices l n t ts rest is
+f_outer l (more_choices n) t ts rest is = f_more_choices n l t ts rest is
 f_outer l perhaps_colon t ts rest is = f_perhaps perhaps_colon tt l t ts rest is
 
 pub b_outer : (l : Limits) (y : Outer) (x : Lexeme) (p : Place) (ts rest : List Placed) →
@@ -388,11 +386,11 @@ b_outer l (statements n) x p ts rest is = b_statements l n x p ts rest is
 b_outer l perhaps_block_name x p ts rest is = b_perhaps perhaps_block_name tt l x p ts rest is
 b_outer l (perhaps_else n) x p ts rest is = b_perhaps (perhaps_else n) tt l x p ts rest is
 b_outer l (perhaps_bits n) x p ts rest is = b_perhaps (perhaps_bits n) tt l x p ts rest is
-b_outer l (bits_end n) x p ts rest is = b_bits_end l n x p ts rest is
-b_outer l (more_targets n) x p ts rest is = b_more_targets l n x p ts rest is
+b_outer l (bits_end n) x p ts rest is = b_bits_end n l x p ts rest is
+b_outer l (more_targets n) x p ts rest is = b_more_targets n l x p ts rest is
 b_outer l assigns x p ts rest is = b_assigns l x p ts rest is
 b_outer l (arms n before default) x p ts rest is = b_arms l n before default x p ts rest is
-b_outer l (more_choices n) x p ts rest is = b_more_choices l n x p ts rest is
+b_outer l (more_choices n) x p ts rest is = b_more_choices n l x p ts rest is
 b_outer l perhaps_colon x p ts rest is = b_perhaps perhaps_colon tt l x p ts rest is
 
 pub none_outer : (l : Limits) (y : Outer) (rest : List Placed) → outer_form l y [] rest →
@@ -411,11 +409,11 @@ none_outer l map_name rest is = absurd (none_map_name l rest is)
 none_outer l perhaps_key_range rest is = (refl, none_perhaps perhaps_key_range tt l rest is)
 none_outer l rows rest is = absurd (none_rows l rest is)
 none_outer l perhaps_second_key rest is = (refl, none_perhaps perhaps_second_key tt l rest is)
-none_outer l end_of_map rest is = absurd (none_end_of_map l rest is)
+none_outer l end_of_map rest (m, (p, e), behind) = absurd (no_token e)
 none_outer l one_module rest is = absurd (none_one_module l rest is)
 none_outer l perhaps_header_parameters rest is =
     (refl, none_perhaps perhaps_header_parameters tt l rest is)
-none_outer l header_parameter rest is = absurd (none_header_parameter l rest is)
+none_outer l header_parameter rest (m, (p, e), behind) = absurd (no_token e)
 none_outer l later_header_parameter rest is = absurd (none_later_header_parameter l rest is)
 none_outer l more_header_parameters rest is = absurd (none_more_header_parameters l rest is)
 none_outer l parameter_type rest is = (refl, none_parameter_type l rest is)
@@ -458,11 +456,11 @@ none_outer l (statements n) rest is = absurd (none_statements l n rest is)
 none_outer l perhaps_block_name rest is = (refl, none_perhaps perhaps_block_name tt l rest is)
 none_outer l (perhaps_else n) rest is = (refl, none_perhaps (perhaps_else n) tt l rest is)
 none_outer l (perhaps_bits n) rest is = (refl, none_perhaps (perhaps_bits n) tt l rest is)
-none_outer l (bits_end n) rest is = absurd (none_bits_end l n rest is)
-none_outer l (more_targets n) rest is = absurd (none_more_targets l n rest is)
+none_outer l (bits_end n) rest is = absurd (none_bits_end n l rest is)
+none_outer l (more_targets n) rest is = absurd (none_more_targets n l rest is)
 none_outer l assigns rest is = absurd (none_assigns l rest is)
 none_outer l (arms n before default) rest is = absurd (none_arms l n before default rest is)
-none_outer l (more_choices n) rest is = absurd (none_more_choices l n rest is)
+none_outer l (more_choices n) rest is = absurd (none_more_choices n l rest is)
 none_outer l perhaps_colon rest is = (refl, none_perhaps perhaps_colon tt l rest is)
 
 pub empty_outer : (l : Limits) (y : Outer) → IsTrue (may_be_empty (outer y)) → outer_form l y [] []

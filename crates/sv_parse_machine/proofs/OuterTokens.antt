@@ -1,15 +1,15 @@
 -- Single steps outside expressions: names, operators, and the first token of an expression.
 use Rattle.std.proofs.Common.{◌≡◌, ℕ, zero, suc, Bool, true, false, not, List, [], ◌∷◌}
-use Rattle.std.proofs.Common.{Option, Some, refl, sym, subst, ◌∙◌}
+use Rattle.std.proofs.Common.{Option, Some, inl, inr, refl, sym, subst, ◌∙◌}
 use Rattle.std.specs.Prelude.{IsTrue}
 use Rattle.sv_num.specs.declared.operators.BinOp.{BinOp}
 use Rattle.sv_num.specs.declared.operators.BinOp.TheVariants.{Mul, Le}
 use Rattle.sv_num.specs.declared.faults.Place.{Place}
 use Rattle.sv_token.specs.declared.signs.SignKind.{SignKind}
 use Rattle.sv_token.specs.declared.signs.SignKind.TheVariants as signs
-use Rattle.sv_token.specs.Lexemes.{Lexeme, sign, Placed}
+use Rattle.sv_token.specs.Lexemes.{Lexeme, identifier, sign, Placed}
 use Rattle.sv_token.specs.Words.{is_refused_word}
-use Rattle.sv_ast.specs.GrammarForms.{Form, ◌⨾◌, nothing, lexeme_at, a_sign}
+use Rattle.sv_ast.specs.GrammarForms.{Form, ◌⨾◌, ◌or◌, nothing, lexeme_at, somewhere, a_sign}
 use Rattle.sv_ast.specs.GrammarExpressions.{Limits, is_within, read_tokens}
 use Rattle.sv_parse_machine.specs.Symbols.{operand, tail, Outer, punctuation, InnerReaction}
 use Rattle.sv_parse_machine.specs.Symbols.{takes_inner, over_inner, stuck_inner, OuterReaction, over}
@@ -22,8 +22,9 @@ use Rattle.sv_parse_machine.proofs.ExpressionParts.{to_parts, from_parts}
 use Rattle.sv_parse_machine.proofs.ReadSteps.{NotOver, operand_not_over}
 use Rattle.sv_parse_machine.proofs.InnerSteps.{placed, by_token, none_opens, no_arm, free_name, alone}
 use Rattle.sv_parse_machine.proofs.InnerSteps.{append_forms, split_forms, f_inner}
-use Rattle.sv_parse_machine.proofs.InnerForms.{b_inner, no_operand}
-use Rattle.sv_parse_machine.proofs.OuterForms.{IsOver, loop_form, outer_form, outer_forms, Accepts}
+use Rattle.sv_parse_machine.proofs.InnerForms.{last_token, b_inner, no_operand}
+use Rattle.sv_parse_machine.proofs.OuterForms.{IsOver, skip_form, loop_form, some_name, outer_form}
+use Rattle.sv_parse_machine.proofs.OuterForms.{outer_forms, Accepts}
 
 -- ---- what is shown of a symbol by its row of the table and its form
 
@@ -49,11 +50,23 @@ pub by_row : {x : Lexeme} {p : Place} {ts mid : List Placed} (l : Limits) (t : P
     → lexeme_at x p (t ∷ ts) mid → Accepts l t mid rest (on x) → Accepts l t ts rest (on t.lexeme)
 by_row l t rest on at is = by_token (λ x us. Accepts l t us rest (on x)) at is
 
+-- either of two tokens
+pub f_either : (on : Lexeme → OuterReaction) (x : Lexeme) (ys : List Outer) (y : Lexeme)
+    (zs : List Outer) → on x ≡ takes_all ys → on y ≡ takes_all zs
+    → StepsBy on (λ l. (somewhere (lexeme_at x) ⨾ outer_forms l ys)
+    or (somewhere (lexeme_at y) ⨾ outer_forms l zs))
+f_either on x ys y zs first second l t ts rest (inl (m, (p, e), behind)) =
+    by_row l t rest on e (subst (Accepts l t m rest) (sym first) (none_opens l, no_arm l, behind))
+f_either on x ys y zs first second l t ts rest (inr (m, (p, e), behind)) =
+    by_row l t rest on e (subst (Accepts l t m rest) (sym second) (none_opens l, no_arm l, behind))
+
 -- ---- any number of the one, and then the other
 
-pub loop_ends : (row last : Form) (ts rest : List Placed) → last ts rest →
-    loop_form row last ts rest
-loop_ends row last ts rest is = (zero, (ts, refl, is))
+-- where the other is one token
+pub loop_closes : (row : Form) (x : Lexeme) (p : Place) (ts rest : List Placed) → ts ≡ rest →
+    loop_form row (somewhere (lexeme_at x)) (placed x p ∷ ts) rest
+loop_closes row x p ts rest same =
+    (zero, (placed x p ∷ ts, refl, (p, last_token x p ts rest same)))
 
 pub loop_goes_on : (row last : Form) (ts mid rest : List Placed) → row ts mid →
     (loop_form row last ⨾ nothing) mid rest → loop_form row last ts rest
@@ -85,6 +98,14 @@ unrefused l ys t ts rest x free is =
     free_name (is_refused_word x) free (λ b. Accepts l t ts rest (unless_refused b (takes_all ys)))
     (none_opens l, no_arm l, is)
 
+-- a name, and the others behind it
+pub f_named : (on : Lexeme → OuterReaction) (ys : List Outer)
+    → ((x : List ℕ) → on (identifier x) ≡ unless_refused (is_refused_word x) (takes_all ys))
+    → StepsBy on (λ l. some_name ⨾ outer_forms l ys)
+f_named on ys row l t ts rest (m, (x, (p, (free, e))), behind) =
+    by_row l t rest on e
+    (subst (Accepts l t m rest) (sym (row x)) (unrefused l ys t m rest x free behind))
+
 pub taken_as_name : (l : Limits) (ys : List Outer) (t : Placed) (ts rest : List Placed) (b : Bool)
     → Accepts l t ts rest (unless_refused b (takes_all ys))
     → IsTrue (not b) × outer_forms l ys ts rest
@@ -95,6 +116,16 @@ pub skipped : (l : Limits) (t : Placed) (ts rest : List Placed) (r : OuterReacti
     t ∷ ts ≡ rest → Accepts l t ts rest r
 skipped l t ts rest over kind same = same
 skipped l t ts rest r kind same = absurd kind
+
+-- none of the symbol, or either of two tokens
+pub f_perhaps_either : (on : Lexeme → OuterReaction) (x : Lexeme) (ys : List Outer) (y : Lexeme)
+    (zs : List Outer) → on x ≡ takes_all ys → on y ≡ takes_all zs
+    → StepsBy on (λ l. skip_form on or (somewhere (lexeme_at x) ⨾ outer_forms l ys)
+    or (somewhere (lexeme_at y) ⨾ outer_forms l zs))
+f_perhaps_either on x ys y zs first second l t ts rest (inl (over, same)) =
+    skipped l t ts rest (on t.lexeme) over same
+f_perhaps_either on x ys y zs first second l t ts rest (inr is) =
+    f_either on x ys y zs first second l t ts rest is
 
 pub taken_star : (l : Limits) (t : Placed) (ts rest : List Placed) (b : Option BinOp) →
     Accepts l t ts rest (taken_if (is_star b)) → (b ≡ Some Mul) × (ts ≡ rest)

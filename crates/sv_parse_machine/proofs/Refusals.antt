@@ -18,7 +18,7 @@ use Rattle.sv_parse_machine.specs.Machine.{text_state}
 use Rattle.sv_parse_machine.proofs.TextForm.{text_form}
 use Rattle.sv_parse_machine.proofs.Runs.{run_of_text}
 use Rattle.sv_parse_machine.proofs.Walks.{then_step, walk, run_of_walk, where_run_fails, shift_step}
-use Rattle.sv_parse_machine.proofs.Walks.{Forecast, forecast}
+use Rattle.sv_parse_machine.proofs.Walks.{GoesWithin, Forecast, forecast}
 use Rattle.sv_parse_machine.proofs.Beginnings.{walk_read, fails_back, goes_back, beginning_of_walk}
 use Rattle.sv_parse_machine.proofs.Beginnings.{no_beginning}
 
@@ -238,49 +238,49 @@ module _ (form_of : (l : Limits) (t : TextTree) (ts : List Placed) → IsText l 
             && is_within all_limits.tokens (tokens_of all_limits start (length after)))
             next e (sym (is all_limits) ∙ s.stops))
 
-    pub deep_is_deep : (s : Stopped ts t after too_deep) → IsTooDeep s.before t
-    deep_is_deep s = on (forecast (length after) s.last t.lexeme)
+    -- where it is a limit that stops the run, the token goes on within others
+    limited : {f : Failure} (s : Stopped ts t after f) →
+        ((e : Expected) → fails_as (stuck_at e) ≡ fails_as f → ⊥) →
+        GoesWithin (length after) s.last t.lexeme
+    limited s never = on (forecast (length after) s.last t.lexeme)
       where
-        on : Forecast (length after) s.last t.lexeme → IsTooDeep s.before t
-        on (inl (f, is)) =
-            let clash : fails_as (stuck_at f) ≡ fails_as too_deep = sym (is all_limits) ∙ s.stops in
-            absurd (cc)
-        on (inr (level, arm, start, next, is)) =
-            let deep = is_deep (is_within all_limits.levels level) (is_within all_limits.arms arm
-            && is_within all_limits.tokens (tokens_of all_limits start (length after)))
-            next (sym (is all_limits) ∙ s.stops) in (
-              begins_where_it_goes limit_of_levels refl refl refl (length after + 1) s.before s.last
-                  (under_levels s),
-              begins_with_more no_limits refl refl refl (length after) s.before t s.last next
-                  (under_none s) (is no_limits),
-              begins_not_with_more limit_of_levels refl refl refl (length after) s.before t s.last
-                  too_deep (under_levels s)
-                  (is limit_of_levels
-                  ∙ ap (λ d. within_limits d (is_within limit_of_levels.arms arm
-                  && is_within limit_of_levels.tokens
-                  (tokens_of limit_of_levels start (length after))) next) deep),
-            )
+        on : Forecast (length after) s.last t.lexeme → GoesWithin (length after) s.last t.lexeme
+        on (inl (e, is)) = absurd (never e (sym (is all_limits) ∙ s.stops))
+        on (inr goes_on) = goes_on
+
+    pub deep_is_deep : (s : Stopped ts t after too_deep) → IsTooDeep s.before t
+    deep_is_deep s =
+        let (level, arm, start, next, is) = limited s (λ e same. cc) in
+        let deep = is_deep (is_within all_limits.levels level) (is_within all_limits.arms arm
+        && is_within all_limits.tokens (tokens_of all_limits start (length after)))
+        next (sym (is all_limits) ∙ s.stops) in (
+          begins_where_it_goes limit_of_levels refl refl refl (length after + 1) s.before s.last
+              (under_levels s),
+          begins_with_more no_limits refl refl refl (length after) s.before t s.last next
+              (under_none s) (is no_limits),
+          begins_not_with_more limit_of_levels refl refl refl (length after) s.before t s.last
+              too_deep (under_levels s)
+              (is limit_of_levels
+              ∙ ap (λ d. within_limits d (is_within limit_of_levels.arms arm
+              && is_within limit_of_levels.tokens
+              (tokens_of limit_of_levels start (length after))) next) deep),
+        )
 
     pub long_is_long : (s : Stopped ts t after too_long) → IsTooLong s.before t
-    long_is_long s = on (forecast (length after) s.last t.lexeme)
-      where
-        on : Forecast (length after) s.last t.lexeme → IsTooLong s.before t
-        on (inl (f, is)) =
-            let clash : fails_as (stuck_at f) ≡ fails_as too_long = sym (is all_limits) ∙ s.stops in
-            absurd (cc)
-        on (inr (level, arm, start, next, is)) =
-            let level_kept = is_long (is_within all_limits.levels level)
-            (is_within all_limits.arms arm
-            && is_within all_limits.tokens (tokens_of all_limits start (length after)))
-            next (sym (is all_limits) ∙ s.stops) in (
-              begins_within_all s,
-              begins_with_more limit_of_levels refl refl refl (length after) s.before t s.last next
-                  (under_levels s)
-                  (is limit_of_levels ∙ admitted (is_within limit_of_levels.levels level) true next
-                  level_kept refl),
-              begins_not_with_more all_limits refl refl refl (length after) s.before t s.last
-                  too_long s.walked s.stops,
-            )
+    long_is_long s =
+        let (level, arm, start, next, is) = limited s (λ e same. cc) in
+        let level_kept = is_long (is_within all_limits.levels level)
+        (is_within all_limits.arms arm
+        && is_within all_limits.tokens (tokens_of all_limits start (length after)))
+        next (sym (is all_limits) ∙ s.stops) in (
+          begins_within_all s,
+          begins_with_more limit_of_levels refl refl refl (length after) s.before t s.last next
+              (under_levels s)
+              (is limit_of_levels ∙ admitted (is_within limit_of_levels.levels level) true next
+              level_kept refl),
+          begins_not_with_more all_limits refl refl refl (length after) s.before t s.last
+              too_long s.walked s.stops,
+        )
 
   -- ---- the end of the tokens
 

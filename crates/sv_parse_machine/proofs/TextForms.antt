@@ -29,13 +29,11 @@ use Rattle.sv_parse_machine.proofs.OuterForms.{perhaps_maps_row, perhaps_maps_en
 use Rattle.sv_parse_machine.proofs.OuterForms.{more_header_parameters_row}
 use Rattle.sv_parse_machine.proofs.OuterForms.{more_header_parameters_end, more_ports_row}
 use Rattle.sv_parse_machine.proofs.OuterForms.{more_ports_end}
-use Rattle.sv_parse_machine.proofs.OuterTokens.{loop_ends, loop_goes_on}
+use Rattle.sv_parse_machine.proofs.OuterTokens.{loop_closes, loop_goes_on}
 
 pub b_more_values : FormsBy more_values_on more_values_form
 b_more_values l (sign signs.CloseParenthesis) p ts rest is =
-    loop_ends (more_values_row l) (more_values_end l)
-    (placed (sign signs.CloseParenthesis) p ∷ ts) rest
-    (p, last_token (sign signs.CloseParenthesis) p ts rest is.2)
+    loop_closes (more_values_row l) (sign signs.CloseParenthesis) p ts rest is.2
 b_more_values l (sign signs.Comma) p ts rest (opens, arm, (m1, a0, again)) =
     loop_goes_on (more_values_row l) (more_values_end l) (placed (sign signs.Comma) p ∷ ts) m1
     rest (ts, (p, refl), a0) again
@@ -47,8 +45,7 @@ none_more_values l rest (suc k, (m, (m1, (m0, (p, e), behind), others), final)) 
 
 pub b_lattice_lines : FormsBy lattice_lines_on lattice_lines_form
 b_lattice_lines l (word words.Endlattice) p ts rest is =
-    loop_ends (lattice_lines_row l) (lattice_lines_end l) (placed (word words.Endlattice) p ∷ ts)
-    rest (p, last_token (word words.Endlattice) p ts rest is.2)
+    loop_closes (lattice_lines_row l) (word words.Endlattice) p ts rest is.2
 b_lattice_lines l (word words.Point) p ts rest (opens, arm, (q0, a0, (m1, a1, again))) =
     loop_goes_on (lattice_lines_row l) (lattice_lines_end l) (placed (word words.Point) p ∷ ts) m1
     rest (inl (ts, (p, refl), (q0, a0, a1))) again
@@ -81,9 +78,6 @@ none_map_name l rest (m, (x, (p, (free, e))), behind) = no_token e
 pub b_end_of_map : FormsBy end_of_map_on end_of_map_form
 b_end_of_map l (word words.Endlabelmap) p ts rest is = (ts, (p, refl), is.2)
 b_end_of_map l x p ts rest is = absurd is
-
-pub none_end_of_map : NeedsToken end_of_map_form
-none_end_of_map l rest (m, (p, e), behind) = no_token e
 
 pub b_rows : FormsBy rows_on rows_form
 b_rows l (word words.Default) p ts rest (opens, arm, (q0, a0, (q1, a1, (q2, a2, (m1, a3, same))))) =
@@ -141,9 +135,6 @@ pub b_header_parameter : FormsBy header_parameter_on header_parameter_form
 b_header_parameter l (word words.Parameter) p ts rest is = (ts, (p, refl), is.2)
 b_header_parameter l x p ts rest is = absurd is
 
-pub none_header_parameter : NeedsToken header_parameter_form
-none_header_parameter l rest (m, (p, e), behind) = no_token e
-
 pub b_later_header_parameter : FormsBy later_header_parameter_on later_header_parameter_form
 b_later_header_parameter l (word words.Parameter) p ts rest is = inl (ts, (p, refl), is.2)
 b_later_header_parameter l (identifier x) p ts rest is =
@@ -158,9 +149,7 @@ none_later_header_parameter l rest (inr (m, (x, (p, (free, e))), behind)) = no_t
 
 pub b_more_header_parameters : FormsBy more_header_parameters_on more_header_parameters_form
 b_more_header_parameters l (sign signs.CloseParenthesis) p ts rest is =
-    loop_ends (more_header_parameters_row l) (more_header_parameters_end l)
-    (placed (sign signs.CloseParenthesis) p ∷ ts) rest
-    (p, last_token (sign signs.CloseParenthesis) p ts rest is.2)
+    loop_closes (more_header_parameters_row l) (sign signs.CloseParenthesis) p ts rest is.2
 b_more_header_parameters l (sign signs.Comma) p ts rest (opens, arm, (m1, a0, again)) =
     loop_goes_on (more_header_parameters_row l) (more_header_parameters_end l)
     (placed (sign signs.Comma) p ∷ ts) m1 rest (ts, (p, refl), a0) again
@@ -206,8 +195,7 @@ none_later_port l rest (inr (inr (m, (x, (p, (free, e))), behind))) = no_token e
 
 pub b_more_ports : FormsBy more_ports_on more_ports_form
 b_more_ports l (sign signs.CloseParenthesis) p ts rest is =
-    loop_ends (more_ports_row l) (more_ports_end l) (placed (sign signs.CloseParenthesis) p ∷ ts)
-    rest (p, last_token (sign signs.CloseParenthesis) p ts rest is.2)
+    loop_closes (more_ports_row l) (sign signs.CloseParenthesis) p ts rest is.2
 b_more_ports l (sign signs.Comma) p ts rest (opens, arm, (m1, a0, again)) =
     loop_goes_on (more_ports_row l) (more_ports_end l) (placed (sign signs.Comma) p ∷ ts) m1 rest
     (ts, (p, refl), a0) again

@@ -23,7 +23,7 @@ use Rattle.sv_parse_machine.specs.Verdict.{word_if, name_word, is_star_lexeme, s
 use Rattle.sv_parse_machine.specs.Verdict.{parenthesis_word, is_body, hash_word, equals_word}
 use Rattle.sv_parse_machine.specs.Verdict.{bracket_word, at_word, is_posedge, stop_at_clock, dot_word}
 use Rattle.sv_parse_machine.specs.Verdict.{stop_at_declared, refused_word}
-use Rattle.sv_parse_machine.proofs.AgreedRows.{is_item, is_statement, is_edge, is_port}
+use Rattle.sv_parse_machine.proofs.AgreedRows.{is_expected}
 
 -- ---- tests
 
@@ -118,16 +118,16 @@ is_clock ts (others, p, q, x, same) =
 -- ---- what may begin, by what a stuck place says
 
 pub record May (before : List Placed) (e : Expected) : Type 0 where
-  pub items : is_item e ≡ true → ItemMayBegin before
-  pub no_items : is_item e ≡ false → ItemMayBegin before → ⊥
-  pub statements : is_statement e ≡ true → StatementMayBegin before
-  pub no_statements : is_statement e ≡ false → StatementMayBegin before → ⊥
+  pub items : is_expected an_item e ≡ true → ItemMayBegin before
+  pub no_items : is_expected an_item e ≡ false → ItemMayBegin before → ⊥
+  pub statements : is_expected a_statement e ≡ true → StatementMayBegin before
+  pub no_statements : is_expected a_statement e ≡ false → StatementMayBegin before → ⊥
 
 pub record MayBeName (before : List Placed) (e : Expected) : Type 0 where
-  pub edges : is_edge e ≡ true → EdgeMayFollow before
-  pub no_edges : is_edge e ≡ false → EdgeMayFollow before → ⊥
-  pub ports : is_port e ≡ true → PortMayBegin before
-  pub no_ports : is_port e ≡ false → PortMayBegin before → ⊥
+  pub edges : is_expected an_edge e ≡ true → EdgeMayFollow before
+  pub no_edges : is_expected an_edge e ≡ false → EdgeMayFollow before → ⊥
+  pub ports : is_expected a_port e ≡ true → PortMayBegin before
+  pub no_ports : is_expected a_port e ≡ false → PortMayBegin before → ⊥
 
 -- ---- words
 
@@ -296,6 +296,11 @@ pub record Known (before : List Placed) (x : Lexeme) (e : Expected) : Type 0 whe
 no_name_at : (s : SignKind) (y : List ℕ) → sign s ≡ identifier y → ⊥
 no_name_at s y same = cc
 
+-- a sign other than `.` may begin where the lexeme stands
+may_sign : {before : List Placed} {e : Expected} (s : SignKind) →
+    (sign s ≡ sign signs.Dot → ⊥) → Known before (sign s) e → May before e
+may_sign s no_dot known = known.may (no_name_at s) no_dot
+
 dot_to : (before : List Placed) (e : Expected) (name : List ℕ)
     → (StopAtOperand before → e ≡ behind_name) → name ≡ codes "hierarchical-name"
     → StopAtOperand before
@@ -317,16 +322,15 @@ pub form_has_word : (before : List Placed) (x : Lexeme) (e : Expected) (after : 
 form_has_word before (identifier y) e after name known is =
     refused_to before e y name (is_refused_word y) refl (known.may_be_name y refl) is
 form_has_word before (sign signs.OpenParenthesis) e after name known is =
-    parenthesis_to before e after name
-    (known.may (no_name_at signs.OpenParenthesis) (λ same. cc)) is
+    parenthesis_to before e after name (may_sign signs.OpenParenthesis (λ same. cc) known) is
 form_has_word before (sign signs.Hash) e after name known is =
-    hash_to before e name (known.may (no_name_at signs.Hash) (λ same. cc)) (is.0, is.1.0, is.1.1)
+    hash_to before e name (may_sign signs.Hash (λ same. cc) known) (is.0, is.1.0, is.1.1)
 form_has_word before (sign signs.Equals) e after name known is =
     equals_to (last_word before) (stop_at_declared before) name is.0 is.1.0 is.1.1
 form_has_word before (sign signs.OpenBracket) e after name known is =
     bracket_to (last_word before) (stop_at_name before) (stop_at_declared before) name is
 form_has_word before (sign signs.At) e after name known is =
-    at_to before e name (known.may (no_name_at signs.At) (λ same. cc)) is.0 is.1
+    at_to before e name (may_sign signs.At (λ same. cc) known) is.0 is.1
 form_has_word before (sign signs.Comma) e after name known is =
     give_word (stop_at_clock before) (codes "several-events") name (is_clock before is.1) is.0
 form_has_word before (sign signs.Dot) e after name known is =
@@ -339,16 +343,15 @@ pub word_has_form : (before : List Placed) (x : Lexeme) (e : Expected) (after : 
 word_has_form before (identifier y) e after name known is =
     refused_of before e y name (is_refused_word y) refl (known.may_be_name y refl) is
 word_has_form before (sign signs.OpenParenthesis) e after name known is =
-    parenthesis_of before e after name
-    (known.may (no_name_at signs.OpenParenthesis) (λ same. cc)) is
+    parenthesis_of before e after name (may_sign signs.OpenParenthesis (λ same. cc) known) is
 word_has_form before (sign signs.Hash) e after name known is =
-    hash_of before e name (known.may (no_name_at signs.Hash) (λ same. cc)) is
+    hash_of before e name (may_sign signs.Hash (λ same. cc) known) is
 word_has_form before (sign signs.Equals) e after name known is =
     equals_of (last_word before) (stop_at_declared before) name is
 word_has_form before (sign signs.OpenBracket) e after name known is =
     bracket_of (last_word before) (stop_at_name before) (stop_at_declared before) name is
 word_has_form before (sign signs.At) e after name known is =
-    at_of before e name (known.may (no_name_at signs.At) (λ same. cc)) is
+    at_of before e name (may_sign signs.At (λ same. cc) known) is
 word_has_form before (sign signs.Comma) e after name known is =
     let given = word_given (stop_at_clock before) (codes "several-events") name is in
     (given.1, clock_of before given.0)

@@ -249,14 +249,17 @@ module _ (m u : ℕ) (k : Limits) (alike : CountAlike m k u) where
 
 -- ---- other limits
 
+-- a step goes on within the limits
+abbrev pub GoesWithin : ℕ → State → Lexeme → Type 0
+GoesWithin a s x = (level arm start : ℕ) × (next : State)
+    × ((l : Limits) → step l a s x ≡
+    within_limits (is_within l.levels level) (is_within l.arms arm
+    && is_within l.tokens (tokens_of l start a)) next)
+
 -- what a step does under any limits: it is stuck, or it goes on within the limits
 abbrev pub Forecast : ℕ → State → Lexeme → Type 0
 Forecast a s x =
-    ((e : Expected) × ((l : Limits) → step l a s x ≡ fails_as (stuck_at e)))
-    ⊎ ((level arm start : ℕ) × (next : State)
-    × ((l : Limits) → step l a s x ≡
-    within_limits (is_within l.levels level) (is_within l.arms arm
-    && is_within l.tokens (tokens_of l start a)) next))
+    ((e : Expected) × ((l : Limits) → step l a s x ≡ fails_as (stuck_at e))) ⊎ GoesWithin a s x
 
 within_zero : (o : Option ℕ) → is_within o 0 ≡ true
 within_zero None = refl

@@ -34,8 +34,7 @@ is_input secret = true
 is_input _ = false
 
 abbrev pub is_register : Wire → Bool
-is_register kept = true
-is_register _ = false
+is_register s = same s kept
 
 abbrev pub label : Wire → (Wire → ℕ) → Bool
 label mode e = false

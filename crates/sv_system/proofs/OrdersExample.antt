@@ -2,7 +2,7 @@
 -- another one, and a process that stands before the block reads what the block makes. So one round
 -- in the order of the list does not settle it.
 use Rattle.std.proofs.Common.{◌≡◌, ℕ, zero, suc, eqb, eqb-true, eq-eqb, ◌<◌, ◌^◌, Bool, true, false}
-use Rattle.std.proofs.Common.{List, [], ◌∷◌, ◌++◌, refl, sym, ap, subst, ◌∙◌, ⊎_elim, arith}
+use Rattle.std.proofs.Common.{List, [], ◌∷◌, ◌++◌, get_or, refl, sym, ap, subst, ◌∙◌, ⊎_elim, arith}
 use Rattle.std.specs.Prelude.{Contains, IsTrue, flat_map}
 use Rattle.std.specs.List.{IsDistinct}
 use Rattle.std.proofs.lemmas.Bool.{true≢false, false≢true}
@@ -29,11 +29,7 @@ place last = 3
 place held = 4
 
 abbrev net_at : ℕ → Net
-net_at zero = given
-net_at (suc zero) = first
-net_at (suc (suc zero)) = second
-net_at (suc (suc (suc zero))) = last
-net_at (suc (suc (suc (suc n)))) = held
+net_at n = get_or (given ∷ first ∷ second ∷ last ∷ []) n held
 
 abbrev same : Net → Net → Bool
 same s t = eqb (place s) (place t)

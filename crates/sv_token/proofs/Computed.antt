@@ -1,5 +1,5 @@
 -- The plain program opened up, and tokens in a short form, for examples.
-use Rattle.std.proofs.Common.{ℕ, Bool, true, false, List, [], ◌∷◌, Option}
+use Rattle.std.proofs.Common.{◌≡◌, ℕ, Bool, true, false, List, [], ◌∷◌, map, Option}
 use Rattle.sv_token.specs.declared.keywords.WordKind.{WordKind}
 use Rattle.sv_token.specs.declared.signs.SignKind.{SignKind}
 use Rattle.sv_token.specs.declared.signs.SignKind.TheVariants.{Operator}
@@ -55,3 +55,7 @@ refused_at number line column = refused number [] (record { line = line; column 
 
 abbrev pub left_out_at : List ℕ → ℕ → ℕ → Lexed
 left_out_at form line column = refused 104 (form ∷ []) (record { line = line; column = column })
+
+-- each of the texts gives the same
+abbrev pub EachGives : Lexed → List (List ℕ) → Type 0
+EachGives found texts = map lexed texts ≡ map (λ text. found) texts

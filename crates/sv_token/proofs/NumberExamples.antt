@@ -1,10 +1,10 @@
 -- Numbers: what the plain program finds.
-use Rattle.std.proofs.Common.{◌≡◌, true, false, [], ◌∷◌, map, replicate, Some, refl}
+use Rattle.std.proofs.Common.{◌≡◌, true, false, [], ◌∷◌, map, Some, refl}
 use Rattle.std.specs.Prelude.{codes}
 use Rattle.sv_token.specs.declared.signs.SignKind.TheVariants.{Dot}
 use Rattle.sv_token.specs.Lexed.{lexed, tokens}
 use Rattle.sv_token.proofs.Computed.{computed, the_name, the_sign, the_operator, sized, unsized}
-use Rattle.sv_token.proofs.Computed.{refused_at, left_out_at}
+use Rattle.sv_token.proofs.Computed.{refused_at, left_out_at, EachGives}
 
 -- a plain decimal has 32 bits and is signed
 pub plain_decimals :
@@ -23,10 +23,8 @@ unfolding computed
 minus_one = refl
 
 -- 2^32 is too large, and no letter and no `$` stands directly behind
-pub wrong_decimals :
-    map lexed
-    (codes "4294967296" ∷ codes "12a" ∷ codes "12$" ∷ codes "1e5" ∷ codes "0x1F" ∷ []) ≡
-    replicate 5 (refused_at 102 1 1)
+pub wrong_decimals : EachGives (refused_at 102 1 1)
+    (codes "4294967296" ∷ codes "12a" ∷ codes "12$" ∷ codes "1e5" ∷ codes "0x1F" ∷ [])
 unfolding computed
 wrong_decimals = refl
 
@@ -67,8 +65,8 @@ unfolding computed
 underscores = refl
 
 -- whose value is not cut
-pub too_large_without_a_size : map lexed (codes "'h100000000" ∷ codes "'d4294967296" ∷ []) ≡
-    replicate 2 (refused_at 102 1 1)
+pub too_large_without_a_size : EachGives (refused_at 102 1 1)
+    (codes "'h100000000" ∷ codes "'d4294967296" ∷ [])
 unfolding computed
 too_large_without_a_size = refl
 
@@ -79,8 +77,8 @@ unfolding computed
 sizes = refl
 
 -- it is 1 to 64
-pub wrong_sizes : map lexed (codes "65'h0" ∷ codes "0'h0" ∷ codes "4294967304'h0" ∷ []) ≡
-    replicate 3 (refused_at 102 1 1)
+pub wrong_sizes : EachGives (refused_at 102 1 1)
+    (codes "65'h0" ∷ codes "0'h0" ∷ codes "4294967304'h0" ∷ [])
 unfolding computed
 wrong_sizes = refl
 
@@ -91,52 +89,41 @@ unfolding computed
 widest_value = refl
 
 -- and 2^128 is too large, in each base
-pub too_wide_values :
-    map lexed
+pub too_wide_values : EachGives (refused_at 102 1 1)
     (codes "64'h100000000000000000000000000000000"
     ∷ codes "8'd340282366920938463463374607431768211456"
-    ∷ codes "8'o4000000000000000000000000000000000000000000" ∷ []) ≡
-    replicate 3 (refused_at 102 1 1)
+    ∷ codes "8'o4000000000000000000000000000000000000000000" ∷ [])
 unfolding computed
 too_wide_values = refl
 
 -- digits of another base, none at all, and `_` as the first
-pub wrong_digits :
-    map lexed
+pub wrong_digits : EachGives (refused_at 102 1 1)
     (codes "8'b2" ∷ codes "8'o8" ∷ codes "8'dA" ∷ codes "8'hG" ∷ codes "1'b1e" ∷ codes "8'h"
-    ∷ codes "8'h F" ∷ codes "'d" ∷ codes "8'h_1" ∷ []) ≡
-    replicate 9 (refused_at 102 1 1)
+    ∷ codes "8'h F" ∷ codes "'d" ∷ codes "8'h_1" ∷ [])
 unfolding computed
 wrong_digits = refl
 
 -- digits of four values are left out, among wrong digits too
-pub four_values :
-    map lexed
+pub four_values : EachGives (left_out_at (codes "four-state") 1 1)
     (codes "4'bx" ∷ codes "8'hZ1" ∷ codes "4'b1?" ∷ codes "8'd?" ∷ codes "'bz" ∷ codes "8'hXg"
-    ∷ codes "8'bx2" ∷ []) ≡
-    replicate 7 (left_out_at (codes "four-state") 1 1)
+    ∷ codes "8'bx2" ∷ [])
 unfolding computed
 four_values = refl
 
 -- a wrong size and a leading `_` come before them
-pub wrong_before_four_values : map lexed (codes "65'bx" ∷ codes "8'h_x" ∷ []) ≡
-    replicate 2 (refused_at 102 1 1)
+pub wrong_before_four_values : EachGives (refused_at 102 1 1) (codes "65'bx" ∷ codes "8'h_x" ∷ [])
 unfolding computed
 wrong_before_four_values = refl
 
 -- `'` without a base directly behind it begins no token
-pub lone_quotes :
-    map lexed
-    (codes "8'" ∷ codes "8'q1" ∷ codes "8' hF" ∷ codes "8's1" ∷ codes "a'" ∷ []) ≡
-    replicate 5 (refused_at 101 1 2)
+pub lone_quotes : EachGives (refused_at 101 1 2)
+    (codes "8'" ∷ codes "8'q1" ∷ codes "8' hF" ∷ codes "8's1" ∷ codes "a'" ∷ [])
 unfolding computed
 lone_quotes = refl
 
 -- reals are left out, whatever their digits
-pub reals :
-    map lexed
-    (codes "1.5" ∷ codes "1_0.5" ∷ codes "4294967296.5" ∷ codes "1.5a" ∷ codes "8.5'h1" ∷ []) ≡
-    replicate 5 (left_out_at (codes "real") 1 1)
+pub reals : EachGives (left_out_at (codes "real") 1 1)
+    (codes "1.5" ∷ codes "1_0.5" ∷ codes "4294967296.5" ∷ codes "1.5a" ∷ codes "8.5'h1" ∷ [])
 unfolding computed
 reals = refl
 

@@ -247,7 +247,7 @@ valued size signed base digits more =
     step true = refl
     step false = refl
 
-pub based_is : (bytes : List ℕ) (start : ℕ) (size : Option ℕ) (head : Head) (digits : List ℕ) →
+based_is : (bytes : List ℕ) (start : ℕ) (size : Option ℕ) (head : Head) (digits : List ℕ) →
     1 ≤ unwrap_or size 32 → unwrap_or size 32 ≤ 64 → 1 ≤ start → start ≤ length bytes →
     head.behind ≡ drop start bytes →
     digits ≡ take_while continues_digits (drop start bytes) →
@@ -353,19 +353,19 @@ number_sized bytes n head some is found =
     (take_rest bytes (1 + n)) found)
 
 -- the digits that the code takes are those of the definition
-pub digits_are : (rest others : List ℕ) (n : ℕ) → rest ≡ others →
+digits_are : (rest others : List ℕ) (n : ℕ) → rest ≡ others →
     n ≡ prefix_len continues_digits rest →
     take n rest ≡ take_while continues_digits others
 digits_are rest others n same is =
     ap (λ (k : ℕ). take k rest) is ∙ ap (λ (bs : List ℕ).
     take (prefix_len continues_digits bs) bs) same
 
-pub based_four : (size : Option ℕ) (signed : Bool) (base : ℕ) (digits : List ℕ) (more : ℕ) →
+based_four : (size : Option ℕ) (signed : Bool) (base : ℕ) (digits : List ℕ) (more : ℕ) →
     next_is is_underscore digits ≡ false → list_any is_four_state digits ≡ true →
     based_front size signed base digits more ≡ unsupported (codes "four-state")
 based_four size signed base digits more clean four = rw (clean, four) refl
 
-pub based_known : (size : Option ℕ) (signed : Bool) (base : ℕ) (digits : List ℕ) (more : ℕ)
+based_known : (size : Option ℕ) (signed : Bool) (base : ℕ) (digits : List ℕ) (more : ℕ)
     (o : Option ℕ) →
     next_is is_underscore digits ≡ false → list_any is_four_state digits ≡ false →
     o ≡ literal_value size base digits →
@@ -375,3 +375,55 @@ based_known size signed base digits more o clean two is =
     rw (clean, two) (ap (λ (p : Option ℕ).
     option_map_or (λ v. token (numeral (based_literal size signed v)) more) p bad_number)
     (sym is))
+
+-- the bytes behind the head of a literal by the place of its `'`, as the code cuts them out
+abbrev pub rest_of : List ℕ → (quote : ℕ) → CodeHead → List ℕ
+rest_of bytes quote head =
+    let start = quote + 1 + head.length in take (length bytes - start) (drop start bytes)
+
+-- the digits, of which so many bytes come
+abbrev pub digits_of : List ℕ → (quote : ℕ) → CodeHead → ℕ → List ℕ
+digits_of bytes quote head n = take n (rest_of bytes quote head)
+
+-- a based literal by the place of its `'`, its size, its head and its digits
+based_by : (bytes : List ℕ) (quote : ℕ) (size : Option ℕ) (head : CodeHead) (n : ℕ) →
+    1 ≤ unwrap_or size 32 → unwrap_or size 32 ≤ 64 → quote + 1 + head.length ≤ length bytes →
+    n ≡ prefix_len continues_digits (rest_of bytes quote head) →
+    based_at (drop 1 bytes) size (head_behind bytes (quote + 1) head) ≡
+    based_front size head.signed head.base (digits_of bytes quote head n)
+    (quote + 1 + head.length + length (digits_of bytes quote head n) - 1)
+based_by bytes quote size head n some few within count =
+    let start : ℕ = quote + 1 + head.length in
+    based_is bytes start size (head_behind bytes (quote + 1) head) (digits_of bytes quote head n)
+    some few (omega arith) within (drop-drop head.length (quote + 1) bytes)
+    (digits_are (rest_of bytes quote head) (drop start bytes) n (take_rest bytes start) count)
+
+pub four_by : (bytes : List ℕ) (quote : ℕ) (size : Option ℕ) (head : CodeHead) (n : ℕ) →
+    1 ≤ unwrap_or size 32 → unwrap_or size 32 ≤ 64 → quote + 1 + head.length ≤ length bytes →
+    n ≡ prefix_len continues_digits (rest_of bytes quote head) →
+    next_is is_underscore (digits_of bytes quote head n) ≡ false →
+    list_any is_four_state (digits_of bytes quote head n) ≡ true →
+    based_at (drop 1 bytes) size (head_behind bytes (quote + 1) head) ≡
+    unsupported (codes "four-state")
+four_by bytes quote size head n some few within count clean four =
+    let start : ℕ = quote + 1 + head.length in
+    let digits : List ℕ = digits_of bytes quote head n in
+    based_by bytes quote size head n some few within count
+    ∙ based_four size head.signed head.base digits (start + length digits - 1) clean four
+
+pub known_by : (bytes : List ℕ) (quote : ℕ) (size : Option ℕ) (head : CodeHead) (n : ℕ)
+    (o : Option ℕ) →
+    1 ≤ unwrap_or size 32 → unwrap_or size 32 ≤ 64 → quote + 1 + head.length ≤ length bytes →
+    n ≡ prefix_len continues_digits (rest_of bytes quote head) →
+    next_is is_underscore (digits_of bytes quote head n) ≡ false →
+    list_any is_four_state (digits_of bytes quote head n) ≡ false →
+    o ≡ literal_value size head.base (digits_of bytes quote head n) →
+    based_at (drop 1 bytes) size (head_behind bytes (quote + 1) head) ≡
+    option_map_or (λ v. token (numeral (based_literal size head.signed v))
+    (quote + 1 + head.length + length (digits_of bytes quote head n) - 1)) o
+    bad_number
+known_by bytes quote size head n o some few within count clean two is =
+    let start : ℕ = quote + 1 + head.length in
+    let digits : List ℕ = digits_of bytes quote head n in
+    based_by bytes quote size head n some few within count
+    ∙ based_known size head.signed head.base digits (start + length digits - 1) o clean two is

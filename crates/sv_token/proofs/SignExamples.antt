@@ -1,5 +1,5 @@
 -- Signs: what the plain program finds.
-use Rattle.std.proofs.Common.{◌≡◌, true, [], ◌∷◌, map, replicate, Some, None, refl}
+use Rattle.std.proofs.Common.{◌≡◌, true, [], ◌∷◌, map, Some, None, refl}
 use Rattle.std.specs.Prelude.{codes}
 use Rattle.sv_token.specs.declared.signs.SignKind.TheVariants.{Question, Colon, Semicolon, Comma}
 use Rattle.sv_token.specs.declared.signs.SignKind.TheVariants.{Dot, OpenParenthesis}
@@ -8,7 +8,7 @@ use Rattle.sv_token.specs.declared.signs.SignKind.TheVariants.{CloseBracket, Ope
 use Rattle.sv_token.specs.declared.signs.SignKind.TheVariants.{Equals, Hash, At}
 use Rattle.sv_token.specs.Lexed.{lexed, tokens}
 use Rattle.sv_token.proofs.Computed.{computed, the_name, the_sign, the_operator, unsized}
-use Rattle.sv_token.proofs.Computed.{refused_at, left_out_at}
+use Rattle.sv_token.proofs.Computed.{refused_at, left_out_at, EachGives}
 
 -- the operators between two operands; some stand before one too
 pub binary_operators :
@@ -112,14 +112,13 @@ unfolding computed
 left_out_is_longest = refl
 
 -- an escaped name, whatever follows
-pub escaped_names : map lexed (codes "\\a " ∷ codes "\\" ∷ []) ≡
-    replicate 2 (left_out_at (codes "escaped-name") 1 1)
+pub escaped_names : EachGives (left_out_at (codes "escaped-name") 1 1)
+    (codes "\\a " ∷ codes "\\" ∷ [])
 unfolding computed
 escaped_names = refl
 
 -- a string, closed or not
-pub strings : map lexed (codes "\"a\"" ∷ codes "\"" ∷ []) ≡
-    replicate 2 (left_out_at (codes "string") 1 1)
+pub strings : EachGives (left_out_at (codes "string") 1 1) (codes "\"a\"" ∷ codes "\"" ∷ [])
 unfolding computed
 strings = refl
 

@@ -1,6 +1,6 @@
 -- Gaps between tokens, and places: what the plain program finds. At the end the same is said by the
 -- relation.
-use Rattle.std.proofs.Common.{◌≡◌, false, [], ◌∷◌, ◌++◌, map, replicate, Some, None, refl}
+use Rattle.std.proofs.Common.{◌≡◌, false, [], ◌∷◌, ◌++◌, map, Some, None, refl}
 use Rattle.std.specs.Prelude.{codes}
 use Rattle.sv_token.specs.declared.keywords.WordKind.TheVariants.{Module, Endmodule}
 use Rattle.sv_token.specs.declared.signs.SignKind.TheVariants.{Semicolon}
@@ -8,7 +8,7 @@ use Rattle.sv_token.specs.Lexed.{lexed, tokens}
 use Rattle.sv_token.specs.Tokens.{AreTokensOf, BreaksLexis}
 use Rattle.sv_token.proofs.Agreement.{found_are_tokens, found_is_broken}
 use Rattle.sv_token.proofs.Computed.{computed, the_word, the_name, the_sign, the_operator, sized}
-use Rattle.sv_token.proofs.Computed.{refused_at, left_out_at}
+use Rattle.sv_token.proofs.Computed.{refused_at, left_out_at, EachGives}
 
 -- an empty text has no tokens
 pub empty_text : lexed [] ≡ tokens []
@@ -68,19 +68,15 @@ unfolding computed
 skipped_lines = refl
 
 -- other directives are left out, also where the name is a word
-pub other_directives :
-    map lexed
+pub other_directives : EachGives (left_out_at (codes "directive") 1 1)
     (codes "`define A 1" ∷ codes "`timescale2 1" ∷ codes "`if" ∷ codes "`TIMESCALE 1"
-    ∷ codes "`timescale$" ∷ codes "`_" ∷ []) ≡
-    replicate 6 (left_out_at (codes "directive") 1 1)
+    ∷ codes "`timescale$" ∷ codes "`_" ∷ [])
 unfolding computed
 other_directives = refl
 
 -- a backquote wants a name directly behind it
-pub lone_backquotes :
-    map lexed
-    (codes "` timescale" ∷ codes "`1" ∷ codes "``timescale" ∷ codes "`" ∷ []) ≡
-    replicate 4 (refused_at 101 1 1)
+pub lone_backquotes : EachGives (refused_at 101 1 1)
+    (codes "` timescale" ∷ codes "`1" ∷ codes "``timescale" ∷ codes "`" ∷ [])
 unfolding computed
 lone_backquotes = refl
 

@@ -14,7 +14,7 @@ use Rattle.sv_token.specs.Lexed.{Lexed, lexed, tokens, refused}
 use Rattle.sv_token.specs.Lexemes.{Lexeme, word, identifier, numeral, sign}
 use Rattle.sv_token.specs.Words.{word_of, is_refused_word, is_reserved}
 use Rattle.sv_token.proofs.Computed.{computed, the_word, the_name, the_sign, refused_at}
-use Rattle.sv_token.proofs.Computed.{left_out_at}
+use Rattle.sv_token.proofs.Computed.{left_out_at, EachGives}
 
 -- each word of the grammar
 pub each_word :
@@ -91,15 +91,12 @@ unfolding computed
 release_word = refl
 
 -- every other name of the system is left out
-pub system_names :
-    map lexed
-    (codes "$releases" ∷ codes "$time" ∷ codes "$_" ∷ codes "$release$" ∷ []) ≡
-    replicate 4 (left_out_at (codes "system-name") 1 1)
+pub system_names : EachGives (left_out_at (codes "system-name") 1 1)
+    (codes "$releases" ∷ codes "$time" ∷ codes "$_" ∷ codes "$release$" ∷ [])
 unfolding computed
 system_names = refl
 
 -- `$` alone begins no token
-pub lone_dollars : map lexed (codes "$" ∷ codes "$1" ∷ codes "$ release" ∷ []) ≡
-    replicate 3 (refused_at 101 1 1)
+pub lone_dollars : EachGives (refused_at 101 1 1) (codes "$" ∷ codes "$1" ∷ codes "$ release" ∷ [])
 unfolding computed
 lone_dollars = refl

@@ -1,7 +1,7 @@
 -- Words (IEEE 1364-2005, clause 3 and annex B): those of the grammar, and those whose forms are
 -- left out. None of them is a name.
 use Rattle.std.specs.Prelude.{ℕ, Bool, ◌||◌, if◌then◌else◌, List, [], ◌∷◌, ◌++◌, length, take_while}
-use Rattle.std.specs.Prelude.{Option, is_some, codes}
+use Rattle.std.specs.Prelude.{map, Option, is_some, codes}
 use Rattle.std.specs.List.{list_any}
 use Rattle.std.specs.Option.{option_map_or}
 use Rattle.std.specs.Str.{bytes_eq}
@@ -52,28 +52,21 @@ word_table =
 -- the other keywords of the standard
 abbrev pub refused_words : List (List ℕ)
 refused_words =
-    codes "and" ∷ codes "automatic" ∷ codes "buf" ∷ codes "bufif0" ∷ codes "bufif1" ∷
-    codes "casex" ∷ codes "casez" ∷ codes "cell" ∷ codes "cmos" ∷ codes "config" ∷
-    codes "deassign" ∷ codes "defparam" ∷ codes "design" ∷ codes "disable" ∷ codes "edge" ∷
-    codes "endconfig" ∷ codes "endfunction" ∷ codes "endgenerate" ∷ codes "endprimitive" ∷
-    codes "endspecify" ∷ codes "endtable" ∷ codes "endtask" ∷ codes "event" ∷ codes "for" ∷
-    codes "force" ∷ codes "forever" ∷ codes "fork" ∷ codes "function" ∷ codes "generate" ∷
-    codes "genvar" ∷ codes "highz0" ∷ codes "highz1" ∷ codes "ifnone" ∷ codes "incdir" ∷
-    codes "include" ∷ codes "initial" ∷ codes "inout" ∷ codes "instance" ∷ codes "integer" ∷
-    codes "join" ∷ codes "large" ∷ codes "liblist" ∷ codes "library" ∷ codes "macromodule" ∷
-    codes "medium" ∷ codes "nand" ∷ codes "negedge" ∷ codes "nmos" ∷ codes "nor" ∷
-    codes "noshowcancelled" ∷ codes "not" ∷ codes "notif0" ∷ codes "notif1" ∷ codes "or" ∷
-    codes "pmos" ∷ codes "primitive" ∷ codes "pull0" ∷ codes "pull1" ∷ codes "pulldown" ∷
-    codes "pullup" ∷ codes "pulsestyle_ondetect" ∷ codes "pulsestyle_onevent" ∷ codes "rcmos" ∷
-    codes "real" ∷ codes "realtime" ∷ codes "release" ∷ codes "repeat" ∷ codes "rnmos" ∷
-    codes "rpmos" ∷ codes "rtran" ∷ codes "rtranif0" ∷ codes "rtranif1" ∷ codes "scalared" ∷
-    codes "showcancelled" ∷ codes "small" ∷ codes "specify" ∷ codes "specparam" ∷ codes "strong0" ∷
-    codes "strong1" ∷ codes "supply0" ∷ codes "supply1" ∷ codes "table" ∷ codes "task" ∷
-    codes "time" ∷ codes "tran" ∷ codes "tranif0" ∷ codes "tranif1" ∷ codes "tri" ∷
-    codes "tri0" ∷ codes "tri1" ∷ codes "triand" ∷ codes "trior" ∷ codes "trireg" ∷
-    codes "unsigned" ∷ codes "use" ∷ codes "uwire" ∷ codes "vectored" ∷ codes "wait" ∷
-    codes "wand" ∷ codes "weak0" ∷ codes "weak1" ∷ codes "while" ∷ codes "wor" ∷ codes "xnor" ∷
-    codes "xor" ∷ []
+    map codes
+    ("and" ∷ "automatic" ∷ "buf" ∷ "bufif0" ∷ "bufif1" ∷ "casex" ∷ "casez" ∷ "cell" ∷ "cmos" ∷
+    "config" ∷ "deassign" ∷ "defparam" ∷ "design" ∷ "disable" ∷ "edge" ∷ "endconfig" ∷
+    "endfunction" ∷ "endgenerate" ∷ "endprimitive" ∷ "endspecify" ∷ "endtable" ∷ "endtask" ∷
+    "event" ∷ "for" ∷ "force" ∷ "forever" ∷ "fork" ∷ "function" ∷ "generate" ∷ "genvar" ∷ "highz0" ∷
+    "highz1" ∷ "ifnone" ∷ "incdir" ∷ "include" ∷ "initial" ∷ "inout" ∷ "instance" ∷ "integer" ∷
+    "join" ∷ "large" ∷ "liblist" ∷ "library" ∷ "macromodule" ∷ "medium" ∷ "nand" ∷ "negedge" ∷
+    "nmos" ∷ "nor" ∷ "noshowcancelled" ∷ "not" ∷ "notif0" ∷ "notif1" ∷ "or" ∷ "pmos" ∷ "primitive" ∷
+    "pull0" ∷ "pull1" ∷ "pulldown" ∷ "pullup" ∷ "pulsestyle_ondetect" ∷ "pulsestyle_onevent" ∷
+    "rcmos" ∷ "real" ∷ "realtime" ∷ "release" ∷ "repeat" ∷ "rnmos" ∷ "rpmos" ∷ "rtran" ∷
+    "rtranif0" ∷ "rtranif1" ∷ "scalared" ∷ "showcancelled" ∷ "small" ∷ "specify" ∷ "specparam" ∷
+    "strong0" ∷ "strong1" ∷ "supply0" ∷ "supply1" ∷ "table" ∷ "task" ∷ "time" ∷ "tran" ∷ "tranif0" ∷
+    "tranif1" ∷ "tri" ∷ "tri0" ∷ "tri1" ∷ "triand" ∷ "trior" ∷ "trireg" ∷ "unsigned" ∷ "use" ∷
+    "uwire" ∷ "vectored" ∷ "wait" ∷ "wand" ∷ "weak0" ∷ "weak1" ∷ "while" ∷ "wor" ∷ "xnor" ∷
+    "xor" ∷ [])
 
 -- the word of the grammar that the text spells
 unfoldable pub word_of : List ℕ → Option WordKind

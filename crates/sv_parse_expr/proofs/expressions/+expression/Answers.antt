@@ -31,20 +31,20 @@ read_bounds-returns-in-Some-clause-is t c = (
 )
 
 pub read_bounds-returns-clause-is : goal.read_bounds-returns-clause-is
-read_bounds-returns-clause-is t c = (
-  (placed_tokens c.args.input.bytes.now c.in_ok-first.rest.now),
-  c.in_ok-first.ensures.is,
-  (
-    (placed_tokens c.args.input.bytes.now c.in_ok-rest.rest.now),
-    c.in_ok-rest.ensures.is
-        c.args.input.bytes.now,
-    (
-      (placed_tokens c.args.input.bytes.now c.in_ok-low.rest.now),
-      c.in_ok-low.ensures.is,
-      c.in_ok-rest-2.ensures.is c.args.input.bytes.now,
-    ),
-  ),
-)
+read_bounds-returns-clause-is t c =
+    let bytes = c.args.input.bytes.now in (
+      placed_tokens bytes c.in_ok-first.rest.now,
+      c.in_ok-first.ensures.is,
+      (
+        placed_tokens bytes c.in_ok-rest.rest.now,
+        c.in_ok-rest.ensures.is bytes,
+        (
+          placed_tokens bytes c.in_ok-low.rest.now,
+          c.in_ok-low.ensures.is,
+          c.in_ok-rest-2.ensures.is bytes,
+        ),
+      ),
+    )
 
 -- what holds of a number in any text holds of it in this one
 pub read_operand-returns-in-Number-clause-is : goal.read_operand-returns-in-Number-clause-is

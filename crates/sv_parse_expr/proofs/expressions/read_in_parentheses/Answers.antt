@@ -8,16 +8,16 @@ use Rattle.sv_parse_expr.proofs.ReadingRuns.{then_read}
 use Rattle.sv_parse_expr.proofs.expressions.read_in_parentheses.Goals as goal
 
 pub returns-clause-is : goal.returns-clause-is
-returns-clause-is c = (
-  (placed_tokens c.args.input.bytes.now c.in_ok-rest.rest.now),
-  c.in_ok-rest.ensures.is
-      c.args.input.bytes.now,
-  (
-    (placed_tokens c.args.input.bytes.now c.in_ok-expr.rest.now),
-    c.in_ok-expr.ensures.is,
-    c.in_ok-rest-2.ensures.is c.args.input.bytes.now,
-  ),
-)
+returns-clause-is c =
+    let bytes = c.args.input.bytes.now in (
+      placed_tokens bytes c.in_ok-rest.rest.now,
+      c.in_ok-rest.ensures.is bytes,
+      (
+        placed_tokens bytes c.in_ok-expr.rest.now,
+        c.in_ok-expr.ensures.is,
+        c.in_ok-rest-2.ensures.is bytes,
+      ),
+    )
 
 pub returns-in_err-rest-clause-halts : goal.returns-in_err-rest-clause-halts
 returns-in_err-rest-clause-halts c =

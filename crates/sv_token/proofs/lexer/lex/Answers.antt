@@ -8,41 +8,25 @@ use Rattle.sv_token.proofs.LexLaws.{read_token, read_break, read_all, at_span, p
 use Rattle.sv_token.proofs.LexLaws.{order_push, order_later, in_order, fault_is, place_later}
 use Rattle.sv_token.proofs.lexer.lex.Goals as goal
 
-pub behind-here-requires-clause-within : goal.behind-here-requires-clause-within
-behind-here-requires-clause-within c =
+pub behind-here-requires : goal.behind-here-requires
+behind-here-requires c =
     let here = gap_here c.args.bytes.now c.loop-here.here.position c.front_at.result c.in-Gap.more
     c.loop-here-test.true c.front_at.ensures c.in-Gap.is in
-    omega (arith, here.1)
+    record {
+      within = omega (arith, here.1);
+      line = omega (arith, here.1, c.loop-here.invariant.line);
+      column = omega (arith, here.1, c.loop-here.invariant.column);
+    }
 
-pub behind-next-requires-clause-within : goal.behind-next-requires-clause-within
-behind-next-requires-clause-within c =
+pub behind-next-requires : goal.behind-next-requires
+behind-next-requires c =
     let here = token_here c.args.bytes.now c.loop-here.here.position c.front_at.result
     c.in-Token.kind c.in-Token.more c.loop-here-test.true c.front_at.ensures c.in-Token.is in
-    omega (arith, here.1)
-
-pub behind-here-requires-clause-line : goal.behind-here-requires-clause-line
-behind-here-requires-clause-line c =
-    let here = gap_here c.args.bytes.now c.loop-here.here.position c.front_at.result c.in-Gap.more
-    c.loop-here-test.true c.front_at.ensures c.in-Gap.is in
-    omega (arith, here.1, c.loop-here.invariant.line)
-
-pub behind-next-requires-clause-line : goal.behind-next-requires-clause-line
-behind-next-requires-clause-line c =
-    let here = token_here c.args.bytes.now c.loop-here.here.position c.front_at.result
-    c.in-Token.kind c.in-Token.more c.loop-here-test.true c.front_at.ensures c.in-Token.is in
-    omega (arith, here.1, c.loop-here.invariant.line)
-
-pub behind-here-requires-clause-column : goal.behind-here-requires-clause-column
-behind-here-requires-clause-column c =
-    let here = gap_here c.args.bytes.now c.loop-here.here.position c.front_at.result c.in-Gap.more
-    c.loop-here-test.true c.front_at.ensures c.in-Gap.is in
-    omega (arith, here.1, c.loop-here.invariant.column)
-
-pub behind-next-requires-clause-column : goal.behind-next-requires-clause-column
-behind-next-requires-clause-column c =
-    let here = token_here c.args.bytes.now c.loop-here.here.position c.front_at.result
-    c.in-Token.kind c.in-Token.more c.loop-here-test.true c.front_at.ensures c.in-Token.is in
-    omega (arith, here.1, c.loop-here.invariant.column)
+    record {
+      within = omega (arith, here.1);
+      line = omega (arith, here.1, c.loop-here.invariant.line);
+      column = omega (arith, here.1, c.loop-here.invariant.column);
+    }
 
 pub loop-here-preserved-in-Gap : goal.loop-here-preserved-in-Gap
 loop-here-preserved-in-Gap c =
@@ -51,32 +35,21 @@ loop-here-preserved-in-Gap c =
     let next = read_gap c.args.bytes.now (placed_tokens c.args.bytes.now c.loop-here.tokens.items)
     c.loop-here.here.position c.loop-here.here.place c.in-Gap.more c.loop-here-test.true here.0
     c.loop-here.invariant.read in
+    let moved = c.behind-here.ensures in
     record {
-      within = omega (arith, here.1, c.behind-here.ensures.position);
-      line =
-          omega (
-            arith,
-            c.loop-here.invariant.line,
-            c.behind-here.ensures.position,
-            c.behind-here.ensures.line,
-          );
-      column =
-          omega (
-            arith,
-            c.loop-here.invariant.column,
-            c.behind-here.ensures.position,
-            c.behind-here.ensures.column,
-          );
-      read = rw (c.behind-here.ensures.position, c.behind-here.ensures.place) next;
+      within = omega (arith, here.1, moved.position);
+      line = omega (arith, c.loop-here.invariant.line, moved.position, moved.line);
+      column = omega (arith, c.loop-here.invariant.column, moved.position, moved.column);
+      read = rw (moved.position, moved.place) next;
       spans = c.loop-here.invariant.spans;
       place =
-          rw (c.behind-here.ensures.position, c.behind-here.ensures.place)
+          rw (moved.position, moved.place)
           (place_later c.args.bytes.now c.loop-here.here.position c.in-Gap.more
           c.loop-here.here.place c.loop-here.invariant.place);
       places = c.loop-here.invariant.places;
       order =
           order_later 0 c.loop-here.tokens.items c.loop-here.here.position
-          c.behind-here.result.position (omega (arith, c.behind-here.ensures.position))
+          c.behind-here.result.position (omega (arith, moved.position))
           c.loop-here.invariant.order;
     }
 
@@ -91,45 +64,34 @@ loop-here-preserved c =
     here.0 c.loop-here.invariant.read in
     let spanned = at_span c.args.bytes.now c.in-Token.kind c.loop-here.here.position c.in-Token.more
     c.loop-here.here.place c.loop-here-test.true here.0 in
+    let moved = c.behind-next.ensures in
     record {
-      within = omega (arith, here.1, c.behind-next.ensures.position);
-      line =
-          omega (
-            arith,
-            c.loop-here.invariant.line,
-            c.behind-next.ensures.position,
-            c.behind-next.ensures.line,
-          );
-      column =
-          omega (
-            arith,
-            c.loop-here.invariant.column,
-            c.behind-next.ensures.position,
-            c.behind-next.ensures.column,
-          );
+      within = omega (arith, here.1, moved.position);
+      line = omega (arith, c.loop-here.invariant.line, moved.position, moved.line);
+      column = omega (arith, c.loop-here.invariant.column, moved.position, moved.column);
       read =
           rw (
             c.in_ok-push-in-Token.ensures.items,
             placed_push,
-            c.behind-next.ensures.position,
-            c.behind-next.ensures.place,
+            moved.position,
+            moved.place,
           ) next;
       spans =
-          rw (c.in_ok-push-in-Token.ensures.items, c.behind-next.ensures.position)
+          rw (c.in_ok-push-in-Token.ensures.items, moved.position)
           (All-push (IsAtSpan c.args.bytes.now) c.loop-here.tokens.items _
           c.loop-here.invariant.spans spanned);
       place =
-          rw (c.behind-next.ensures.position, c.behind-next.ensures.place)
+          rw (moved.position, moved.place)
           (place_later c.args.bytes.now c.loop-here.here.position c.in-Token.more
           c.loop-here.here.place c.loop-here.invariant.place);
       places =
-          rw (c.in_ok-push-in-Token.ensures.items, c.behind-next.ensures.position)
+          rw (c.in_ok-push-in-Token.ensures.items, moved.position)
           (All-push (IsAtPlace c.args.bytes.now) c.loop-here.tokens.items _
           c.loop-here.invariant.places c.loop-here.invariant.place);
       order =
           rw c.in_ok-push-in-Token.ensures.items
           (order_push 0 c.loop-here.tokens.items c.loop-here.here.position _ (omega arith)
-          (omega (arith, c.behind-next.ensures.position)) c.loop-here.invariant.order);
+          (omega (arith, moved.position)) c.loop-here.invariant.order);
     }
 
 pub returns-in-Broken-clause-refusal : goal.returns-in-Broken-clause-refusal

@@ -90,11 +90,11 @@ loop_start whole left old xs ys first second front hand one two ea eb ef is e = 
 }
 
 -- what has too many variables
-pub left_full : {A : Type 0} (whole left : Formula × A) (old now : Formula)
-    (first second front hand : Word) (most : ℕ) →
+pub left_full : {A : Type 0} {whole left : Formula × A} {old now : Formula}
+    {first second front hand : Word} {most : ℕ} →
     LoopAt whole left old now first second front hand → most < (left.0).variables →
     most < (whole.0).variables
-left_full {A = A} whole left old now first second front hand most at h =
+left_full {A = A} {most = most} at h =
     subst (λ (z : Formula × A). most < (z.0).variables) (sym at.made) h
 
 -- ---- gates

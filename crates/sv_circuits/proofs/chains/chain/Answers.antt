@@ -19,8 +19,8 @@ returns-in_default-clause-made c =
 pub members-init : goal.members-init
 members-init c =
     let word : c.args.word.now ≡ c.in-Some.first.now ∷ c.in-Some.more.now = c.in-Some.ensures.cases.0 in
-    (loop_start _ _ _ _ _ _ _ _ _ (word_rest c.requires word) tt refl refl refl
-    (word_first c.requires word, tt)
+    (loop_start _ _ _ _ _ _ _ _ _ (word_rest _ c.requires word) tt refl refl refl
+    (word_first _ c.requires word, tt)
     (chain_whole (gate_of c.args.gate) _ _ _ _ _ word))
 
 pub joined-requires-clause-a : goal.joined-requires-clause-a
@@ -28,7 +28,7 @@ joined-requires-clause-a c = c.members.invariant.hand.0
 
 pub joined-requires-clause-b : goal.joined-requires-clause-b
 joined-requires-clause-b c =
-    (word_first c.members.invariant.first
+    (word_first _ c.members.invariant.first
     (turn_of c.in-Some.more.now _ _ c.members-test.true c.literal-item.is))
 
 pub members-preserved : goal.members-preserved

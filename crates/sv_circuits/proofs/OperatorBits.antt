@@ -26,7 +26,7 @@ use Rattle.sv_circuits.specs.Operators.{unary_word, binary_word, sum_word, one_b
 use Rattle.sv_circuits.specs.Operators.{shifted_word, moved_up}
 use Rattle.sv_circuits.specs.Operators.{moved_down, sign_fill, less_bit}
 use Rattle.sv_circuits.specs.Circuits.{bits_of, IsWord, IsBase, GivesBit, GivesWord}
-use Rattle.sv_circuits.proofs.Pieces.{base_more, chained}
+use Rattle.sv_circuits.proofs.Pieces.{base_more, makes_meaning, chained}
 use Rattle.sv_circuits.proofs.BitPieces.{differ, joined_bits, negation_gives, one_bit_gives, all_gives}
 use Rattle.sv_circuits.proofs.BitPieces.{some_gives, odd_gives, per_bit_gives, false_is}
 use Rattle.sv_circuits.proofs.BitPieces.{false_known}
@@ -201,13 +201,11 @@ up_zero a b old base is_a is_b =
     let made = shifted_word (moved_up false_literal) a b old in
     let p = shifted_up_makes false_literal a b old base
     (literal_more 1 old.variables false_literal base.some false_is) is_a is_b in
-    record {
-      extends = p.extends;
-      within = p.within;
-      says = λ values e. p.says values e
-          ∙ ap (λ z. shifted_bits (up_bits z) 0 (bits_of values b) (bits_of values a))
-          (false_known values ((base_more old made.0 base p.extends).truth values e));
-    }
+    makes_meaning p (λ values word. bits_of values word
+    ≡ shifted_bits (up_bits false) 0 (bits_of values b) (bits_of values a))
+    (λ values e said. said
+    ∙ ap (λ z. shifted_bits (up_bits z) 0 (bits_of values b) (bits_of values a))
+    (false_known values ((base_more old made.0 base p.extends).truth values e)))
 
 down_filled : (fill : ℤ) (bit : (ℕ → Bool) → Bool) → ((values : ℕ → Bool) → values 1 ≡ true →
     literal_true values fill ≡ bit values) → (a b : Word) (old : Formula) → IsBase old →
@@ -217,13 +215,11 @@ down_filled : (fill : ℤ) (bit : (ℕ → Bool) → Bool) → ((values : ℕ �
 down_filled fill bit is_bit a b old base is_fill is_a is_b =
     let made = shifted_word (moved_down fill) a b old in
     let p = shifted_down_makes fill a b old base is_fill is_a is_b in
-    record {
-      extends = p.extends;
-      within = p.within;
-      says = λ values e. p.says values e
-          ∙ ap (λ z. shifted_bits (down_bits z) 0 (bits_of values b) (bits_of values a))
-          (is_bit values ((base_more old made.0 base p.extends).truth values e));
-    }
+    makes_meaning p (λ values word. bits_of values word
+    ≡ shifted_bits (down_bits (bit values)) 0 (bits_of values b) (bits_of values a))
+    (λ values e said. said
+    ∙ ap (λ z. shifted_bits (down_bits z) 0 (bits_of values b) (bits_of values a))
+    (is_bit values ((base_more old made.0 base p.extends).truth values e)))
 
 less_make : (signed : Bool) (a b : Word) (old : Formula) → IsBase old → IsWord old.variables a →
     IsWord old.variables b → BothMake (less_bit signed a b)

@@ -3,7 +3,7 @@ use Rattle.std.proofs.Common.{◌≡◌, ℕ, ◌≤◌, Bool, true, ℤ, List, 
 use Rattle.std.proofs.Common.{◌∷◌, map, fold, refl, ap, ap₂, ◌∙◌, arith}
 use Rattle.std.proofs.Common.{if◌then◌else◌}
 use Rattle.sv_clause.specs.Literals.{literal_true}
-use Rattle.sv_gates.specs.Formulas.{Formula, IsLiteral, IsClosed}
+use Rattle.sv_gates.specs.Formulas.{Formula, meets, IsLiteral, IsClosed}
 use Rattle.sv_gates.specs.Gates.{mux_gate}
 use Rattle.sv_gates.specs.Extending.{Extends, Makes}
 use Rattle.sv_gates.proofs.ExtendingLaws.{extends_trans, meets-begins}
@@ -23,6 +23,18 @@ base_more old new base extends = record {
 pub word_more : (m n : ℕ) (word : Word) → m ≤ n → IsWord m word → IsWord n word
 word_more m n [] h is = tt
 word_more m n (l ∷ word) h is = (literal_more m n l h is.0, word_more m n word h is.1)
+
+-- a piece with a meaning that follows from its own
+pub makes_meaning : {A : Type 0} {old : Formula} {made : Formula × A} {Inside : ℕ → A → Type 0}
+    {Means : (ℕ → Bool) → A → Type 0} → Makes old made Inside Means →
+    (Says : (ℕ → Bool) → A → Type 0) →
+    ((values : ℕ → Bool) → meets values (made.0).clauses ≡ true → Means values made.1 →
+    Says values made.1) → Makes old made Inside Says
+makes_meaning p Says follows = record {
+  extends = p.extends;
+  within = p.within;
+  says = λ values e. follows values e (p.says values e);
+}
 
 -- a multiplexer by a literal that was made, of two that were there before
 pub mux_behind : (old : Formula) (first : Formula × ℤ) (v : (ℕ → Bool) → Bool) (a b : ℤ) →

@@ -2,9 +2,9 @@
 ghost use Rattle.std.specs.Prelude.{◌≡◌, ◌≤◌, ◌<◌, IfOk, IfSome, IsErrOf, map};
 ghost use Rattle.sv_gates.specs.Extending.{Begins};
 ghost use Rattle.sv_gates.specs.Formulas.{IsLiteral, most_variables};
-ghost use Rattle.sv_circuits.specs.Words.{ready_bit, chain};
+ghost use Rattle.sv_circuits.specs.Words.{ready_bit};
 ghost use Rattle.sv_circuits.specs.Circuits.{IsWord};
-ghost use Rattle.sv_circuits.specs.BitGates.{gate_of, none_of, joined_to};
+ghost use Rattle.sv_circuits.specs.BitGates.{none_of, chain_of, joined_to};
 
 use crate::bit_gates::{BitGate, joined};
 use crate::words::{falsity, truth};
@@ -51,11 +51,11 @@ fn none_of(gates: &Gates, gate: BitGate) -> Literal
 pub fn chain(gates: &mut Gates, gate: BitGate, word: &[Literal]) -> Result<Literal, GateFault>
     requires { IsWord gates.old.variables word.now }
     ensures made { IfOk result (λ g.
-        chain (gate_of gate) (none_of gate) (map ready_bit word.now) gates.old ≡ (gates.new, g)) }
+        chain_of gate (map ready_bit word.now) gates.old ≡ (gates.new, g)) }
     ensures within { IfOk result (IsLiteral gates.new.variables) }
     ensures begins { Begins gates.old gates.new }
-    ensures full { IsErrOf result GateFault.Full → most_variables
-        < ((chain (gate_of gate) (none_of gate) (map ready_bit word.now) gates.old).0).variables }
+    ensures full { IsErrOf result GateFault.Full
+        → most_variables < ((chain_of gate (map ready_bit word.now) gates.old).0).variables }
 {
     let Some((first, more)) = word.split_first() else {
         return Ok(none_of(gates, gate));

@@ -1,18 +1,17 @@
-use Rattle.std.proofs.Common.{◌≡◌, ap, sym, ◌∙◌, rules, refl, ◌∷◌, map}
+use Rattle.std.proofs.Common.{◌≡◌, ap, sym, ◌∙◌, rules, refl, ◌∷◌}
 use Rattle.std.specs.Result.{IsErrOf}
 use Rattle.std.proofs.lemmas.List.{drop_all}
 use Rattle.sv_gates.specs.declared.gates.GateFault.TheVariants.{Full}
-use Rattle.sv_circuits.specs.Words.{ready_bit, chain}
-use Rattle.sv_circuits.specs.BitGates.{gate_of, none_of}
+use Rattle.sv_circuits.specs.BitGates.{gate_of}
 use Rattle.sv_circuits.proofs.WordKeeps.{turn_of}
 use Rattle.sv_circuits.proofs.WordKeeps.{word_first, word_rest, none_left}
 use Rattle.sv_circuits.proofs.LoopSteps.{loop_start, one_more, left_full, gate_one, chain_step}
-use Rattle.sv_circuits.proofs.LoopSteps.{chain_whole, chain_full, chain_end}
+use Rattle.sv_circuits.proofs.LoopSteps.{chain_of_nil, chain_whole, chain_full, chain_end}
 use Rattle.sv_circuits.proofs.chains.chain.Goals as goal
 
 pub returns-in_default-clause-made : goal.returns-in_default-clause-made
 returns-in_default-clause-made c =
-    ap (λ z. chain (gate_of c.args.gate) (none_of c.args.gate) (map ready_bit z) c.args.gates.now)
+    chain_of_nil c.args.gate c.args.word.now c.args.gates.now
     (none_left _ c.in_default.ensures.cases)
     ∙ ap (λ z. (c.args.gates.now, z)) (sym c.none_of.ensures.value)
 
@@ -21,7 +20,7 @@ members-init c =
     let word : c.args.word.now ≡ c.in-Some.first.now ∷ c.in-Some.more.now = c.in-Some.ensures.cases.0 in
     (loop_start _ _ _ _ _ _ _ _ _ (word_rest _ c.requires word) tt refl refl refl
     (word_first _ c.requires word, tt)
-    (chain_whole (gate_of c.args.gate) _ _ _ _ _ word))
+    (chain_whole c.args.gate _ _ _ _ word))
 
 pub joined-requires-clause-a : goal.joined-requires-clause-a
 joined-requires-clause-a c = c.members.invariant.hand.0

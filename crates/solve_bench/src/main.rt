@@ -19,11 +19,12 @@ use sv_clause::{Clause, Log};
 use sv_proof::check_log;
 use sv_solve::{Solved, solve};
 
-// Clauses over variables from 1 on.
+// Clauses over variables from 1 on, and the literals of one that has no end yet.
 #[derive(Drop)]
 struct Instance {
     variables: u32,
     clauses: Vec<Clause>,
+    literals: Vec<i32>,
 }
 
 fn main(rt: HostRuntime) -> Result<()> {
@@ -85,34 +86,36 @@ fn tell(
 // Reads instances, each of which begins with its line `p cnf VARIABLES CLAUSES`.
 fn read_instances(rt: &impl Input, alloc: Global) -> Result<Vec<Instance>> {
     let mut instances: Vec<Instance> = Vec::new(alloc);
-    let mut literals: Vec<i32> = Vec::new(alloc);
     'lines: for line in BufReader::new(alloc, rt.reader())?.lines(alloc) {
         let line = line?;
-        read_line(alloc, line.as_str(), &mut literals, &mut instances)?;
+        read_line(alloc, line.as_str(), &mut instances)?;
     }
-    ensure!(literals.is_empty(), "a clause has no end");
+    ensure!(are_ended(&instances), "a clause has no end");
     Ok(instances)
 }
 
+// Whether each clause that was begun has its end.
+fn are_ended(instances: &[Instance]) -> bool {
+    match instances.last() {
+        Some(last) => last.literals.is_empty(),
+        None => true,
+    }
+}
+
 // Reads one line: a comment, the first line of an instance, or literals.
-fn read_line(
-    alloc: Global,
-    text: &str,
-    literals: &mut Vec<i32>,
-    instances: &mut Vec<Instance>,
-) -> Result<()> {
+fn read_line(alloc: Global, text: &str, instances: &mut Vec<Instance>) -> Result<()> {
     if text.starts_with('c') {
         return Ok(());
     }
     if text.starts_with('p') {
-        ensure!(literals.is_empty(), "a clause has no end");
+        ensure!(are_ended(instances), "a clause has no end");
         instances
             .push(begin_instance(alloc, text)?)
             .map_err(AllocError::from)?;
         return Ok(());
     }
     let instance = instances.last_mut().context("no line p cnf stands first")?;
-    read_literals(alloc, text, literals, &mut instance.clauses)
+    read_literals(alloc, text, instance)
 }
 
 // The instance of a line `p cnf VARIABLES CLAUSES`, with no clause yet.
@@ -125,28 +128,24 @@ fn begin_instance(alloc: Global, text: &str) -> Result<Instance> {
     Ok(Instance {
         variables,
         clauses: Vec::new(alloc),
+        literals: Vec::new(alloc),
     })
 }
 
 // Reads the literals of one line, after those of a clause that began before it.
-fn read_literals(
-    alloc: Global,
-    text: &str,
-    literals: &mut Vec<i32>,
-    clauses: &mut Vec<Clause>,
-) -> Result<()> {
+fn read_literals(alloc: Global, text: &str, instance: &mut Instance) -> Result<()> {
     'words: for word in text.split_whitespace() {
         let literal = word.parse::<i32>()?;
         ensure!(literal != i32::MIN, "a literal is out of range");
         if literal != 0 {
-            literals.push(literal)?;
+            instance.literals.push(literal)?;
             continue 'words;
         }
         // a clause with a variable in both polarities says nothing
-        if let Some(clause) = Clause::new(alloc, literals.as_slice())? {
-            clauses.push(clause)?;
+        if let Some(clause) = Clause::new(alloc, instance.literals.as_slice())? {
+            instance.clauses.push(clause)?;
         }
-        literals.clear();
+        instance.literals.clear();
     }
     Ok(())
 }

@@ -1,18 +1,19 @@
 -- Circuits of comparisons, bit by bit.
 use Rattle.std.proofs.Common.{◌≡◌, ℕ, zero, suc, ◌-◌, ◌≤◌, Bool, true, false, not, ◌&&◌, ℤ}
 use Rattle.std.proofs.Common.{List, [], ◌∷◌, ◌++◌, map, take, drop, length, refl, sym, ap, ap₂, ◌∙◌}
-use Rattle.std.proofs.Common.{arith, if◌then◌else◌}
+use Rattle.std.proofs.Common.{if◌then◌else◌}
 use Rattle.std.specs.List.{zip}
 use Rattle.sv_clause.specs.Literals.{literal_true}
 use Rattle.sv_gates.specs.Formulas.{Formula, IsLiteral}
 use Rattle.sv_gates.specs.Gates.{true_literal, false_literal, and_gate, xor_gate, mux_gate}
 use Rattle.sv_gates.specs.Extending.{Makes}
-use Rattle.sv_gates.proofs.ExtendingLaws.{makes_at_once, makes_then, makes_as}
-use Rattle.sv_gates.proofs.GateLaws.{literal_more, and_makes, xor_makes, mux_makes}
+use Rattle.sv_gates.proofs.ExtendingLaws.{makes_at_once, extends_trans, meets-begins}
+use Rattle.sv_gates.proofs.GateLaws.{literal_more, and_makes, xor_makes}
 use Rattle.sv_circuits.specs.Words.{Word, inverted_word, equal_bit, negation}
 use Rattle.sv_circuits.specs.Operators.{less_from, ordered_word, less_bit}
 use Rattle.sv_circuits.specs.Circuits.{bits_of, IsWord, IsBase, GivesBit}
-use Rattle.sv_circuits.proofs.Pieces.{base_more, word_more, GivesEach, values_of, chain_gives, chained}
+use Rattle.sv_circuits.proofs.Pieces.{base_more, word_more, mux_behind, GivesEach, values_of}
+use Rattle.sv_circuits.proofs.Pieces.{chain_gives, chained}
 use Rattle.sv_circuits.proofs.BitPieces.{differ, bit_as, joined_bits, negation_gives}
 use Rattle.sv_circuits.proofs.BitPieces.{gate_gives, true_is, true_known, false_is, false_known}
 use Rattle.sv_circuits.proofs.Products.{inverted_is, inverted_bits, take_is, take_bits, bits_length}
@@ -83,45 +84,21 @@ less_makes (a ∷ more) [] less old base is_a is_b is =
     base.closed is (λ values e. refl)
 less_makes (a ∷ more) (b ∷ bs) less old base is_a is_b is =
     let x = xor_gate a b old in
-    let px = xor_makes a b old base.closed is_a.0 is_b.0 in
-    let n1 = (x.0).variables in
-    let up1 = px.extends.begins.grows in
-    let base1 = base_more old x.0 base px.extends in
     let m = mux_gate x.1 b less x.0 in
-    let pm = mux_makes x.1 b less x.0 base1.closed px.within
-    (literal_more old.variables n1 b up1 is_b.0) (literal_more old.variables n1 less up1 is) in
-    let n2 = (m.0).variables in
-    let up2 = pm.extends.begins.grows in
-    let up : old.variables ≤ n2 = omega (arith, up1, up2) in
+    let pm = mux_behind old x (λ values. differ (literal_true values a) (literal_true values b)) b less
+    (xor_makes a b old base.closed is_a.0 is_b.0) is_b.0 is in
+    let n = (m.0).variables in
+    let up = pm.extends.begins.grows in
     let rest = less_from more bs m.1 m.0 in
-    let q = less_makes more bs m.1 m.0 (base_more x.0 m.0 base1 pm.extends)
-    (word_more old.variables n2 more up is_a.1) (word_more old.variables n2 bs up is_b.1)
+    let q = less_makes more bs m.1 m.0 (base_more old m.0 base pm.extends)
+    (word_more old.variables n more up is_a.1) (word_more old.variables n bs up is_b.1)
     pm.within in
-    makes_as old rest rest.1 IsLiteral IsLiteral
-    (λ values l. (literal_true values x.1
-    ≡ differ (literal_true values a) (literal_true values b))
-    × ((literal_true values m.1
-    ≡ (if literal_true values x.1 then literal_true values b else literal_true values less))
-    × (literal_true values l
-    ≡ less_bits (bits_of values more) (bits_of values bs) (literal_true values m.1))))
-    (λ values l. literal_true values l
-    ≡ less_bits (bits_of values (a ∷ more)) (bits_of values (b ∷ bs)) (literal_true values less))
-    (makes_then old x rest IsLiteral IsLiteral
-    (λ values l. literal_true values l ≡ differ (literal_true values a) (literal_true values b))
-    (λ values l. (literal_true values m.1
-    ≡ (if literal_true values x.1 then literal_true values b else literal_true values less))
-    × (literal_true values l
-    ≡ less_bits (bits_of values more) (bits_of values bs) (literal_true values m.1)))
-    px
-    (makes_then x.0 m rest IsLiteral IsLiteral
-    (λ values l. literal_true values l
-    ≡ (if literal_true values x.1 then literal_true values b else literal_true values less))
-    (λ values l. literal_true values l
-    ≡ less_bits (bits_of values more) (bits_of values bs) (literal_true values m.1))
-    pm q))
-    (λ is. is)
-    (λ values e. e.1.1 ∙ ap (less_bits (bits_of values more) (bits_of values bs))
-    (e.1.0 ∙ ap (λ z. if z then literal_true values b else literal_true values less) e.0))
+    record {
+      extends = extends_trans old m.0 rest.0 pm.extends q.extends;
+      within = q.within;
+      says = λ values e. q.says values e ∙ ap (less_bits (bits_of values more) (bits_of values bs))
+          (pm.says values (meets-begins m.0 rest.0 values q.extends.begins e));
+    }
 
 -- the highest bit turned where the type is signed
 abbrev pub ordered_bits : (signed : Bool) → List Bool → List Bool

@@ -19,9 +19,10 @@ use Rattle.sv_gates.specs.Formulas.{Formula}
 use Rattle.sv_gates.specs.Gates.{true_literal, false_literal, and_gate, or_gate, xor_gate, mux_gate}
 use Rattle.sv_circuits.specs.Words.{Word, BitMaker, made_in_turn, bitwise_word, inverted_word}
 use Rattle.sv_circuits.specs.Words.{number_word, filled_word, negation}
-use Rattle.sv_circuits.specs.Operators.{unary_word, binary_word, sum_word, add_bits}
+use Rattle.sv_circuits.specs.Operators.{unary_word, binary_word, sum_word, add_bits, difference_word}
 use Rattle.sv_circuits.specs.Operators.{product_row, product_rows, total_from}
 use Rattle.sv_circuits.specs.Operators.{product_word, moved_up, moved_down, shifted_from}
+use Rattle.sv_circuits.specs.Operators.{shifted_word}
 use Rattle.sv_circuits.specs.Operators.{sign_fill}
 use Rattle.sv_circuits.specs.Circuits.{HaveSizes}
 
@@ -148,6 +149,20 @@ shifted_length move keeps i (c ∷ cs) word old =
 
 -- ---- operators
 
+difference_length : (a b : Word) (old : Formula) → length a ≡ length b →
+    length (difference_word a b old).1 ≡ length a
+difference_length a b old same =
+    sum_length a (inverted_word b) true_literal old (same ∙ sym (inverted_length b))
+
+-- false bits fill
+up_shifted : (a b : Word) (old : Formula) →
+    length (shifted_word (moved_up false_literal) a b old).1 ≡ length a
+up_shifted a b old = shifted_length (moved_up false_literal) (up_length false_literal) 0 b a old
+
+down_shifted : (fill : ℤ) (a b : Word) (old : Formula) →
+    length (shifted_word (moved_down fill) a b old).1 ≡ length a
+down_shifted fill a b old = shifted_length (moved_down fill) (down_length fill) 0 b a old
+
 -- how long an operator's word is
 abbrev pub unary_width : UnOp → ℕ → ℕ
 unary_width op n = if gives_one_bit op then 1 else n
@@ -156,9 +171,8 @@ pub unary_length : (op : UnOp) (a : Word) (old : Formula) →
     length (unary_word op a old).1 ≡ unary_width op (length a)
 unary_length Plus a old = refl
 unary_length Minus a old =
-    sum_length (replicate (length a) false_literal) (inverted_word a) true_literal old
-    (filled_length (length a) false_literal ∙ sym (inverted_length a))
-    ∙ filled_length (length a) false_literal
+    difference_length (replicate (length a) false_literal) a old
+    (filled_length (length a) false_literal) ∙ filled_length (length a) false_literal
 unary_length LogicNot a old = refl
 unary_length Invert a old = inverted_length a
 unary_length AllOf a old = refl
@@ -175,16 +189,11 @@ binary_length Mul signed a b old sizes = product_length a b old sizes.1.0
 binary_length Div signed a b old sizes = absurd (false≢true (sym sizes.0))
 binary_length Rem signed a b old sizes = absurd (false≢true (sym sizes.0))
 binary_length Add signed a b old sizes = sum_length a b false_literal old sizes.1.0
-binary_length Sub signed a b old sizes =
-    sum_length a (inverted_word b) true_literal old (sizes.1.0 ∙ sym (inverted_length b))
-binary_length Shl signed a b old sizes =
-    shifted_length (moved_up false_literal) (up_length false_literal) 0 b a old
-binary_length Shr signed a b old sizes =
-    shifted_length (moved_down false_literal) (down_length false_literal) 0 b a old
-binary_length SignShl signed a b old sizes =
-    shifted_length (moved_up false_literal) (up_length false_literal) 0 b a old
-binary_length SignShr signed a b old sizes =
-    shifted_length (moved_down (sign_fill signed a)) (down_length (sign_fill signed a)) 0 b a old
+binary_length Sub signed a b old sizes = difference_length a b old sizes.1.0
+binary_length Shl signed a b old sizes = up_shifted a b old
+binary_length Shr signed a b old sizes = down_shifted false_literal a b old
+binary_length SignShl signed a b old sizes = up_shifted a b old
+binary_length SignShr signed a b old sizes = down_shifted (sign_fill signed a) a b old
 binary_length Lt signed a b old sizes = refl
 binary_length Le signed a b old sizes = refl
 binary_length Gt signed a b old sizes = refl

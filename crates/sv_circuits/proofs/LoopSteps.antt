@@ -1,6 +1,6 @@
 -- Loops that make gates bit by bit: what is to be made, what is left of it, and what is in hand.
 use Rattle.std.proofs.Common.{◌≡◌, ℕ, ◌≤◌, ◌<◌, ℤ, [], ◌∷◌, ◌++◌, map, refl, sym, ap, ◌∙◌}
-use Rattle.std.proofs.Common.{suc}
+use Rattle.std.proofs.Common.{suc, List}
 use Rattle.std.proofs.Common.{subst, arith, ◌⊎◌, ⊎_elim}
 use Rattle.std.proofs.lemmas.List.{append-nil}
 use Rattle.sv_gates.specs.Formulas.{Formula, IsLiteral}
@@ -12,7 +12,7 @@ use Rattle.sv_circuits.specs.declared.bit_gates.BitGate.TheVariants.{And, Or, Xo
 use Rattle.sv_circuits.specs.Words.{Word, BitMaker, ready_bit, bitwise_word, chain, chain_from}
 use Rattle.sv_circuits.specs.Operators.{less_from}
 use Rattle.sv_circuits.specs.Circuits.{IsWord}
-use Rattle.sv_circuits.specs.BitGates.{gate_of}
+use Rattle.sv_circuits.specs.BitGates.{gate_of, none_of, chain_of}
 use Rattle.sv_circuits.proofs.WordKeeps.{onto, step_behind, word_up, word_push}
 
 -- the whole is what is left from the present formula on; the words that are left, the word that is
@@ -90,11 +90,11 @@ loop_start whole left old xs ys first second front hand one two ea eb ef is e = 
 }
 
 -- what has too many variables
-pub left_full : {A : Type 0} (whole left : Formula × A) (old now : Formula)
-    (first second front hand : Word) (most : ℕ) →
+pub left_full : {A : Type 0} {whole left : Formula × A} {old now : Formula}
+    {first second front hand : Word} {most : ℕ} →
     LoopAt whole left old now first second front hand → most < (left.0).variables →
     most < (whole.0).variables
-left_full {A = A} whole left old now first second front hand most at h =
+left_full {A = A} {most = most} at h =
     subst (λ (z : Formula × A). most < (z.0).variables) (sym at.made) h
 
 -- ---- gates
@@ -186,10 +186,24 @@ chain_full gate xs more before a now most takes ea h =
     subst (λ z. most < ((chain_from gate before (map ready_bit z) now).0).variables) (sym ea)
     (omega (arith, e, up, h))
 
-pub chain_whole : (gate : ℤ → ℤ → BitMaker) (xs more : Word) (none first : ℤ) (old : Formula) →
+chain_of_is : (gate : BitGate) (makes : List BitMaker) (f : Formula) →
+    chain_of gate makes f ≡ chain (gate_of gate) (none_of gate) makes f
+chain_of_is And makes f = refl
+chain_of_is Or makes f = refl
+chain_of_is Xor makes f = refl
+chain_of_is Xnor makes f = refl
+
+pub chain_of_nil : (gate : BitGate) (xs : Word) (old : Formula) → xs ≡ [] →
+    chain_of gate (map ready_bit xs) old ≡ (old, none_of gate)
+chain_of_nil gate xs old e =
+    ap (λ z. chain_of gate (map ready_bit z) old) e ∙ chain_of_is gate [] old
+
+pub chain_whole : (gate : BitGate) (xs more : Word) (first : ℤ) (old : Formula) →
     xs ≡ first ∷ more →
-    chain gate none (map ready_bit xs) old ≡ chain_from gate first (map ready_bit more) old
-chain_whole gate xs more none first old e = ap (λ z. chain gate none (map ready_bit z) old) e
+    chain_of gate (map ready_bit xs) old ≡ chain_from (gate_of gate) first (map ready_bit more) old
+chain_whole gate xs more first old e =
+    ap (λ z. chain_of gate (map ready_bit z) old) e
+    ∙ chain_of_is gate (map ready_bit (first ∷ more)) old
 
 pub chain_end : (gate : ℤ → ℤ → BitMaker) (xs : Word) (before : ℤ) (now : Formula) → xs ≡ [] →
     chain_from gate before (map ready_bit xs) now ≡ (now, before)

@@ -20,13 +20,13 @@ use Rattle.sv_gates.proofs.ExtendingLaws.{makes_at_once}
 use Rattle.sv_gates.proofs.Valuations.{negation_true}
 use Rattle.sv_gates.proofs.GateLaws.{literal_more, literal_negated, and_makes, or_makes, xor_makes}
 use Rattle.sv_circuits.specs.Words.{Word, BitMaker, ready_bit, negation, and_chain, or_chain}
-use Rattle.sv_circuits.specs.Words.{xor_chain, not_zero_bit, equal_bit, inverted_word}
+use Rattle.sv_circuits.specs.Words.{xor_chain, equal_bit, inverted_word}
 use Rattle.sv_circuits.specs.Words.{literal_at}
 use Rattle.sv_circuits.specs.Operators.{unary_word, binary_word, sum_word, one_bit}
 use Rattle.sv_circuits.specs.Operators.{shifted_word, moved_up}
 use Rattle.sv_circuits.specs.Operators.{moved_down, sign_fill, less_bit}
 use Rattle.sv_circuits.specs.Circuits.{bits_of, IsWord, IsBase, GivesBit, GivesWord}
-use Rattle.sv_circuits.proofs.Pieces.{base_more, chained}
+use Rattle.sv_circuits.proofs.Pieces.{base_more, makes_meaning, chained}
 use Rattle.sv_circuits.proofs.BitPieces.{differ, joined_bits, negation_gives, one_bit_gives, all_gives}
 use Rattle.sv_circuits.proofs.BitPieces.{some_gives, odd_gives, per_bit_gives, false_is}
 use Rattle.sv_circuits.proofs.BitPieces.{false_known}
@@ -75,17 +75,37 @@ one : (n : ℕ) (make : BitMaker) (value : (ℕ → Bool) → Bool) → GivesBit
 one n make value gives = one_bit_gives n make value gives
 
 -- a word of one bit that a piece gives, and one of its negation
-module _ (make : BitMaker) (value : (ℕ → Bool) → Bool) (old : Formula) (base : IsBase old)
-    (gives : GivesBit old.variables make value) where
-  bit_makes :
-      Makes old (one_bit make old) IsWord (λ values word. bits_of values word ≡ value values ∷ [])
-  bit_makes = one old.variables make value gives old (omega arith) base
+abbrev BothMake : BitMaker → ((ℕ → Bool) → Bool) → Formula → Type 0
+BothMake make value old =
+    Makes old (one_bit make old) IsWord (λ values word. bits_of values word ≡ value values ∷ [])
+    × Makes old (one_bit (negation make) old) IsWord
+    (λ values word. bits_of values word ≡ not (value values) ∷ [])
 
-  negated_makes : Makes old (one_bit (negation make) old) IsWord
-      (λ values word. bits_of values word ≡ not (value values) ∷ [])
-  negated_makes =
-      one old.variables (negation make) (λ values. not (value values))
-      (negation_gives old.variables make value gives) old (omega arith) base
+both_make : (make : BitMaker) (value : (ℕ → Bool) → Bool) (old : Formula) → IsBase old →
+    GivesBit old.variables make value → BothMake make value old
+both_make make value old base gives = (
+  one old.variables make value gives old (omega arith) base,
+  one old.variables (negation make) (λ values. not (value values))
+      (negation_gives old.variables make value gives) old (omega arith) base,
+)
+
+all_make : (a : Word) (old : Formula) → IsBase old → IsWord old.variables a →
+    BothMake (and_chain (map ready_bit a)) (λ values. all_bits (bits_of values a)) old
+all_make a old base is =
+    both_make (and_chain (map ready_bit a)) (λ values. all_bits (bits_of values a)) old base
+    (all_gives old.variables a is)
+
+some_make : (a : Word) (old : Formula) → IsBase old → IsWord old.variables a →
+    BothMake (or_chain (map ready_bit a)) (λ values. some_bit (bits_of values a)) old
+some_make a old base is =
+    both_make (or_chain (map ready_bit a)) (λ values. some_bit (bits_of values a)) old base
+    (some_gives old.variables a is)
+
+odd_make : (a : Word) (old : Formula) → IsBase old → IsWord old.variables a →
+    BothMake (xor_chain (map ready_bit a)) (λ values. odd_bits (bits_of values a)) old
+odd_make a old base is =
+    both_make (xor_chain (map ready_bit a)) (λ values. odd_bits (bits_of values a)) old base
+    (odd_gives old.variables a is)
 
 pub unary_makes : (op : UnOp) (a : Word) (old : Formula) → IsBase old → IsWord old.variables a →
     Makes old (unary_word op a old) IsWord
@@ -101,30 +121,16 @@ unary_makes Minus a old base is =
           ∙ ap (λ k. sum_bits (replicate k false) (map not (bits_of values a)) true)
           (sym (bits_length values a));
     }
-unary_makes LogicNot a old base is =
-    negated_makes (not_zero_bit a) (λ values. some_bit (bits_of values a)) old base
-    (some_gives old.variables a is)
+unary_makes LogicNot a old base is = (some_make a old base is).1
 unary_makes Invert a old base is =
     known (inverted_word a) (λ values. map not (bits_of values a)) old base
     (inverted_is old.variables a is) (λ values. inverted_bits old.variables values a is)
-unary_makes AllOf a old base is =
-    bit_makes (and_chain (map ready_bit a)) (λ values. all_bits (bits_of values a)) old base
-    (all_gives old.variables a is)
-unary_makes Nand a old base is =
-    negated_makes (and_chain (map ready_bit a)) (λ values. all_bits (bits_of values a)) old base
-    (all_gives old.variables a is)
-unary_makes SomeOf a old base is =
-    bit_makes (or_chain (map ready_bit a)) (λ values. some_bit (bits_of values a)) old base
-    (some_gives old.variables a is)
-unary_makes Nor a old base is =
-    negated_makes (or_chain (map ready_bit a)) (λ values. some_bit (bits_of values a)) old base
-    (some_gives old.variables a is)
-unary_makes OddOf a old base is =
-    bit_makes (xor_chain (map ready_bit a)) (λ values. odd_bits (bits_of values a)) old base
-    (odd_gives old.variables a is)
-unary_makes EvenOf a old base is =
-    negated_makes (xor_chain (map ready_bit a)) (λ values. odd_bits (bits_of values a)) old base
-    (odd_gives old.variables a is)
+unary_makes AllOf a old base is = (all_make a old base is).0
+unary_makes Nand a old base is = (all_make a old base is).1
+unary_makes SomeOf a old base is = (some_make a old base is).0
+unary_makes Nor a old base is = (some_make a old base is).1
+unary_makes OddOf a old base is = (odd_make a old base is).0
+unary_makes EvenOf a old base is = (odd_make a old base is).1
 
 -- ---- binary operators
 
@@ -195,13 +201,11 @@ up_zero a b old base is_a is_b =
     let made = shifted_word (moved_up false_literal) a b old in
     let p = shifted_up_makes false_literal a b old base
     (literal_more 1 old.variables false_literal base.some false_is) is_a is_b in
-    record {
-      extends = p.extends;
-      within = p.within;
-      says = λ values e. p.says values e
-          ∙ ap (λ z. shifted_bits (up_bits z) 0 (bits_of values b) (bits_of values a))
-          (false_known values ((base_more old made.0 base p.extends).truth values e));
-    }
+    makes_meaning p (λ values word. bits_of values word
+    ≡ shifted_bits (up_bits false) 0 (bits_of values b) (bits_of values a))
+    (λ values e said. said
+    ∙ ap (λ z. shifted_bits (up_bits z) 0 (bits_of values b) (bits_of values a))
+    (false_known values ((base_more old made.0 base p.extends).truth values e)))
 
 down_filled : (fill : ℤ) (bit : (ℕ → Bool) → Bool) → ((values : ℕ → Bool) → values 1 ≡ true →
     literal_true values fill ≡ bit values) → (a b : Word) (old : Formula) → IsBase old →
@@ -211,26 +215,26 @@ down_filled : (fill : ℤ) (bit : (ℕ → Bool) → Bool) → ((values : ℕ �
 down_filled fill bit is_bit a b old base is_fill is_a is_b =
     let made = shifted_word (moved_down fill) a b old in
     let p = shifted_down_makes fill a b old base is_fill is_a is_b in
-    record {
-      extends = p.extends;
-      within = p.within;
-      says = λ values e. p.says values e
-          ∙ ap (λ z. shifted_bits (down_bits z) 0 (bits_of values b) (bits_of values a))
-          (is_bit values ((base_more old made.0 base p.extends).truth values e));
-    }
+    makes_meaning p (λ values word. bits_of values word
+    ≡ shifted_bits (down_bits (bit values)) 0 (bits_of values b) (bits_of values a))
+    (λ values e said. said
+    ∙ ap (λ z. shifted_bits (down_bits z) 0 (bits_of values b) (bits_of values a))
+    (is_bit values ((base_more old made.0 base p.extends).truth values e)))
 
-less : (signed : Bool) (a b : Word) (old : Formula) → IsWord old.variables a →
-    IsWord old.variables b → GivesBit old.variables (less_bit signed a b)
-    (λ values. less_than_bits signed (bits_of values a) (bits_of values b))
-less signed a b old is_a is_b = less_than_gives old.variables signed a b is_a is_b
+less_make : (signed : Bool) (a b : Word) (old : Formula) → IsBase old → IsWord old.variables a →
+    IsWord old.variables b → BothMake (less_bit signed a b)
+    (λ values. less_than_bits signed (bits_of values a) (bits_of values b)) old
+less_make signed a b old base is_a is_b =
+    both_make (less_bit signed a b)
+    (λ values. less_than_bits signed (bits_of values a) (bits_of values b)) old base
+    (less_than_gives old.variables signed a b is_a is_b)
 
-not_less : (signed : Bool) (a b : Word) (old : Formula) → IsWord old.variables a →
-    IsWord old.variables b → GivesBit old.variables (negation (less_bit signed a b))
-    (λ values. not (less_than_bits signed (bits_of values a) (bits_of values b)))
-not_less signed a b old is_a is_b =
-    negation_gives old.variables (less_bit signed a b)
-    (λ values. less_than_bits signed (bits_of values a) (bits_of values b))
-    (less signed a b old is_a is_b)
+equal_make : (a b : Word) (old : Formula) → IsBase old → IsWord old.variables a →
+    IsWord old.variables b →
+    BothMake (equal_bit a b) (λ values. equal_bits (bits_of values a) (bits_of values b)) old
+equal_make a b old base is_a is_b =
+    both_make (equal_bit a b) (λ values. equal_bits (bits_of values a) (bits_of values b)) old base
+    (equal_gives old.variables a b is_a is_b)
 
 pub binary_makes : (op : BinOp) (signed : Bool) (a b : Word) (old : Formula) → IsBase old →
     IsWord old.variables a → IsWord old.variables b →
@@ -262,32 +266,12 @@ binary_makes SignShr signed a b old base is_a is_b =
     down_filled (sign_fill signed a) (λ values. fill_bit signed (bits_of values a))
     (λ values e. fill_known values e signed a) a b old base
     (fill_is old.variables signed a base.some is_a) is_a is_b
-binary_makes Lt signed a b old base is_a is_b =
-    one old.variables (less_bit signed a b)
-    (λ values. less_than_bits signed (bits_of values a) (bits_of values b))
-    (less signed a b old is_a is_b) old (omega arith) base
-binary_makes Le signed a b old base is_a is_b =
-    one old.variables (negation (less_bit signed b a))
-    (λ values. not (less_than_bits signed (bits_of values b) (bits_of values a)))
-    (not_less signed b a old is_b is_a) old (omega arith) base
-binary_makes Gt signed a b old base is_a is_b =
-    one old.variables (less_bit signed b a)
-    (λ values. less_than_bits signed (bits_of values b) (bits_of values a))
-    (less signed b a old is_b is_a) old (omega arith) base
-binary_makes Ge signed a b old base is_a is_b =
-    one old.variables (negation (less_bit signed a b))
-    (λ values. not (less_than_bits signed (bits_of values a) (bits_of values b)))
-    (not_less signed a b old is_a is_b) old (omega arith) base
-binary_makes Eq signed a b old base is_a is_b =
-    one old.variables (equal_bit a b)
-    (λ values. equal_bits (bits_of values a) (bits_of values b))
-    (equal_gives old.variables a b is_a is_b) old (omega arith) base
-binary_makes Ne signed a b old base is_a is_b =
-    one old.variables (negation (equal_bit a b))
-    (λ values. not (equal_bits (bits_of values a) (bits_of values b)))
-    (negation_gives old.variables (equal_bit a b)
-    (λ values. equal_bits (bits_of values a) (bits_of values b))
-    (equal_gives old.variables a b is_a is_b)) old (omega arith) base
+binary_makes Lt signed a b old base is_a is_b = (less_make signed a b old base is_a is_b).0
+binary_makes Le signed a b old base is_a is_b = (less_make signed b a old base is_b is_a).1
+binary_makes Gt signed a b old base is_a is_b = (less_make signed b a old base is_b is_a).0
+binary_makes Ge signed a b old base is_a is_b = (less_make signed a b old base is_a is_b).1
+binary_makes Eq signed a b old base is_a is_b = (equal_make a b old base is_a is_b).0
+binary_makes Ne signed a b old base is_a is_b = (equal_make a b old base is_a is_b).1
 binary_makes And signed a b old base is_a is_b =
     per_bit_gives and_gate ◌&&◌ and_makes old.variables a b is_a is_b old (omega arith) base
 binary_makes Xor signed a b old base is_a is_b =

@@ -7,13 +7,14 @@ use Rattle.sv_clause.specs.Literals.{literal_true}
 use Rattle.sv_gates.specs.Formulas.{Formula, IsLiteral}
 use Rattle.sv_gates.specs.Gates.{true_literal, false_literal, and_gate, mux_gate}
 use Rattle.sv_gates.specs.Extending.{Makes}
-use Rattle.sv_gates.proofs.ExtendingLaws.{makes_at_once, makes_then, makes_as}
+use Rattle.sv_gates.proofs.ExtendingLaws.{makes_at_once, extends_trans, meets-begins}
 use Rattle.sv_gates.proofs.Valuations.{negation_true}
-use Rattle.sv_gates.proofs.GateLaws.{literal_more, literal_negated, and_makes, mux_makes}
+use Rattle.sv_gates.proofs.GateLaws.{literal_more, literal_negated, and_makes}
 use Rattle.sv_circuits.specs.Words.{Word, WordMaker, ready_bit, equals_number_bit, number_tests}
 use Rattle.sv_circuits.specs.Operators.{picked_from, picked_bit, number_count}
 use Rattle.sv_circuits.specs.Circuits.{bits_of, IsWord, IsBase, GivesBit}
-use Rattle.sv_circuits.proofs.Pieces.{base_more, word_more, GivesEach, values_of, chain_gives, chained}
+use Rattle.sv_circuits.proofs.Pieces.{base_more, word_more, mux_behind, GivesEach, values_of}
+use Rattle.sv_circuits.proofs.Pieces.{chain_gives, chained}
 use Rattle.sv_circuits.proofs.BitPieces.{ready_gives, bit_as, true_is, true_known, false_is}
 use Rattle.sv_circuits.proofs.BitPieces.{false_known}
 use Rattle.sv_circuits.proofs.Products.{take_is, take_bits}
@@ -85,46 +86,53 @@ picked_makes index r j [] old base is_index is_r is =
     base.closed is_r (λ values e. refl)
 picked_makes index r j (bit ∷ bits) old base is_index is_r is =
     let equal = equals_number_bit index j old in
-    let pe = equals_number_gives old.variables index j is_index old (omega arith) base in
-    let n1 = (equal.0).variables in
-    let up1 = pe.extends.begins.grows in
-    let base1 = base_more old equal.0 base pe.extends in
     let m = mux_gate equal.1 bit r equal.0 in
-    let pm = mux_makes equal.1 bit r equal.0 base1.closed pe.within
-    (literal_more old.variables n1 bit up1 is.0) (literal_more old.variables n1 r up1 is_r) in
-    let n2 = (m.0).variables in
-    let up2 = pm.extends.begins.grows in
-    let up : old.variables ≤ n2 = omega (arith, up1, up2) in
+    let pm = mux_behind old equal (λ values. is_number_bits (bits_of values index) j) bit r
+    (equals_number_gives old.variables index j is_index old (omega arith) base) is.0 is_r in
+    let n = (m.0).variables in
+    let up = pm.extends.begins.grows in
     let rest = picked_from index m.1 (suc j) bits m.0 in
-    let q = picked_makes index m.1 (suc j) bits m.0 (base_more equal.0 m.0 base1 pm.extends)
-    (word_more old.variables n2 index up is_index) pm.within
-    (word_more old.variables n2 bits up is.1) in
-    makes_as old rest rest.1 IsLiteral IsLiteral
-    (λ values l. (literal_true values equal.1 ≡ is_number_bits (bits_of values index) j)
-    × ((literal_true values m.1
-    ≡ (if literal_true values equal.1 then literal_true values bit else literal_true values r))
-    × (literal_true values l ≡ picked_bits (bits_of values index) (literal_true values m.1) (suc j)
-    (bits_of values bits))))
-    (λ values l. literal_true values l
-    ≡ picked_bits (bits_of values index) (literal_true values r) j (bits_of values (bit ∷ bits)))
-    (makes_then old equal rest IsLiteral IsLiteral
-    (λ values l. literal_true values l ≡ is_number_bits (bits_of values index) j)
-    (λ values l. (literal_true values m.1
-    ≡ (if literal_true values equal.1 then literal_true values bit else literal_true values r))
-    × (literal_true values l ≡ picked_bits (bits_of values index) (literal_true values m.1) (suc j)
-    (bits_of values bits)))
-    pe
-    (makes_then equal.0 m rest IsLiteral IsLiteral
-    (λ values l. literal_true values l
-    ≡ (if literal_true values equal.1 then literal_true values bit else literal_true values r))
-    (λ values l. literal_true values l ≡ picked_bits (bits_of values index)
-    (literal_true values m.1) (suc j) (bits_of values bits))
-    pm q))
-    (λ is. is)
-    (λ values e. e.1.1 ∙ ap (λ z. picked_bits (bits_of values index) z (suc j) (bits_of values bits))
-    (e.1.0 ∙ ap (λ z. if z then literal_true values bit else literal_true values r) e.0))
+    let q = picked_makes index m.1 (suc j) bits m.0 (base_more old m.0 base pm.extends)
+    (word_more old.variables n index up is_index) pm.within
+    (word_more old.variables n bits up is.1) in
+    record {
+      extends = extends_trans old m.0 rest.0 pm.extends q.extends;
+      within = q.within;
+      says = λ values e. q.says values e
+          ∙ ap (λ z. picked_bits (bits_of values index) z (suc j) (bits_of values bits))
+          (pm.says values (meets-begins m.0 rest.0 values q.extends.begins e));
+    }
 
--- the index is made first
+-- the index is made first, and keeps its meaning
+pub picked_behind : (word : Word) (signed : Bool) (make : WordMaker) (Inside : ℕ → Word → Type 0)
+    (Means : (ℕ → Bool) → Word → Type 0) (old : Formula) → IsBase old →
+    IsWord old.variables word → Makes old (make old) Inside Means →
+    IsWord ((make old).0).variables (make old).1 →
+    Makes old (picked_bit word signed make old) IsLiteral (λ values l.
+    Means values (make old).1
+    × (literal_true values l ≡ picked_bits (bits_of values (make old).1) false 0
+    (take (number_count (length (make old).1) signed) (bits_of values word))))
+picked_behind word signed make Inside Means old base is p is_index =
+    let first = make old in
+    let n = (first.0).variables in
+    let base1 = base_more old first.0 base p.extends in
+    let k = number_count (length first.1) signed in
+    let made = picked_from first.1 false_literal 0 (take k word) first.0 in
+    let q = picked_makes first.1 false_literal 0 (take k word) first.0 base1 is_index
+    (literal_more 1 n false_literal base1.some false_is)
+    (take_is n k word (word_more old.variables n word p.extends.begins.grows is)) in
+    let extends = extends_trans old first.0 made.0 p.extends q.extends in
+    record {
+      extends = extends;
+      within = q.within;
+      says = λ values e. (
+        p.says values (meets-begins first.0 made.0 values q.extends.begins e),
+        q.says values e ∙ ap₂ (λ z bs. picked_bits (bits_of values first.1) z 0 bs)
+            (false_known values ((base_more old made.0 base extends).truth values e))
+            (take_bits values k word),
+      );
+    }
+
 pub picked_bit_makes : (word : Word) (signed : Bool) (make : WordMaker)
     (index : (ℕ → Bool) → List Bool) (old : Formula) → IsBase old → IsWord old.variables word →
     Makes old (make old) IsWord (λ values made. bits_of values made ≡ index values) →
@@ -132,27 +140,13 @@ pub picked_bit_makes : (word : Word) (signed : Bool) (make : WordMaker)
     ≡ picked_bits (index values) false 0
     (take (number_count (length (make old).1) signed) (bits_of values word)))
 picked_bit_makes word signed make index old base is p =
-    let first = make old in
-    let n1 = (first.0).variables in
-    let base1 = base_more old first.0 base p.extends in
-    let k = number_count (length first.1) signed in
-    let made = picked_from first.1 false_literal 0 (take k word) first.0 in
-    let q = picked_makes first.1 false_literal 0 (take k word) first.0 base1 p.within
-    (literal_more 1 n1 false_literal base1.some false_is)
-    (take_is n1 k word (word_more old.variables n1 word p.extends.begins.grows is)) in
-    let both = makes_then old first made IsWord IsLiteral
-    (λ values w. bits_of values w ≡ index values)
-    (λ values l. literal_true values l ≡ picked_bits (bits_of values first.1)
-    (literal_true values false_literal) 0 (bits_of values (take k word))) p q in
+    let k = number_count (length (make old).1) signed in
+    let both = picked_behind word signed make IsWord (λ values made. bits_of values made ≡ index values)
+    old base is p p.within in
     record {
       extends = both.extends;
       within = both.within;
       says = λ values e.
           let said = both.says values e in
-          said.1
-          ∙ ap (λ xs. picked_bits xs (literal_true values false_literal) 0
-          (bits_of values (take k word))) said.0
-          ∙ ap₂ (λ z bs. picked_bits (index values) z 0 bs)
-          (false_known values ((base_more old made.0 base both.extends).truth values e))
-          (take_bits values k word);
+          said.1 ∙ ap (λ xs. picked_bits xs false 0 (take k (bits_of values word))) said.0;
     }

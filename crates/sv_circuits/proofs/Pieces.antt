@@ -1,11 +1,14 @@
 -- Pieces of an encoding put together: one after the other, as a word of bits, and as a chain.
 use Rattle.std.proofs.Common.{◌≡◌, ℕ, ◌≤◌, Bool, true, ℤ, List, []}
 use Rattle.std.proofs.Common.{◌∷◌, map, fold, refl, ap, ap₂, ◌∙◌, arith}
+use Rattle.std.proofs.Common.{if◌then◌else◌}
 use Rattle.sv_clause.specs.Literals.{literal_true}
-use Rattle.sv_gates.specs.Formulas.{Formula, IsLiteral, IsClosed}
+use Rattle.sv_gates.specs.Formulas.{Formula, meets, IsLiteral, IsClosed}
+use Rattle.sv_gates.specs.Gates.{mux_gate}
 use Rattle.sv_gates.specs.Extending.{Extends, Makes}
-use Rattle.sv_gates.proofs.ExtendingLaws.{meets-begins, makes_at_once, makes_then, makes_as}
-use Rattle.sv_gates.proofs.GateLaws.{literal_more}
+use Rattle.sv_gates.proofs.ExtendingLaws.{extends_trans, meets-begins}
+use Rattle.sv_gates.proofs.ExtendingLaws.{makes_at_once, makes_then, makes_as}
+use Rattle.sv_gates.proofs.GateLaws.{literal_more, mux_makes}
 use Rattle.sv_circuits.specs.Words.{Word, BitMaker, made_in_turn, chain_from, chain}
 use Rattle.sv_circuits.specs.Circuits.{bits_of, IsWord, IsBase, GivesBit, GivesWord}
 
@@ -20,6 +23,38 @@ base_more old new base extends = record {
 pub word_more : (m n : ℕ) (word : Word) → m ≤ n → IsWord m word → IsWord n word
 word_more m n [] h is = tt
 word_more m n (l ∷ word) h is = (literal_more m n l h is.0, word_more m n word h is.1)
+
+-- a piece with a meaning that follows from its own
+pub makes_meaning : {A : Type 0} {old : Formula} {made : Formula × A} {Inside : ℕ → A → Type 0}
+    {Means : (ℕ → Bool) → A → Type 0} → Makes old made Inside Means →
+    (Says : (ℕ → Bool) → A → Type 0) →
+    ((values : ℕ → Bool) → meets values (made.0).clauses ≡ true → Means values made.1 →
+    Says values made.1) → Makes old made Inside Says
+makes_meaning p Says follows = record {
+  extends = p.extends;
+  within = p.within;
+  says = λ values e. follows values e (p.says values e);
+}
+
+-- a multiplexer by a literal that was made, of two that were there before
+pub mux_behind : (old : Formula) (first : Formula × ℤ) (v : (ℕ → Bool) → Bool) (a b : ℤ) →
+    Makes old first IsLiteral (λ values l. literal_true values l ≡ v values) →
+    IsLiteral old.variables a → IsLiteral old.variables b →
+    Makes old (mux_gate first.1 a b first.0) IsLiteral (λ values l. literal_true values l
+    ≡ (if v values then literal_true values a else literal_true values b))
+mux_behind old first v a b p is_a is_b =
+    let n = (first.0).variables in
+    let up = p.extends.begins.grows in
+    let made = mux_gate first.1 a b first.0 in
+    let q = mux_makes first.1 a b first.0 p.extends.closed p.within
+    (literal_more old.variables n a up is_a) (literal_more old.variables n b up is_b) in
+    record {
+      extends = extends_trans old first.0 made.0 p.extends q.extends;
+      within = q.within;
+      says = λ values e. q.says values e
+          ∙ ap (λ z. if z then literal_true values a else literal_true values b)
+          (p.says values (meets-begins first.0 made.0 values q.extends.begins e));
+    }
 
 -- ---- bits one after the other
 

@@ -43,11 +43,11 @@ word_join n [] b is more = more
 word_join n (first ∷ a) b is more = (is.0, word_join n a b is.1 more)
 
 -- the first literal of what is left, and the rest
-pub word_first : (n : ℕ) (word more : Word) (l : ℤ) → IsWord n word → word ≡ l ∷ more → IsLiteral n l
-word_first n word more l is e = (subst (IsWord n) e is).0
+pub word_first : (n : ℕ) {word more : Word} {l : ℤ} → IsWord n word → word ≡ l ∷ more → IsLiteral n l
+word_first n is e = (subst (IsWord n) e is).0
 
-pub word_rest : (n : ℕ) (word more : Word) (l : ℤ) → IsWord n word → word ≡ l ∷ more → IsWord n more
-word_rest n word more l is e = (subst (IsWord n) e is).1
+pub word_rest : (n : ℕ) {word more : Word} {l : ℤ} → IsWord n word → word ≡ l ∷ more → IsWord n more
+word_rest n is e = (subst (IsWord n) e is).1
 
 -- what is left of a word at the turn that takes this literal
 pub turn_of : (word : Word) (i : ℕ) (l : ℤ) → i < length word → l ≡ get_or word i l →

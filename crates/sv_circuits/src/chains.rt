@@ -2,9 +2,9 @@
 ghost use Rattle.std.specs.Prelude.{◌≡◌, ◌≤◌, ◌<◌, IfOk, IfSome, IsErrOf, map};
 ghost use Rattle.sv_gates.specs.Extending.{Begins};
 ghost use Rattle.sv_gates.specs.Formulas.{IsLiteral, most_variables};
-ghost use Rattle.sv_circuits.specs.Words.{ready_bit, chain, and_chain, or_chain, xor_chain};
+ghost use Rattle.sv_circuits.specs.Words.{ready_bit};
 ghost use Rattle.sv_circuits.specs.Circuits.{IsWord};
-ghost use Rattle.sv_circuits.specs.BitGates.{gate_of, joined_to};
+ghost use Rattle.sv_circuits.specs.BitGates.{none_of, chain_of, joined_to};
 
 use crate::bit_gates::{BitGate, joined};
 use crate::words::{falsity, truth};
@@ -34,70 +34,35 @@ pub fn joined_to(
     }
 }
 
-/// The chain of a word's literals, and `none` where there are none.
-pub fn chain(
-    gates: &mut Gates,
-    gate: BitGate,
-    none: Literal,
-    word: &[Literal],
-) -> Result<Literal, GateFault>
-    requires none { IsLiteral gates.old.variables none }
-    requires word { IsWord gates.old.variables word.now }
+// The literal that stands for a chain without members.
+fn none_of(gates: &Gates, gate: BitGate) -> Literal
+    ensures value { result ≡ none_of gate }
+    ensures within { IsLiteral gates.now.variables result }
+{
+    match gate {
+        BitGate::And => truth(gates),
+        BitGate::Or => falsity(gates),
+        BitGate::Xor => falsity(gates),
+        BitGate::Xnor => truth(gates),
+    }
+}
+
+/// The chain of a word's literals.
+pub fn chain(gates: &mut Gates, gate: BitGate, word: &[Literal]) -> Result<Literal, GateFault>
+    requires { IsWord gates.old.variables word.now }
     ensures made { IfOk result (λ g.
-        chain (gate_of gate) none (map ready_bit word.now) gates.old ≡ (gates.new, g)) }
+        chain_of gate (map ready_bit word.now) gates.old ≡ (gates.new, g)) }
     ensures within { IfOk result (IsLiteral gates.new.variables) }
     ensures begins { Begins gates.old gates.new }
-    ensures full { IsErrOf result GateFault.Full → most_variables
-        < ((chain (gate_of gate) none (map ready_bit word.now) gates.old).0).variables }
+    ensures full { IsErrOf result GateFault.Full
+        → most_variables < ((chain_of gate (map ready_bit word.now) gates.old).0).variables }
 {
     let Some((first, more)) = word.split_first() else {
-        return Ok(none);
+        return Ok(none_of(gates, gate));
     };
     let mut before = *first;
     'members: for literal in more {
         before = joined(gates, gate, before, *literal)?;
     }
     Ok(before)
-}
-
-/// All literals are true.
-pub fn all(gates: &mut Gates, word: &[Literal]) -> Result<Literal, GateFault>
-    requires { IsWord gates.old.variables word.now }
-    ensures made { IfOk result (λ g.
-        and_chain (map ready_bit word.now) gates.old ≡ (gates.new, g)) }
-    ensures within { IfOk result (IsLiteral gates.new.variables) }
-    ensures begins { Begins gates.old gates.new }
-    ensures full { IsErrOf result GateFault.Full
-        → most_variables < ((and_chain (map ready_bit word.now) gates.old).0).variables }
-{
-    let none = truth(gates);
-    chain(gates, BitGate::And, none, word)
-}
-
-/// Some literal is true.
-pub fn any(gates: &mut Gates, word: &[Literal]) -> Result<Literal, GateFault>
-    requires { IsWord gates.old.variables word.now }
-    ensures made { IfOk result (λ g.
-        or_chain (map ready_bit word.now) gates.old ≡ (gates.new, g)) }
-    ensures within { IfOk result (IsLiteral gates.new.variables) }
-    ensures begins { Begins gates.old gates.new }
-    ensures full { IsErrOf result GateFault.Full
-        → most_variables < ((or_chain (map ready_bit word.now) gates.old).0).variables }
-{
-    let none = falsity(gates);
-    chain(gates, BitGate::Or, none, word)
-}
-
-/// An odd number of literals is true.
-pub fn odd(gates: &mut Gates, word: &[Literal]) -> Result<Literal, GateFault>
-    requires { IsWord gates.old.variables word.now }
-    ensures made { IfOk result (λ g.
-        xor_chain (map ready_bit word.now) gates.old ≡ (gates.new, g)) }
-    ensures within { IfOk result (IsLiteral gates.new.variables) }
-    ensures begins { Begins gates.old gates.new }
-    ensures full { IsErrOf result GateFault.Full
-        → most_variables < ((xor_chain (map ready_bit word.now) gates.old).0).variables }
-{
-    let none = falsity(gates);
-    chain(gates, BitGate::Xor, none, word)
 }

@@ -11,7 +11,7 @@ ghost use Rattle.sv_circuits.specs.Circuits.{IsWord};
 
 use crate::adders::{difference, minus, sum};
 use crate::bit_gates::{BitGate, bitwise};
-use crate::chains::{all, any, odd};
+use crate::chains::chain;
 use crate::comparators::{equal, less};
 use crate::multipliers::product;
 use crate::shifters::{Direction, shifted};
@@ -30,7 +30,7 @@ pub fn not_zero(gates: &mut Gates, word: &[Literal]) -> Result<Literal, GateFaul
     ensures full { IsErrOf result GateFault.Full
         → most_variables < ((not_zero_bit word.now gates.old).0).variables }
 {
-    any(gates, word)
+    chain(gates, BitGate::Or, word)
 }
 
 // A literal as a word.
@@ -61,34 +61,13 @@ pub fn unary(
         UnOp::Plus => Ok(copied(alloc, a)?),
         UnOp::Minus => minus(alloc, gates, a),
         UnOp::Invert => Ok(inverted(alloc, a)?),
-        UnOp::LogicNot => {
-            let bit = any(gates, a)?;
-            Ok(one_bit(alloc, bit.negated())?)
-        }
-        UnOp::Nor => {
-            let bit = any(gates, a)?;
-            Ok(one_bit(alloc, bit.negated())?)
-        }
-        UnOp::And => {
-            let bit = all(gates, a)?;
-            Ok(one_bit(alloc, bit)?)
-        }
-        UnOp::Nand => {
-            let bit = all(gates, a)?;
-            Ok(one_bit(alloc, bit.negated())?)
-        }
-        UnOp::Or => {
-            let bit = any(gates, a)?;
-            Ok(one_bit(alloc, bit)?)
-        }
-        UnOp::Xor => {
-            let bit = odd(gates, a)?;
-            Ok(one_bit(alloc, bit)?)
-        }
-        UnOp::Xnor => {
-            let bit = odd(gates, a)?;
-            Ok(one_bit(alloc, bit.negated())?)
-        }
+        UnOp::LogicNot => Ok(one_bit(alloc, chain(gates, BitGate::Or, a)?.negated())?),
+        UnOp::And => Ok(one_bit(alloc, chain(gates, BitGate::And, a)?)?),
+        UnOp::Nand => Ok(one_bit(alloc, chain(gates, BitGate::And, a)?.negated())?),
+        UnOp::Or => Ok(one_bit(alloc, chain(gates, BitGate::Or, a)?)?),
+        UnOp::Nor => Ok(one_bit(alloc, chain(gates, BitGate::Or, a)?.negated())?),
+        UnOp::Xor => Ok(one_bit(alloc, chain(gates, BitGate::Xor, a)?)?),
+        UnOp::Xnor => Ok(one_bit(alloc, chain(gates, BitGate::Xor, a)?.negated())?),
     }
 }
 

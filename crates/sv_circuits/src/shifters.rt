@@ -2,7 +2,7 @@
 ghost use Rattle.std.specs.Prelude.{◌≡◌, ◌≤◌, ◌<◌, IfOk, IsErrOf};
 ghost use Rattle.sv_gates.specs.Extending.{Begins};
 ghost use Rattle.sv_gates.specs.Formulas.{IsLiteral, most_variables};
-ghost use Rattle.sv_circuits.specs.Operators.{moved_up, moved_down, shifted_word};
+ghost use Rattle.sv_circuits.specs.Operators.{shifted_word};
 ghost use Rattle.sv_circuits.specs.Circuits.{IsWord};
 ghost use Rattle.sv_circuits.specs.Moves.{move_of};
 
@@ -20,38 +20,7 @@ pub enum Direction {
     Down,
 }
 
-/// A word moved up by so many bits, with a literal in the bits that it leaves.
-pub fn moved_up(
-    alloc: Global,
-    fill: Literal,
-    by: usize,
-    word: &[Literal],
-) -> Result<Vec<Literal>, AllocError>
-    ensures { IfOk result (λ made. made.items ≡ moved_up fill by word.now) }
-{
-    let by = by.min(word.len());
-    let mut made = Vec::with_capacity(alloc, word.len())?;
-    append_same(&mut made, by, fill)?;
-    append_word(&mut made, &word[..word.len() - by])?;
-    Ok(made)
-}
-
-/// A word moved down by so many bits, with a literal in the bits that it leaves.
-pub fn moved_down(
-    alloc: Global,
-    fill: Literal,
-    by: usize,
-    word: &[Literal],
-) -> Result<Vec<Literal>, AllocError>
-    ensures { IfOk result (λ made. made.items ≡ moved_down fill by word.now) }
-{
-    let by = by.min(word.len());
-    let mut made = copied(alloc, &word[by..])?;
-    append_same(&mut made, by, fill)?;
-    Ok(made)
-}
-
-// A word moved in a direction.
+// A word moved in a direction by so many bits, with a literal in the bits that it leaves.
 fn moved(
     alloc: Global,
     direction: Direction,
@@ -61,9 +30,19 @@ fn moved(
 ) -> Result<Vec<Literal>, AllocError>
     ensures { IfOk result (λ made. made.items ≡ move_of direction fill by word.now) }
 {
+    let by = by.min(word.len());
     match direction {
-        Direction::Up => moved_up(alloc, fill, by, word),
-        Direction::Down => moved_down(alloc, fill, by, word),
+        Direction::Up => {
+            let mut made = Vec::with_capacity(alloc, word.len())?;
+            append_same(&mut made, by, fill)?;
+            append_word(&mut made, &word[..word.len() - by])?;
+            Ok(made)
+        }
+        Direction::Down => {
+            let mut made = copied(alloc, &word[by..])?;
+            append_same(&mut made, by, fill)?;
+            Ok(made)
+        }
     }
 }
 

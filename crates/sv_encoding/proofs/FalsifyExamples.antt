@@ -86,33 +86,20 @@ all_say design k = list_all (says design) (numbered design k)
 
 -- ---- designs
 
-pub of_turns : all_say turns 1 && all_say turns 2 ≡ true
+pub of_owners : all_say turns 1 && all_say turns 2 && all_say owned 2 && all_say owned 3 ≡ true
 unfolding put ascending with_clause
-of_turns = refl
+of_owners = refl
 
-pub of_owned : all_say owned 2 && all_say owned 3 ≡ true
+pub of_wires :
+    all_say wired 3 && all_say wired 4 && all_say by_two 1 && all_say by_two 2
+    && all_say mended 1 && all_say mended 2 ≡ true
 unfolding put ascending with_clause
-of_owned = refl
+of_wires = refl
 
-pub of_wired : all_say wired 3 && all_say wired 4 ≡ true
+pub of_bodies :
+    all_say cased 1 && all_say cased 2 && all_say cased 3 && all_say followed_signals 1 ≡ true
 unfolding put ascending with_clause
-of_wired = refl
-
-pub of_two_selectors : all_say by_two 1 && all_say by_two 2 ≡ true
-unfolding put ascending with_clause
-of_two_selectors = refl
-
-pub of_mended : all_say mended 1 && all_say mended 2 ≡ true
-unfolding put ascending with_clause
-of_mended = refl
-
-pub of_cased : all_say cased 1 && all_say cased 2 && all_say cased 3 ≡ true
-unfolding put ascending with_clause
-of_cased = refl
-
-pub of_followed : all_say followed_signals 1 ≡ true
-unfolding put ascending with_clause
-of_followed = refl
+of_bodies = refl
 
 -- with a fact, and an expression that has to hold in this cycle or in the next one
 pub of_holds :

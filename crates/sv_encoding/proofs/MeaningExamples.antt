@@ -8,7 +8,6 @@ use Rattle.std.specs.List.{list_all, range_with_len}
 use Rattle.sv_num.specs.declared.operators.UnOp.TheVariants as unop
 use Rattle.sv_num.specs.declared.operators.BinOp.{BinOp}
 use Rattle.sv_num.specs.declared.operators.BinOp.TheVariants as binop
-use Rattle.sv_lattice.specs.declared.labels.Label.TheVariants.{Point}
 use Rattle.sv_flat.specs.declared.signals.SigKind.TheVariants.{Net}
 use Rattle.sv_flat.specs.Design.{SignalForm, TypedTree, typed, constant, read, read_bit, read_part}
 use Rattle.sv_flat.specs.Design.{unary, binary, choice, join, replication, held, held_bit}
@@ -23,21 +22,12 @@ use Rattle.sv_circuits.specs.Words.{Word, fresh_word}
 use Rattle.sv_encoding.specs.Expressions.{Words, expression_word}
 use Rattle.sv_circuits.specs.Words.{word_value}
 use Rattle.sv_encoding.proofs.Carrying.{carried}
+use Rattle.sv_encoding.proofs.DesignForms.{typed_signal, low}
 
 -- ---- two signals of three bits
 
-abbrev net : ℕ → Bool → SignalForm
-net width is_signed = record {
-  name = [];
-  width = width;
-  signed = is_signed;
-  kind = Net;
-  label = Point (record { 0 = 0 });
-  place = at 1 1;
-}
-
 abbrev signals : Bool → List SignalForm
-signals is_signed = net 3 is_signed ∷ net 3 is_signed ∷ []
+signals is_signed = typed_signal 3 is_signed Net low ∷ typed_signal 3 is_signed Net low ∷ []
 
 abbrev bits : ℕ → List Bool
 bits n = map (λ b. bit_at n b == 1) (range_with_len 0 3)

@@ -36,7 +36,7 @@ use Rattle.sv_gates.proofs.Valuations.{negation_true}
 use Rattle.sv_gates.proofs.GateLaws.{literal_negated}
 use Rattle.sv_circuits.specs.Words.{Word, word_value, negation}
 use Rattle.sv_circuits.specs.Circuits.{IsBase}
-use Rattle.sv_circuits.proofs.Pieces.{base_more, word_more}
+use Rattle.sv_circuits.proofs.Pieces.{base_more, makes_meaning, word_more}
 use Rattle.sv_encoding.specs.Expressions.{Words, is_true_bit}
 use Rattle.sv_encoding.specs.Cones.{label_selectors, named_in, asked_next, next_cone, asked_now}
 use Rattle.sv_encoding.specs.Cones.{conditions_of, registers_in, now_cone}
@@ -358,12 +358,8 @@ module _ (design : FlatDesign) (checked : IsChecked design) (o : Obligation)
       (known_signal s known) base7
       (λ t held. now_word (s7.0).variables (omega (arith, grows5, grows7)) t
       (now t (Contains-from_holds (label_selectors design s) t held))) in
-      record {
-        extends = p.extends;
-        within = p.within;
-        says = λ values met e f spelled. p.says values met e (λ t held.
-            spelled.0 t (now t (Contains-from_holds (label_selectors design s) t held)));
-      }
+      makes_meaning p (TargetMeans (selector s)) (λ values met says e f spelled. says e (λ t held.
+      spelled.0 t (now t (Contains-from_holds (label_selectors design s) t held))))
 
   target_makes : (goal : GoalForm) → IsGoalOf design o goal →
       ((t : ℕ) → Contains (asked_now design goal) t → InCone t) →
@@ -375,12 +371,8 @@ module _ (design : FlatDesign) (checked : IsChecked design) (o : Obligation)
       (known_signal s is.0) base7
       (λ t held. next_word (s7.0).variables grows7 t
       (next t (Contains-from_holds (label_selectors design s) t held))) in
-      record {
-        extends = p.extends;
-        within = p.within;
-        says = λ values met e f spelled. p.says values met f (λ t held.
-            spelled.1 t (next t (Contains-from_holds (label_selectors design s) t held)));
-      }
+      makes_meaning p (TargetMeans (flow s Next)) (λ values met says e f spelled. says f (λ t held.
+      spelled.1 t (next t (Contains-from_holds (label_selectors design s) t held))))
   target_makes (must_hold x frame) is now next =
       makes_at_once s7.0 [] HasLiterals (TargetMeans (must_hold x frame)) base7.closed
       (λ l at. absurd (Contains-nil l at)) (λ values met e f spelled. tt)
@@ -480,20 +472,14 @@ module _ (design : FlatDesign) (checked : IsChecked design) (o : Obligation)
       let p = holds_makes x s2.1 InCone
       (counts InCone (x ∷ []) x (Contains-head x []) is now)
       (wide_now (s9.0).variables (omega (arith, grows5, grows7, grows9))) in
-      record {
-        extends = p.extends;
-        within = p.within;
-        says = λ values met e f spelled. p.says values met e spelled.0;
-      }
+      makes_meaning p (FailsMean (must_hold x Now)) (λ values met says e f spelled.
+      says e spelled.0)
   fails_make (must_hold x Next) is now next labelled =
       let p = holds_makes x s5.1 InLater
       (counts InLater (x ∷ []) x (Contains-head x []) is next)
       (wide_next (s9.0).variables (omega (arith, grows7, grows9))) in
-      record {
-        extends = p.extends;
-        within = p.within;
-        says = λ values met e f spelled. p.says values met f spelled.1;
-      }
+      makes_meaning p (FailsMean (must_hold x Next)) (λ values met says e f spelled.
+      says f spelled.1)
   fails_make (selector s) is now next labelled =
       stays_makes (selector s) s (λ e f. e) labelled
 

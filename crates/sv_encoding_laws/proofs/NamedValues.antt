@@ -128,6 +128,11 @@ module _ (signals : List SignalForm) (P : ℕ → Type 0) where
           (whole_read signals s p)) e))
           (all (indexed_read signals s p i) (Contains-head (indexed_read signals s p i) rest))
 
+  -- what follows from each of two lists follows from both one after the other
+  both : {X Y : Type 0} (xs ys : List ReadForm) → (AllRead xs → X) → (AllRead ys → Y) →
+      AllRead (xs ++ ys) → X × Y
+  both xs ys first second all = (first (left xs ys all), second (right xs ys all))
+
   later : (r : ReadForm) (rest : List ReadForm) → AllRead (r ∷ rest) → AllRead rest
   later r rest all x at = all x (Contains-later r rest x at)
 
@@ -147,10 +152,8 @@ module _ (signals : List SignalForm) (P : ℕ → Type 0) where
         let r : ReadForm = record { signal = t; place = p; high = high; low = low } in
         all r (Contains-head r [])
     named_node_from (unary op a) all = named_from_reads a all
-    named_node_from (binary op a b) all = (
-      named_from_reads a (left (reads signals a) (reads signals b) all),
-      named_from_reads b (right (reads signals a) (reads signals b) all),
-    )
+    named_node_from (binary op a b) all =
+        both (reads signals a) (reads signals b) (named_from_reads a) (named_from_reads b) all
     named_node_from (choice p c a b) all = (
       named_from_reads c (left (reads signals c) (reads signals a)
           (left (reads signals c ++ reads signals a) (reads signals b) all)),
@@ -163,20 +166,14 @@ module _ (signals : List SignalForm) (P : ℕ → Type 0) where
     named_node_from (join es) all = named_parts_from es all
     named_node_from (replication count es) all = named_parts_from es all
     named_node_from (held t a) all = named_from_reads a all
-    named_node_from (held_bit t p a i) all = (
-      named_from_reads a (left (reads signals a) (reads signals i) all),
-      named_from_reads i (right (reads signals a) (reads signals i) all),
-    )
+    named_node_from (held_bit t p a i) all =
+        both (reads signals a) (reads signals i) (named_from_reads a) (named_from_reads i) all
     named_node_from (held_part t p a high low) all = named_from_reads a all
-    named_node_from (mend t a high low piece) all = (
-      named_from_reads a (left (reads signals a) (reads signals piece) all),
-      named_from_reads piece (right (reads signals a) (reads signals piece) all),
-    )
+    named_node_from (mend t a high low piece) all =
+        both (reads signals a) (reads signals piece) (named_from_reads a) (named_from_reads piece) all
     named_node_from (slice a high low) all = named_from_reads a all
 
     named_parts_from : (es : TypedTrees) → AllRead (parts_reads signals es) → NamedParts P es
     named_parts_from no_parts all = tt
-    named_parts_from (more_parts a es) all = (
-      named_from_reads a (left (reads signals a) (parts_reads signals es) all),
-      named_parts_from es (right (reads signals a) (parts_reads signals es) all),
-    )
+    named_parts_from (more_parts a es) all =
+        both (reads signals a) (parts_reads signals es) (named_from_reads a) (named_parts_from es) all

@@ -31,9 +31,9 @@ use Rattle.sv_circuits.specs.Operators.{picked_bit, unary_word, binary_word}
 use Rattle.sv_circuits.specs.Circuits.{bits_of, IsWord, IsBase}
 use Rattle.sv_circuits.proofs.Pieces.{base_more, word_more}
 use Rattle.sv_circuits.proofs.BitPieces.{joined_bits, some_gives, false_is, false_known}
-use Rattle.sv_circuits.proofs.Products.{bits_length, take_is, take_bits}
+use Rattle.sv_circuits.proofs.Products.{bits_length}
 use Rattle.sv_circuits.proofs.Shifts.{chosen_bit, chosen_gives}
-use Rattle.sv_circuits.proofs.Picks.{picked_bits, picked_makes}
+use Rattle.sv_circuits.proofs.Picks.{picked_bits, picked_behind}
 use Rattle.sv_circuits.specs.Operators.{number_count}
 use Rattle.sv_encoding.specs.Expressions.{operand_word, bit_at_number}
 use Rattle.sv_circuits.proofs.OperatorBits.{unary_makes, binary_makes, unary_bits, binary_bits}
@@ -349,16 +349,8 @@ pub picked_step : (old : Formula) (word : Word) (size : ℕ) (value : (ℕ → B
     ≡ bit_or_zero size (word_value values word) (as_number width signed (index values)))
 picked_step old word size value signed make width index base some has p =
     let first = make old in
-    let made = picked_bit word signed make old in
-    let n1 = (first.0).variables in
-    let base1 = base_more old first.0 base p.extends in
-    let k = number_count (length first.1) signed in
-    let q = picked_makes first.1 false_literal 0 (take k word) first.0 base1 p.within.is
-    (literal_more 1 n1 false_literal base1.some false_is)
-    (take_is n1 k word (word_more old.variables n1 word p.extends.begins.grows has.is)) in
-    let both = makes_then old first made (HasWidth width) IsLiteral (Spells index)
-    (λ values l. literal_true values l ≡ picked_bits (bits_of values first.1)
-    (literal_true values false_literal) 0 (bits_of values (take k word))) p q in
+    let both = picked_behind word signed make (HasWidth width) (Spells index) old base has.is p
+    p.within.is in
     record {
       extends = both.extends;
       within = both.within;
@@ -367,10 +359,7 @@ picked_step old word size value signed make width index base some has p =
           let xs = bits_of values first.1 in
           let ws = bits_of values word in
           let wide : length xs ≡ width = bits_length values first.1 ∙ p.within.width in
-          ap truth (said.1
-          ∙ ap₂ (λ z bs. picked_bits xs z 0 bs)
-          (false_known values ((base_more old made.0 base both.extends).truth values e))
-          (take_bits values k word))
+          ap truth said.1
           ∙ ap (λ j. truth (picked_bits xs false 0 (take (number_count j signed) ws)))
           (sym (bits_length values first.1))
           ∙ picked_value xs ws signed (subst (λ j. 1 ≤ j) (sym wide) some)

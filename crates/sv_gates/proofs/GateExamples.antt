@@ -26,40 +26,35 @@ one_sign = refl
 abbrev two_inputs : Formula
 two_inputs = (fresh_variable (fresh_variable start).0).0
 
--- those, and a gate with these clauses
-abbrev with_gate : List (List ℤ) → Formula
-with_gate clauses = record { variables = 4; clauses = (pos 1 ∷ []) ∷ clauses }
+-- those and a gate with these clauses, and the gate's literal
+abbrev with_gate : List (List ℤ) → ℤ → Formula × ℤ
+with_gate clauses literal =
+    (record { variables = 4; clauses = (pos 1 ∷ []) ∷ clauses }, literal)
 
 -- 4 is 2 and 3
-and_of_two : and_gate (pos 2) (pos 3) two_inputs ≡ (
-  with_gate ((pos 2 ∷ negsuc 3 ∷ [])
-      ∷ (pos 3 ∷ negsuc 3 ∷ []) ∷ (negsuc 1 ∷ negsuc 2 ∷ pos 4 ∷ []) ∷ []),
-  pos 4,
-)
+and_of_two : and_gate (pos 2) (pos 3) two_inputs ≡ with_gate ((pos 2 ∷ negsuc 3 ∷ [])
+    ∷ (pos 3 ∷ negsuc 3 ∷ []) ∷ (negsuc 1 ∷ negsuc 2 ∷ pos 4 ∷ []) ∷ []) (pos 4)
 unfolding put ascending with_clause
 and_of_two = refl
 
 -- -4 is 2 or 3: 4 is the AND of -2 and -3
-or_of_two : or_gate (pos 2) (pos 3) two_inputs ≡ (
-  with_gate ((negsuc 1 ∷ negsuc 3 ∷ [])
-      ∷ (negsuc 2 ∷ negsuc 3 ∷ []) ∷ (pos 2 ∷ pos 3 ∷ pos 4 ∷ []) ∷ []),
-  negsuc 3,
-)
+or_of_two : or_gate (pos 2) (pos 3) two_inputs ≡ with_gate ((negsuc 1 ∷ negsuc 3 ∷ [])
+    ∷ (negsuc 2 ∷ negsuc 3 ∷ []) ∷ (pos 2 ∷ pos 3 ∷ pos 4 ∷ []) ∷ []) (negsuc 3)
 unfolding put ascending with_clause
 or_of_two = refl
 
 -- 4 is whether 2 and 3 differ
-xor_of_two : (xor_gate (pos 2) (pos 3) two_inputs).0 ≡ with_gate ((pos 2 ∷ pos 3 ∷ negsuc 3 ∷ [])
+xor_of_two : xor_gate (pos 2) (pos 3) two_inputs ≡ with_gate ((pos 2 ∷ pos 3 ∷ negsuc 3 ∷ [])
     ∷ (negsuc 1 ∷ negsuc 2 ∷ negsuc 3 ∷ []) ∷ (negsuc 1 ∷ pos 3 ∷ pos 4 ∷ [])
-    ∷ (pos 2 ∷ negsuc 2 ∷ pos 4 ∷ []) ∷ [])
+    ∷ (pos 2 ∷ negsuc 2 ∷ pos 4 ∷ []) ∷ []) (pos 4)
 unfolding put ascending with_clause
 xor_of_two = refl
 
 -- 4 is 3 where 2 holds, and false elsewhere: the clauses with the literal that is always false, and
 -- with that which is always true, are kept
-mux_of_two : (mux_gate (pos 2) (pos 3) false_literal two_inputs).0 ≡ with_gate (
+mux_of_two : mux_gate (pos 2) (pos 3) false_literal two_inputs ≡ with_gate (
     (negsuc 1 ∷ pos 3 ∷ negsuc 3 ∷ []) ∷ (negsuc 0 ∷ pos 2 ∷ negsuc 3 ∷ [])
-    ∷ (negsuc 1 ∷ negsuc 2 ∷ pos 4 ∷ []) ∷ (pos 1 ∷ pos 2 ∷ pos 4 ∷ []) ∷ [])
+    ∷ (negsuc 1 ∷ negsuc 2 ∷ pos 4 ∷ []) ∷ (pos 1 ∷ pos 2 ∷ pos 4 ∷ []) ∷ []) (pos 4)
 unfolding put ascending with_clause
 mux_of_two = refl
 

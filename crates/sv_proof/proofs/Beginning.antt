@@ -1,6 +1,6 @@
 -- Lines that were read begin a certificate: steps and logs that are still wanted can be filled in.
 use Rattle.std.proofs.Common.{◌≡◌, ℕ, ◌+◌, ◌-◌, ◌<◌, ◌≤◌, ◌^◌, List, [], ◌∷◌, ◌++◌, refl, sym, ap}
-use Rattle.std.proofs.Common.{◌∙◌, subst, ⊎_elim, inr, length, map, replicate, All, codes, decimal}
+use Rattle.std.proofs.Common.{◌∙◌, subst, ⊎_elim, inl, inr, length, map, replicate, All, codes, decimal}
 use Rattle.std.proofs.Common.{arith}
 use Rattle.std.proofs.lemmas.List.{append_assoc, append-nil, map-append, length-append, length-map}
 use Rattle.std.proofs.lemmas.List.{length-replicate}
@@ -9,7 +9,8 @@ use Rattle.sv_clause.specs.Logs.{Step}
 use Rattle.sv_proof.specs.Certificate.{step_line, log_line, log_lines, proof_lines, text_of}
 use Rattle.sv_proof.specs.Certificate.{proof_text, IsWritable, IsWritableLog, AreLogs}
 use Rattle.sv_proof.specs.Lines.{BeginCertificate, IsFirstBroken, IsFault}
-use Rattle.sv_proof.specs.Reading.{NextIsNo, IsStepLine, IsLogLine, BeginWithLogs, StopsAtLog}
+use Rattle.sv_proof.specs.Reading.{NextIsNo, IsStepLine, IsLogLine, BeginWithSteps}
+use Rattle.sv_proof.specs.Reading.{BeginWithLogs, StopsAtLog}
 use Rattle.sv_proof.specs.Reading.{StopsInLog, StepsFault, LogsFault}
 use Rattle.sv_proof.specs.declared.read.ProofFault.{ProofFault}
 use Rattle.sv_proof.specs.declared.read.ProofFault.TheVariants.{Text, OutOfMemory}
@@ -267,6 +268,41 @@ module _ (bytes logs_text : List ℕ) (count : ℕ) (head : IsHeaded bytes logs_
 
       pub read_logs : AreLogs logs
       read_logs = are
+
+-- no line of a step comes next
+pub fault_at_step : (bytes rest : List ℕ) (steps : List Step) (count first done : ℕ) →
+    BeginWithSteps bytes steps rest → length steps ≡ done → done < count →
+    NextIsNo IsStepLine rest → StepsFault bytes count first (Text (first + done))
+fault_at_step bytes rest steps count first done b all fewer next = (
+  done,
+  refl,
+  record {
+    steps = steps;
+    rest = rest;
+    begins = b;
+    fewer = omega (arith, all);
+    place_is = sym all;
+    next = next;
+  },
+)
+
+-- no line comes next that begins a log
+pub fault_at_log : (bytes rest : List ℕ) (logs : List (List Step)) (count line done : ℕ) →
+    BeginWithLogs bytes logs rest → length logs ≡ done → done < count →
+    line ≡ 3 + length (log_lines 1 logs) → NextIsNo (IsLogLine (length logs + 1)) rest →
+    LogsFault bytes count (Text line)
+fault_at_log bytes rest logs count line done b all fewer place next = (
+  length (log_lines 1 logs),
+  place,
+  inl (record {
+    logs = logs;
+    rest = rest;
+    begins = b;
+    fewer = omega (arith, all);
+    place_is = refl;
+    next = next;
+  }),
+)
 
 -- a fault in the steps of a log is one in the logs
 pub fault_in_log : (bytes first after : List ℕ) (logs : List (List Step)) (count wanted line : ℕ)

@@ -150,10 +150,14 @@ Expects lines kind =
     (more : List (List ℕ)) → AreCertificate (lines ++ more) →
     (line : List ℕ) × (others : List (List ℕ)) × (more ≡ line ∷ others) × kind line
 
-pub broken : (bytes : List ℕ) (lines : List (List ℕ)) (rest : List ℕ) (n : ℕ) (kind : List ℕ →
-    Type 0) → bytes ≡ text_of lines ++ rest → n ≡ length lines + 1 → BeginCertificate lines →
-    Expects lines kind → NextIsNo kind rest → IsFirstBroken bytes n
-broken bytes lines rest n kind e place begins expects next =
+-- the lines begin a certificate, and neither a line nor the end can come next
+first_broken : (bytes : List ℕ) (lines : List (List ℕ)) (rest : List ℕ) (n : ℕ) →
+    bytes ≡ text_of lines ++ rest → n ≡ length lines + 1 → BeginCertificate lines →
+    ((line more : List ℕ) → Lacks 10 line → rest ≡ line ++ 10 ∷ more →
+    BeginCertificate (lines ++ line ∷ []) → ⊥) →
+    ((more : List (List ℕ)) → AreCertificate (lines ++ more) → rest ≡ text_of more → ⊥) →
+    IsFirstBroken bytes n
+first_broken bytes lines rest n e place begins breaks whole =
     let (first, following, are, front) = begins in
     let lacks : AllByRecursion (Lacks 10) lines =
     all_front (Lacks 10) lines following
@@ -165,20 +169,29 @@ broken bytes lines rest n kind e place begins expects next =
       each = lacks;
       number = place;
       begins = begins;
-      breaks = λ line more l f (logs, others, are', g).
-          let (wanted, later, is, k) =
-          expects (line ∷ others) (logs, are', g ∙ append_assoc lines (line ∷ []) others) in
-          let same : wanted ≡ line = cc in next line more l f (subst kind same k);
+      breaks = breaks;
       incomplete = λ logs are' f.
           let (more, is, text) =
           same_lines lines (proof_lines logs) rest lacks (lines_lack logs are') (sym e ∙ f) in
-          let (line, later, more_is, k) = expects more (logs, are', is) in
-          let line_lacks = (all_back (Lacks 10) lines (line ∷ later)
-          (subst (AllByRecursion (Lacks 10)) (is ∙ ap (λ z. lines ++ z) more_is)
-          (lines_lack logs are'))).0 in
-          next line (text_of later) line_lacks (text ∙ ap text_of more_is
-          ∙ append_assoc line (10 ∷ []) (text_of later)) k;
+          whole more (logs, are', is) text;
     }
+
+pub broken : (bytes : List ℕ) (lines : List (List ℕ)) (rest : List ℕ) (n : ℕ) (kind : List ℕ →
+    Type 0) → bytes ≡ text_of lines ++ rest → n ≡ length lines + 1 → BeginCertificate lines →
+    Expects lines kind → NextIsNo kind rest → IsFirstBroken bytes n
+broken bytes lines rest n kind e place begins expects next =
+    first_broken bytes lines rest n e place begins
+    (λ line more l f (logs, others, are', g).
+    let (wanted, later, is, k) =
+    expects (line ∷ others) (logs, are', g ∙ append_assoc lines (line ∷ []) others) in
+    let same : wanted ≡ line = cc in next line more l f (subst kind same k))
+    (λ more (logs, are', is) text.
+    let (line, later, more_is, k) = expects more (logs, are', is) in
+    let line_lacks = (all_back (Lacks 10) lines (line ∷ later)
+    (subst (AllByRecursion (Lacks 10)) (is ∙ ap (λ z. lines ++ z) more_is)
+    (lines_lack logs are'))).0 in
+    next line (text_of later) line_lacks (text ∙ ap text_of more_is
+    ∙ append_assoc line (10 ∷ []) (text_of later)) k)
 
 -- the whole certificate, and bytes behind it
 pub broken_after : (bytes : List ℕ) (lines : List (List ℕ)) (rest : List ℕ) (n : ℕ) →
@@ -186,24 +199,11 @@ pub broken_after : (bytes : List ℕ) (lines : List (List ℕ)) (rest : List ℕ
     ((more : List (List ℕ)) → AreCertificate (lines ++ more) → more ≡ []) → (rest ≡ [] → ⊥) →
     IsFirstBroken bytes n
 broken_after bytes lines rest n e place (first, are, front) ends some =
-    let lacks : AllByRecursion (Lacks 10) lines =
-    subst (AllByRecursion (Lacks 10)) front (lines_lack first are) in
-    record {
-      lines = lines;
-      rest = rest;
-      parts = e;
-      each = lacks;
-      number = place;
-      begins = (first, [], are, front ∙ sym (append-nil lines));
-      breaks =
-          λ line more l f (logs, others, are', g).
-          let none = ends (line ∷ others) (logs, are', g ∙ append_assoc lines (line ∷ []) others) in
-          (cc);
-      incomplete = λ logs are' f.
-          let (more, is, text) =
-          same_lines lines (proof_lines logs) rest lacks (lines_lack logs are') (sym e ∙ f) in
-          some (text ∙ ap text_of (ends more (logs, are', is)));
-    }
+    first_broken bytes lines rest n e place (first, [], are, front ∙ sym (append-nil lines))
+    (λ line more l f (logs, others, are', g).
+    let none = ends (line ∷ others) (logs, are', g ∙ append_assoc lines (line ∷ []) others) in
+    (cc))
+    (λ more are' text. some (text ∙ ap text_of (ends more are')))
 
 -- the lines behind the first
 abbrev pub behind : List (List ℕ) → List (List ℕ)

@@ -1,6 +1,6 @@
 // The text of certificates, as it is read.
 ghost use Rattle.std.specs.Prelude.{◌≡◌, ◌+◌, ◌<◌, ◌≤◌, ◌^◌, List, length, map, IfOk, IfErr};
-ghost use Rattle.std.specs.Prelude.{MatchResult};
+ghost use Rattle.std.specs.Prelude.{MatchResult, OnOk, ◌++◌, ◌∷◌, []};
 ghost use Rattle.sv_clause.specs.Logs.{Step, plain_step};
 ghost use Rattle.sv_proof.specs.Certificate.{plain_logs, log_lines, proof_lines, proof_text};
 ghost use Rattle.sv_proof.specs.Certificate.{AreLogs};
@@ -10,7 +10,7 @@ ghost use Rattle.sv_proof.specs.declared.read.ProofFault.TheVariants.{OutOfMemor
 
 use crate::fields::{is_line, split_first};
 use crate::steps::{read_counted, read_log_line, read_step};
-use std::alloc::{AllocError, AllocFailed, Global};
+use std::alloc::{AllocError, Global};
 use sv_clause::{Derived, Log};
 use thiserror::Error;
 
@@ -30,14 +30,6 @@ impl From<AllocError> for ProofFault {
     ghost from_gives = { λ _ fault. fault ≡ OutOfMemory };
 
     fn from(_error: AllocError) -> ProofFault {
-        ProofFault::OutOfMemory
-    }
-}
-
-impl<T: Drop> From<AllocFailed<T>> for ProofFault {
-    ghost from_gives = { λ _ fault. fault ≡ OutOfMemory };
-
-    fn from(_error: AllocFailed<T>) -> ProofFault {
         ProofFault::OutOfMemory
     }
 }
@@ -105,6 +97,14 @@ struct ReadSteps<'a> {
     rest: &'a [u8],
 }
 
+// Puts one more at the end.
+fn append<T: Drop>(items: &mut Vec<T>, item: T) -> Result<(), AllocError>
+    ensures { OnOk result (items.new.items ≡ items.old.items ++ item ∷ []) }
+{
+    items.push(item)?;
+    Ok(())
+}
+
 fn read_logs(alloc: Global, bytes: &[u8], count: u64) -> Result<ReadLogs<'_>, ProofFault>
     requires bytes { length bytes.now < 2 ^ 63 }
     requires count { count < 2 ^ 32 }
@@ -130,7 +130,7 @@ fn read_logs(alloc: Global, bytes: &[u8], count: u64) -> Result<ReadLogs<'_>, Pr
         let read = read_steps(alloc, after, wanted, line + 1)?;
         rest = read.rest;
         line = read.line;
-        logs.push(Log { steps: read.steps })?;
+        append(&mut logs, Log { steps: read.steps })?;
         done += 1;
     }
     Ok(ReadLogs { logs, line, rest })
@@ -161,7 +161,7 @@ fn read_steps(
         let Some(step) = read_step(alloc, text)? else {
             return Err(ProofFault::Text(first + done));
         };
-        steps.push(step)?;
+        append(&mut steps, step)?;
         rest = after;
         done += 1;
     }

@@ -13,12 +13,10 @@ sum-init c =
     c.requires.a c.requires.b c.requires.carry)
 
 pub full_adder-requires-clause-a : goal.full_adder-requires-clause-a
-full_adder-requires-clause-a c =
-    (word_first _ _ _ _ c.sum.invariant.first c.in-Some.ensures.steps.0)
+full_adder-requires-clause-a c = word_first _ c.sum.invariant.first c.in-Some.ensures.steps.0
 
 pub full_adder-requires-clause-b : goal.full_adder-requires-clause-b
-full_adder-requires-clause-b c =
-    (word_first _ _ _ _ c.sum.invariant.second c.in-Some.ensures.steps.1)
+full_adder-requires-clause-b c = word_first _ c.sum.invariant.second c.in-Some.ensures.steps.1
 
 pub full_adder-requires-clause-carry : goal.full_adder-requires-clause-carry
 full_adder-requires-clause-carry c = c.sum.invariant.next

@@ -17,12 +17,10 @@ bits-init c =
     tt (bits_whole (gate_of c.args.gate) _ _ _ _ _ _ first second c.in_ok-word.ensures.items)
 
 pub joined-requires-clause-a : goal.joined-requires-clause-a
-joined-requires-clause-a c =
-    (word_first _ _ _ _ c.bits.invariant.first c.in-Some.ensures.steps.0)
+joined-requires-clause-a c = word_first _ c.bits.invariant.first c.in-Some.ensures.steps.0
 
 pub joined-requires-clause-b : goal.joined-requires-clause-b
-joined-requires-clause-b c =
-    (word_first _ _ _ _ c.bits.invariant.second c.in-Some.ensures.steps.1)
+joined-requires-clause-b c = word_first _ c.bits.invariant.second c.in-Some.ensures.steps.1
 
 pub bits-preserved : goal.bits-preserved
 bits-preserved c =
@@ -37,7 +35,7 @@ pub returns-in_err-bit-clause-full : goal.returns-in_err-bit-clause-full
 returns-in_err-bit-clause-full c =
     let same : IsErrOf c.from_residual-in_err-bit.result Full → IsErrOf c.joined.result Full =
     search rules in
-    λ e. left_full _ _ _ _ _ _ _ _ _ c.bits.invariant
+    λ e. left_full c.bits.invariant
     (bits_full (gate_of c.args.gate) _ _ _ _ c.bits.word.items _ _ _ _ (gate_one c.args.gate)
     c.in-Some.ensures.steps.0 c.in-Some.ensures.steps.1 ((c.joined.ensures.full).0 (same e)))
 

@@ -21,12 +21,10 @@ pub mux_gate-requires-clause-c : goal.mux_gate-requires-clause-c
 mux_gate-requires-clause-c c = c.bits.invariant.hand.0
 
 pub mux_gate-requires-clause-a : goal.mux_gate-requires-clause-a
-mux_gate-requires-clause-a c =
-    (word_first _ _ _ _ c.bits.invariant.first c.in-Some.ensures.steps.0)
+mux_gate-requires-clause-a c = word_first _ c.bits.invariant.first c.in-Some.ensures.steps.0
 
 pub mux_gate-requires-clause-b : goal.mux_gate-requires-clause-b
-mux_gate-requires-clause-b c =
-    (word_first _ _ _ _ c.bits.invariant.second c.in-Some.ensures.steps.1)
+mux_gate-requires-clause-b c = word_first _ c.bits.invariant.second c.in-Some.ensures.steps.1
 
 pub bits-preserved : goal.bits-preserved
 bits-preserved c =
@@ -43,7 +41,7 @@ pub returns-in_err-bit-clause-full : goal.returns-in_err-bit-clause-full
 returns-in_err-bit-clause-full c =
     let same : IsErrOf c.from_residual-in_err-bit.result Full → IsErrOf c.mux_gate.result Full =
     search rules in
-    λ e. left_full _ _ _ _ _ _ _ _ _ c.bits.invariant
+    λ e. left_full c.bits.invariant
     (bits_full (mux_gate c.args.c) _ _ _ _ c.bits.word.items _ _ _ _ (mux_takes c.args.c)
     c.in-Some.ensures.steps.0 c.in-Some.ensures.steps.1 ((c.mux_gate.ensures.full).0 (same e)))
 

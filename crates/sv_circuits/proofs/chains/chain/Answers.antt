@@ -1,33 +1,33 @@
-use Rattle.std.proofs.Common.{◌≡◌, ap, ◌∙◌, rules, refl, ◌∷◌, map}
+use Rattle.std.proofs.Common.{◌≡◌, ap, sym, ◌∙◌, rules, refl, ◌∷◌}
 use Rattle.std.specs.Result.{IsErrOf}
 use Rattle.std.proofs.lemmas.List.{drop_all}
 use Rattle.sv_gates.specs.declared.gates.GateFault.TheVariants.{Full}
-use Rattle.sv_circuits.specs.Words.{ready_bit, chain}
 use Rattle.sv_circuits.specs.BitGates.{gate_of}
 use Rattle.sv_circuits.proofs.WordKeeps.{turn_of}
 use Rattle.sv_circuits.proofs.WordKeeps.{word_first, word_rest, none_left}
 use Rattle.sv_circuits.proofs.LoopSteps.{loop_start, one_more, left_full, gate_one, chain_step}
-use Rattle.sv_circuits.proofs.LoopSteps.{chain_whole, chain_full, chain_end}
+use Rattle.sv_circuits.proofs.LoopSteps.{chain_of_nil, chain_whole, chain_full, chain_end}
 use Rattle.sv_circuits.proofs.chains.chain.Goals as goal
 
 pub returns-in_default-clause-made : goal.returns-in_default-clause-made
 returns-in_default-clause-made c =
-    (ap (λ z. chain (gate_of c.args.gate) c.args.none (map ready_bit z) c.args.gates.now)
-    (none_left _ c.in_default.ensures.cases))
+    chain_of_nil c.args.gate c.args.word.now c.args.gates.now
+    (none_left _ c.in_default.ensures.cases)
+    ∙ ap (λ z. (c.args.gates.now, z)) (sym c.none_of.ensures.value)
 
 pub members-init : goal.members-init
 members-init c =
     let word : c.args.word.now ≡ c.in-Some.first.now ∷ c.in-Some.more.now = c.in-Some.ensures.cases.0 in
-    (loop_start _ _ _ _ _ _ _ _ _ (word_rest _ _ _ _ c.requires.word word) tt refl refl refl
-    (word_first _ _ _ _ c.requires.word word, tt)
-    (chain_whole (gate_of c.args.gate) _ _ _ _ _ word))
+    (loop_start _ _ _ _ _ _ _ _ _ (word_rest _ c.requires word) tt refl refl refl
+    (word_first _ c.requires word, tt)
+    (chain_whole c.args.gate _ _ _ _ word))
 
 pub joined-requires-clause-a : goal.joined-requires-clause-a
 joined-requires-clause-a c = c.members.invariant.hand.0
 
 pub joined-requires-clause-b : goal.joined-requires-clause-b
 joined-requires-clause-b c =
-    (word_first _ _ _ _ c.members.invariant.first
+    (word_first _ c.members.invariant.first
     (turn_of c.in-Some.more.now _ _ c.members-test.true c.literal-item.is))
 
 pub members-preserved : goal.members-preserved
@@ -40,7 +40,7 @@ members-preserved c =
 pub returns-in_err-before-clause-full : goal.returns-in_err-before-clause-full
 returns-in_err-before-clause-full c =
     let same : IsErrOf c.from_residual.result Full → IsErrOf c.joined.result Full = search rules in
-    λ e. left_full _ _ _ _ _ _ _ _ _ c.members.invariant
+    λ e. left_full c.members.invariant
     (chain_full (gate_of c.args.gate) _ _ _ _ _ _ (gate_one c.args.gate)
     (turn_of c.in-Some.more.now _ _ c.members-test.true c.literal-item.is)
     ((c.joined.ensures.full).0 (same e)))

@@ -14,9 +14,9 @@ returns-in_err-first-clause-full c =
 pub equal_after-requires-clause-a : goal.equal_after-requires-clause-a
 equal_after-requires-clause-a c =
     word_up _ _ c.in-Some.more.now c.in_ok-first.ensures.begins.grows
-    (word_rest _ _ _ _ c.requires.a c.in-Some.ensures.cases.0)
+    (word_rest _ c.requires.a c.in-Some.ensures.cases.0)
 
 pub equal_after-requires-clause-b : goal.equal_after-requires-clause-b
 equal_after-requires-clause-b c =
     word_up _ _ c.in-Some-split_first.rest.now c.in_ok-first.ensures.begins.grows
-    (word_rest _ _ _ _ c.requires.b c.in-Some-split_first.ensures.cases.0)
+    (word_rest _ c.requires.b c.in-Some-split_first.ensures.cases.0)

@@ -18,12 +18,10 @@ bits-init c =
     (c.requires.before, tt) (same_whole _ _ _ _ c.args.before _ first second))
 
 pub same-requires-clause-a : goal.same-requires-clause-a
-same-requires-clause-a c =
-    (word_first _ _ _ _ c.bits.invariant.first c.in-Some.ensures.steps.0)
+same-requires-clause-a c = word_first _ c.bits.invariant.first c.in-Some.ensures.steps.0
 
 pub same-requires-clause-b : goal.same-requires-clause-b
-same-requires-clause-b c =
-    (word_first _ _ _ _ c.bits.invariant.second c.in-Some.ensures.steps.1)
+same-requires-clause-b c = word_first _ c.bits.invariant.second c.in-Some.ensures.steps.1
 
 pub and_gate-requires-clause-a : goal.and_gate-requires-clause-a
 and_gate-requires-clause-a c =
@@ -46,7 +44,7 @@ pub returns-in_err-test-clause-full : goal.returns-in_err-test-clause-full
 returns-in_err-test-clause-full c =
     let same : IsErrOf c.from_residual.result Full → IsErrOf c.same.result Full =
     search rules in
-    λ e. left_full _ _ _ _ _ _ _ _ _ c.bits.invariant
+    λ e. left_full c.bits.invariant
     (same_full _ _ _ _ _ c.in-Some.x.now c.in-Some.y.now _ _
     c.in-Some.ensures.steps.0 c.in-Some.ensures.steps.1
     (omega (arith, (c.same.ensures.full).0 (same e))))
@@ -55,7 +53,7 @@ pub returns-in_err-equal-clause-full : goal.returns-in_err-equal-clause-full
 returns-in_err-equal-clause-full c =
     let same : IsErrOf c.from_residual-in_err-equal.result Full → IsErrOf c.and_gate.result Full =
     search rules in
-    λ e. left_full _ _ _ _ _ _ _ _ _ c.bits.invariant
+    λ e. left_full c.bits.invariant
     (same_full _ _ _ _ _ c.in-Some.x.now c.in-Some.y.now _ _
     c.in-Some.ensures.steps.0 c.in-Some.ensures.steps.1
     (omega (

@@ -8,4 +8,4 @@ pub equal_number_after-requires-clause-before : goal.equal_number_after-requires
 equal_number_after-requires-clause-before c =
     subst (IsLiteral c.args.gates.now.variables) (sym c.number_test-first.ensures)
     (test_within _ (c.args.number % 2 == 1) c.in-Some.bit.now
-    (word_first _ _ _ _ c.requires c.in-Some.ensures.cases.0))
+    (word_first _ c.requires c.in-Some.ensures.cases.0))

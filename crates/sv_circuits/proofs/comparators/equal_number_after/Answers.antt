@@ -21,7 +21,7 @@ pub and_gate-requires-clause-b : goal.and_gate-requires-clause-b
 and_gate-requires-clause-b c =
     subst (IsLiteral c.bits.gates.variables) (sym c.number_test-test.ensures)
     (test_within _ (c.bits.left % 2 == 1) c.bit-item.result
-    (word_first _ _ _ _ c.bits.invariant.first
+    (word_first _ c.bits.invariant.first
     (turn_of c.args.word.now _ _ c.bits-test.true c.bit-item.is)))
 
 pub bits-preserved : goal.bits-preserved
@@ -34,7 +34,7 @@ bits-preserved c =
 pub returns-in_err-equal-clause-full : goal.returns-in_err-equal-clause-full
 returns-in_err-equal-clause-full c =
     let same : IsErrOf c.from_residual.result Full → IsErrOf c.and_gate.result Full = search rules in
-    λ e. left_full _ _ _ _ _ _ _ _ _ c.bits.invariant
+    λ e. left_full c.bits.invariant
     (number_full _ _ _ _ _ _ _
     (turn_of c.args.word.now _ _ c.bits-test.true c.bit-item.is)
     ((c.and_gate.ensures.full).0 (same e)))

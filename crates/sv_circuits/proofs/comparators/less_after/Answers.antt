@@ -18,12 +18,10 @@ bits-init c =
     (c.requires.below, tt) (less_whole _ _ _ _ c.args.below _ first second))
 
 pub xor_gate-requires-clause-a : goal.xor_gate-requires-clause-a
-xor_gate-requires-clause-a c =
-    (word_first _ _ _ _ c.bits.invariant.first c.in-Some.ensures.steps.0)
+xor_gate-requires-clause-a c = word_first _ c.bits.invariant.first c.in-Some.ensures.steps.0
 
 pub xor_gate-requires-clause-b : goal.xor_gate-requires-clause-b
-xor_gate-requires-clause-b c =
-    (word_first _ _ _ _ c.bits.invariant.second c.in-Some.ensures.steps.1)
+xor_gate-requires-clause-b c = word_first _ c.bits.invariant.second c.in-Some.ensures.steps.1
 
 pub mux_gate-requires-clause-c : goal.mux_gate-requires-clause-c
 mux_gate-requires-clause-c c =
@@ -32,7 +30,7 @@ mux_gate-requires-clause-c c =
 pub mux_gate-requires-clause-a : goal.mux_gate-requires-clause-a
 mux_gate-requires-clause-a c =
     (literal_up _ _ c.in-Some.y.now c.in_ok-differ.ensures.begins.grows
-    (word_first _ _ _ _ c.bits.invariant.second c.in-Some.ensures.steps.1))
+    (word_first _ c.bits.invariant.second c.in-Some.ensures.steps.1))
 
 pub mux_gate-requires-clause-b : goal.mux_gate-requires-clause-b
 mux_gate-requires-clause-b c =
@@ -51,7 +49,7 @@ pub returns-in_err-differ-clause-full : goal.returns-in_err-differ-clause-full
 returns-in_err-differ-clause-full c =
     let same : IsErrOf c.from_residual.result Full → IsErrOf c.xor_gate.result Full =
     search rules in
-    λ e. left_full _ _ _ _ _ _ _ _ _ c.bits.invariant
+    λ e. left_full c.bits.invariant
     (less_full _ _ _ _ _ c.in-Some.x.now c.in-Some.y.now _ _
     c.in-Some.ensures.steps.0 c.in-Some.ensures.steps.1
     (omega (arith, (c.xor_gate.ensures.full).0 (same e))))
@@ -60,7 +58,7 @@ pub returns-in_err-less-clause-full : goal.returns-in_err-less-clause-full
 returns-in_err-less-clause-full c =
     let same : IsErrOf c.from_residual-in_err-less.result Full → IsErrOf c.mux_gate.result Full =
     search rules in
-    λ e. left_full _ _ _ _ _ _ _ _ _ c.bits.invariant
+    λ e. left_full c.bits.invariant
     (less_full _ _ _ _ _ c.in-Some.x.now c.in-Some.y.now _ _
     c.in-Some.ensures.steps.0 c.in-Some.ensures.steps.1
     (omega (arith, (c.mux_gate.ensures.full).0 (same e), ap (λ (z : Formula × ℤ). (z.0).variables) c.in_ok-differ.ensures.made)))

@@ -34,7 +34,7 @@ bits-init c =
 
 pub and_gate-requires-clause-a : goal.and_gate-requires-clause-a
 and_gate-requires-clause-a c =
-    (word_first _ _ _ _ c.bits.invariant.first
+    (word_first _ c.bits.invariant.first
     (turn_of (take c.saturating_sub.result c.args.a.now) _ _ c.bits-test.true c.x-item.is))
 
 pub and_gate-requires-clause-b : goal.and_gate-requires-clause-b
@@ -54,9 +54,10 @@ pub returns-in_err-bit-clause-full : goal.returns-in_err-bit-clause-full
 returns-in_err-bit-clause-full c =
     let same : IsErrOf c.from_residual-in_err-bit.result Full → IsErrOf c.and_gate.result Full =
     search rules in
-    λ e. left_full _ _ _ _ _ _ _ _ _ c.bits.invariant
-    (masked_full c.args.b _ _ c.bits.word.items _ _ _
-    (turn_of (take c.saturating_sub.result c.args.a.now) _ _ c.bits-test.true c.x-item.is) ((c.and_gate.ensures.full).0 (same e)))
+    let low = take c.saturating_sub.result c.args.a.now in
+    let turn = turn_of low _ _ c.bits-test.true c.x-item.is in
+    λ e. left_full c.bits.invariant
+    (masked_full c.args.b _ _ c.bits.word.items _ _ _ turn ((c.and_gate.ensures.full).0 (same e)))
 
 pub returns-clause-made : goal.returns-clause-made
 returns-clause-made c =

@@ -32,7 +32,7 @@ row-requires-clause-a c = c.rows.invariant.word
 
 pub row-requires-clause-b : goal.row-requires-clause-b
 row-requires-clause-b c =
-    (word_first _ _ _ _ c.rows.invariant.left
+    (word_first _ c.rows.invariant.left
     (turn_of c.args.b.now _ _ c.rows-test.true c.bit-item.is))
 
 pub rows-preserved : goal.rows-preserved

@@ -43,7 +43,7 @@ mux_gate-requires-clause-c c =
 pub mux_gate-requires-clause-a : goal.mux_gate-requires-clause-a
 mux_gate-requires-clause-a c =
     (literal_up _ _ c.bit-item.result c.in_ok-here.ensures.begins.grows
-    (word_first _ _ _ _ c.bits.invariant.0.first
+    (word_first _ c.bits.invariant.0.first
     (turn_of (take c.number_count-count.result c.args.word.now) _ _ c.bits-test.true c.bit-item.is)))
 
 pub mux_gate-requires-clause-b : goal.mux_gate-requires-clause-b
@@ -68,7 +68,7 @@ pub returns-in_err-here-clause-full : goal.returns-in_err-here-clause-full
 returns-in_err-here-clause-full c =
     let same : IsErrOf c.from_residual.result Full → IsErrOf c.equal_number.result Full =
     search rules in
-    λ e. left_full _ _ _ _ _ _ _ _ _ c.bits.invariant.0
+    λ e. left_full c.bits.invariant.0
     (picked_full c.args.index.now _ _ c.bits.found _ c.bits.j c.bits.gates _
     (turn_of (take c.number_count-count.result c.args.word.now) _ _ c.bits-test.true c.bit-item.is) (omega (arith, c.equal_number.ensures.full (same e))))
 
@@ -77,7 +77,7 @@ returns-in_err-found-clause-full c =
     let same : IsErrOf c.from_residual-in_err-found.result Full → IsErrOf c.mux_gate.result Full =
     search rules in
     let made = ap (λ (z : Formula × ℤ). (z.0).variables) c.in_ok-here.ensures.made in
-    λ e. left_full _ _ _ _ _ _ _ _ _ c.bits.invariant.0
+    λ e. left_full c.bits.invariant.0
     (picked_full c.args.index.now _ _ c.bits.found _ c.bits.j c.bits.gates _
     (turn_of (take c.number_count-count.result c.args.word.now) _ _ c.bits-test.true c.bit-item.is) (omega (arith, (c.mux_gate.ensures.full).0 (same e), made)))
 

@@ -74,7 +74,7 @@ returns-in_err-made-2-clause-full c =
     let turn = turn_of c.args.amount.now _ _ c.amount-test.true c.bit-item.is in
     let full = rw (c.deref-in-amount.ensures.value, c.deref-in-amount-2.ensures.value)
     at c.chosen.ensures.full in
-    λ e. left_full _ _ _ _ _ _ _ _ _ at
+    λ e. left_full at
     (shift_full (move_of c.args.direction c.args.fill) c.amount.bit-index _ _
     c.amount.made.items c.in_ok-moved.moved.items _ c.amount.gates _ turn
     (moved_is (goal.at.returns-in_err-made-2-clause-full c).In_ok-moved) (full (same e)))

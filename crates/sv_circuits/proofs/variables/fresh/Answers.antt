@@ -22,7 +22,7 @@ pub returns-in_err-bit-clause-full : goal.returns-in_err-bit-clause-full
 returns-in_err-bit-clause-full c =
     let same : IsErrOf c.from_residual-in_err-bit.result Full →
     IsErrOf c.fresh_literal.result Full = search rules in
-    λ e. left_full _ _ _ _ _ _ _ _ _ c.bits.invariant
+    λ e. left_full c.bits.invariant
     (fresh_full c.args.width c.bits.counter c.bits.word.items _ _ (omega arith)
     ((c.fresh_literal.ensures.full).0 (same e)))
 

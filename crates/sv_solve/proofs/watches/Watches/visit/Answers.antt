@@ -23,13 +23,10 @@ index-requires c =
     let of : IsOf c.visited.self.variables c.args.falsified.now =
     subst (λ z. IsOf z c.args.falsified.now) (sym c.visited.invariant.proceeds.variables)
     c.requires.of in
-    omega (
-      arith,
-      code_small c.self.inside.lists.items c.visited.self c.args.falsified.now
-          c.index-code.result (ap (λ z. z.lists) c.self.view_is) c.visited.invariant.proceeds.listed
-          of c.index-code.ensures,
-      c.self.inside.lists.ok.0,
-    )
+    let small = code_small c.self.inside.lists.items c.visited.self c.args.falsified.now
+    c.index-code.result (ap (λ z. z.lists) c.self.view_is) c.visited.invariant.proceeds.listed of
+    c.index-code.ensures in
+    omega (arith, small, c.self.inside.lists.ok.0)
 
 of_now : (c : In-visited) → IsOf c.visited.self.variables c.args.falsified.now
 of_now c =
@@ -59,13 +56,10 @@ index_small c =
 pub index-requires-in-visited : goal.index-requires-in-visited
 index-requires-in-visited c =
     let of = of_now (goal.at.index-requires-in-visited c).In-visited in
-    omega (
-      arith,
-      code_small c.self.inside.lists.items c.visited.self c.args.falsified.now
-          c.index-code.result (ap (λ z. z.lists) c.self.view_is) c.visited.invariant.proceeds.listed
-          of c.index-code.ensures,
-      c.self.inside.lists.ok.0,
-    )
+    let small = code_small c.self.inside.lists.items c.visited.self c.args.falsified.now
+    c.index-code.result (ap (λ z. z.lists) c.self.view_is) c.visited.invariant.proceeds.listed of
+    c.index-code.ensures in
+    omega (arith, small, c.self.inside.lists.ok.0)
 
 pub at-place-requires : goal.at-place-requires
 at-place-requires c =

@@ -6,7 +6,7 @@ use Rattle.std.proofs.lemmas.List.Elements.{All-head, All-tail, All-nil, All-con
 use Rattle.sv_flat.specs.Design.{FlatDesign}
 use Rattle.sv_flat.specs.declared.expressions.FExpr.{FExpr}
 use Rattle.sv_flat.specs.Views.{typed_tree}
-use Rattle.sv_obl.specs.declared.queries.Step.{Step}
+use Rattle.sv_obl.specs.declared.queries.PathStep.{PathStep}
 use Rattle.sv_obl.specs.declared.queries.Query.{Query}
 use Rattle.sv_obl.specs.DesignQueries.{IsQueryOf, IsPlaced, IsExpressionOf, IsStepOf}
 use Rattle.sv_obl.specs.Obligations.{Obligation}
@@ -41,19 +41,19 @@ pub placed_at : (queries : List Query) (k : ℕ) (d : Query)
     → IsPlaced (obligation_of (get_or queries k d))
 placed_at queries k d all inside = held_at IsPlaced queries k d all inside
 
-condition_at : (design : FlatDesign) (steps : List Step) (k : ℕ) (step : Step)
+condition_at : (design : FlatDesign) (steps : List PathStep) (k : ℕ) (step : PathStep)
     → All (IsStepOf design) (map step_form steps) → k < length steps → step ≡ get_or steps k step
     → IsExpressionOf design (typed_tree step.cond)
 condition_at design [] k step all inside is = absurd (omega arith)
 condition_at design (s ∷ steps) zero step all inside is =
-    subst (λ (x : Step). IsExpressionOf design (typed_tree x.cond)) (sym is)
+    subst (λ (x : PathStep). IsExpressionOf design (typed_tree x.cond)) (sym is)
     (All-head (IsStepOf design) (step_form s) (map step_form steps) all)
 condition_at design (s ∷ steps) (suc k) step all inside is =
     condition_at design steps k step
     (All-tail (IsStepOf design) (step_form s) (map step_form steps) all) (omega arith) is
 
 -- the conditions of three steps are expressions of the design
-pub three_conditions : (design : FlatDesign) (steps : List Step) (a b c : Step)
+pub three_conditions : (design : FlatDesign) (steps : List PathStep) (a b c : PathStep)
     → All (IsStepOf design) (map step_form steps) → 3 ≤ length steps
     → a ≡ get_or steps 0 a → b ≡ get_or steps 1 b → c ≡ get_or steps 2 c
     → IsExpressionOf design (typed_tree a.cond) × IsExpressionOf design (typed_tree b.cond)

@@ -1,7 +1,7 @@
 // Files and input of the system, of which what messages are about is kept.
 ghost use Rattle.std.specs.Prelude.{◌≡◌};
 
-use super::progress::Progress;
+use super::progress::ProgressLine;
 use std::alloc::{AllocError, Global};
 use std::io::Read;
 use std::rt::Files;
@@ -105,13 +105,13 @@ fn copy_of(alloc: Global, answer: &Result<Vec<u8>, FetchFault>, most: usize) -> 
 #[derive(Drop)]
 pub struct KeptInput<R: Read, C: Clock> {
     pub source: StdSource<R>,
-    pub progress: Progress<C>,
+    pub progress: ProgressLine<C>,
     tail: Tail,
 }
 
 impl<R: Read, C: Clock> KeptInput<R, C> {
     /// Over a source that gave nothing so far.
-    pub fn new(alloc: Global, source: StdSource<R>, progress: Progress<C>) -> KeptInput<R, C>
+    pub fn new(alloc: Global, source: StdSource<R>, progress: ProgressLine<C>) -> KeptInput<R, C>
         ensures { result.source ≡ source }
     {
         KeptInput {

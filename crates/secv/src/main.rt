@@ -19,7 +19,7 @@ mod progress;
 
 use kept::{KeptFiles, KeptInput};
 use messages::{AtHand, Causes, Person, explain, explain_memory, explain_output, explain_words};
-use progress::Progress;
+use progress::ProgressLine;
 use std::io::{self, ErrorKind, IsTerminal, Stdin, Stdout};
 use std::process::ExitCode;
 use sv_cli::run;
@@ -71,7 +71,7 @@ fn main(rt: HostRuntime) -> ExitCode {
         stderr: rt.stderr(),
     };
     let mut cabinet = KeptFiles::new(FileCabinet::new(&rt));
-    let progress = Progress::new(&rt, rt.stderr(), is_watched(&rt));
+    let progress = ProgressLine::new(&rt, rt.stderr(), is_watched(&rt));
     let mut input = KeptInput::new(rt.alloc(), StdSource::new(rt.stdin()), progress);
     let mut out = StdSink::new(rt.stdout());
     let status = match words_of(&rt) {

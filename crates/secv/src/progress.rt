@@ -13,7 +13,7 @@ const BLANKS: &str = "\r                                \r";
 
 /// Shows on standard error, in one line that is written over, which cycle was simulated last.
 #[derive(Drop)]
-pub struct Progress<C: Clock> {
+pub struct ProgressLine<C: Clock> {
     clock: C,
     stderr: Stderr,
     // When the next line may be shown; None where none is to be.
@@ -21,16 +21,16 @@ pub struct Progress<C: Clock> {
     is_shown: bool,
 }
 
-impl<C: Clock> Progress<C> {
+impl<C: Clock> ProgressLine<C> {
     /// Of work that begins now. Nothing is ever shown where nobody watches, or where the clock
     /// cannot be read.
-    pub fn new(clock: C, stderr: Stderr, is_watched: bool) -> Progress<C> {
+    pub fn new(clock: C, stderr: Stderr, is_watched: bool) -> ProgressLine<C> {
         let due = if is_watched {
             later(&clock, SHORT)
         } else {
             None
         };
-        Progress {
+        ProgressLine {
             clock,
             stderr,
             due,

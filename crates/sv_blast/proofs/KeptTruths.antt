@@ -1,6 +1,8 @@
 -- Facts and conditions whose literals are kept, and those that are made behind them.
-use Rattle.std.proofs.Common.{◌≡◌, ℕ, zero, suc, ◌+◌, ◌-◌, ◌<◌, ◌≤◌, ℤ, List, [], ◌∷◌, ◌++◌, length, map}
-use Rattle.std.proofs.Common.{take, drop, get_or, Option, Some, None, refl, sym, ap, ap₂, ◌∙◌, subst, arith}
+use Rattle.std.proofs.Common.{◌≡◌, ℕ, zero, suc, ◌+◌, ◌-◌, ◌<◌, ◌≤◌, ℤ, List, [], ◌∷◌, ◌++◌, length}
+use Rattle.std.proofs.Common.{map}
+use Rattle.std.proofs.Common.{take, drop, get_or, Option, Some, None, refl, sym, ap, ap₂, ◌∙◌}
+use Rattle.std.proofs.Common.{subst, arith}
 use Rattle.std.proofs.Common.{append_assoc}
 use Rattle.std.specs.Prelude.{slice_get}
 use Rattle.std.proofs.lemmas.List.{append-nil, length-map, length-take-le, take-map, drop-map}
@@ -16,7 +18,7 @@ use Rattle.sv_gates.proofs.ExtendingLaws.{begins_none, begins_trans}
 use Rattle.sv_circuits.specs.Circuits.{IsWord}
 use Rattle.sv_circuits.proofs.Lengths.{each_length}
 use Rattle.sv_circuits.proofs.WordKeeps.{onto, literal_up}
-use Rattle.sv_obl.specs.declared.queries.Step.{Step}
+use Rattle.sv_obl.specs.declared.queries.PathStep.{PathStep}
 use Rattle.sv_obl.specs.Obligations.{Obligation}
 use Rattle.sv_obl.specs.Paths.{StepForm}
 use Rattle.sv_obl.specs.Views.{step_form}
@@ -64,33 +66,33 @@ get_left [] ys k x inside is = absurd (omega (arith, inside))
 get_left (e ∷ xs) ys zero x inside is = ap (λ (z : FExpr). Some (typed_tree z)) is
 get_left (e ∷ xs) ys (suc k) x inside is = get_left xs ys k x (omega (arith, inside)) is
 
-abbrev pub path_trees : List Step → List TypedTree
+abbrev pub path_trees : List PathStep → List TypedTree
 path_trees path = map (λ (step : StepForm). step.condition) (map step_form path)
 
-pub get_right : (xs : List FExpr) (path : List Step) (k j : ℕ) (s : Step) → k ≡ length xs + j →
-    j < length path → s ≡ get_or path j s →
+pub get_right : (xs : List FExpr) (path : List PathStep) (k j : ℕ) (s : PathStep)
+    → k ≡ length xs + j → j < length path → s ≡ get_or path j s →
     Some (typed_tree s.cond) ≡ slice_get (typed_trees xs ++ path_trees path) k
 get_right [] path k j s e inside is =
     let same : j ≡ k = omega (arith, e) in
     subst (λ n. Some (typed_tree s.cond) ≡ slice_get (path_trees path) n) same
     (here path j inside is)
   where
-    here : (path : List Step) (k : ℕ) → k < length path → s ≡ get_or path k s →
+    here : (path : List PathStep) (k : ℕ) → k < length path → s ≡ get_or path k s →
         Some (typed_tree s.cond) ≡ slice_get (path_trees path) k
     here [] k inside is = absurd (omega (arith, inside))
-    here (t ∷ path) zero inside is = ap (λ (z : Step). Some (typed_tree z.cond)) is
+    here (t ∷ path) zero inside is = ap (λ (z : PathStep). Some (typed_tree z.cond)) is
     here (t ∷ path) (suc k) inside is = here path k (omega (arith, inside)) is
 get_right (x ∷ xs) path zero j s e inside is = absurd (omega (arith, e))
 get_right (x ∷ xs) path (suc k) j s e inside is =
     get_right xs path k j s (omega (arith, e)) inside is
 
-pub get_none : (xs : List FExpr) (path : List Step) (k j : ℕ) → k ≡ length xs + j →
+pub get_none : (xs : List FExpr) (path : List PathStep) (k j : ℕ) → k ≡ length xs + j →
     length path ≤ j → None ≡ slice_get (typed_trees xs ++ path_trees path) k
 get_none [] path k j e past =
     let same : j ≡ k = omega (arith, e) in
     subst (λ n. None ≡ slice_get (path_trees path) n) same (here path j past)
   where
-    here : (path : List Step) (k : ℕ) → length path ≤ k → None ≡ slice_get (path_trees path) k
+    here : (path : List PathStep) (k : ℕ) → length path ≤ k → None ≡ slice_get (path_trees path) k
     here [] k past = refl
     here (t ∷ path) zero past = absurd (omega (arith, past))
     here (t ∷ path) (suc k) past = here path k (omega (arith, past))

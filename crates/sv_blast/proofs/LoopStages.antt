@@ -14,7 +14,7 @@ use Rattle.sv_gates.proofs.ExtendingLaws.{begins_none, begins_trans}
 use Rattle.sv_circuits.specs.Words.{Word, made_in_turn}
 use Rattle.sv_circuits.specs.Circuits.{IsWord}
 use Rattle.sv_circuits.proofs.WordKeeps.{onto, step_behind, word_up, word_push, word_join}
-use Rattle.sv_obl.specs.declared.queries.Step.{Step}
+use Rattle.sv_obl.specs.declared.queries.PathStep.{PathStep}
 use Rattle.sv_obl.specs.Paths.{StepForm}
 use Rattle.sv_obl.specs.Views.{step_form}
 use Rattle.sv_encoding.specs.Expressions.{Words, expression_word, joined_word, is_true_bit}
@@ -168,8 +168,8 @@ turn f xs i x inside is =
     ∙ ap (λ z. f z ∷ map f (drop (i + 1) xs)) (sym is)
 
 -- the conditions of steps
-pub conditions_of : (path : List Step) →
+pub conditions_of : (path : List PathStep) →
     map (λ (step : StepForm). step.condition) (map step_form path)
-    ≡ map (λ (step : Step). typed_tree step.cond) path
+    ≡ map (λ (step : PathStep). typed_tree step.cond) path
 conditions_of [] = refl
 conditions_of (step ∷ path) = ap (λ z. typed_tree step.cond ∷ z) (conditions_of path)

@@ -1,7 +1,8 @@
 -- Unit clauses, as loops add them.
-use Rattle.std.proofs.Common.{◌≡◌, ℕ, ◌≤◌, ℤ, List, [], ◌∷◌, ◌++◌, map, refl, ap, ◌∙◌, sym, subst, ◌⊎◌}
+use Rattle.std.proofs.Common.{◌≡◌, ℕ, ◌≤◌, ℤ, List, [], ◌∷◌, ◌++◌, map, refl, ap, ◌∙◌, sym, subst}
+use Rattle.std.proofs.Common.{◌⊎◌}
 use Rattle.std.proofs.Common.{⊎_elim, inl, inr, Bool, true, false, cond, length}
-use Rattle.sv_obl.specs.declared.queries.Step.{Step}
+use Rattle.sv_obl.specs.declared.queries.PathStep.{PathStep}
 use Rattle.sv_obl.specs.Views.{step_form}
 use Rattle.sv_circuits.proofs.WordKeeps.{none_left}
 use Rattle.std.specs.Prelude.{if◌then◌else◌, neg_ℤ}
@@ -66,7 +67,7 @@ unit_within m n truth u l h is e = subst (IsLiteral n) (sym e) (by truth)
     by false = literal_negated n l up
 
 -- a zip ends where the path or the literals have none left
-pub steps_end : {S T : Type 0} {P : S → Type 0} {Q : T → Type 0} (path : List Step)
+pub steps_end : {S T : Type 0} {P : S → Type 0} {Q : T → Type 0} (path : List PathStep)
     (literals : List ℤ) →
     ((x : S) × ((length path ≡ 0) × P x)) ⊎ ((x : T) × ((length literals ≡ 0) × Q x)) →
     (map step_form path ≡ []) ⊎ (literals ≡ [])
@@ -74,7 +75,7 @@ steps_end path literals ends = ⊎_elim
     (λ p. inl (no_step path (p.1).0))
     (λ p. inr (none_left literals (p.1).0)) ends
   where
-    no_step : (path : List Step) → length path ≡ 0 → map step_form path ≡ []
+    no_step : (path : List PathStep) → length path ≡ 0 → map step_form path ≡ []
     no_step [] e = refl
     no_step (step ∷ steps) e = absurd (cc)
 

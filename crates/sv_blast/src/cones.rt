@@ -21,7 +21,7 @@ use sv_design::Design;
 use sv_flat::SigId;
 use sv_graph::{has_mark, listed};
 use sv_lattice::Label;
-use sv_obl::{Frame, Goal, Query, Step};
+use sv_obl::{Frame, Goal, PathStep, Query};
 
 // Marks the selectors of a label.
 fn mark_selectors_of(table: &mut [bool], label: Label)
@@ -96,7 +96,7 @@ fn mark_asked_now(table: &mut [bool], design: &Design, goal: &Goal)
 }
 
 // Marks the signals that conditions name.
-fn mark_conditions(table: &mut [bool], path: &[Step])
+fn mark_conditions(table: &mut [bool], path: &[PathStep])
     ensures { Marks table.old table.new
         (is_named_in (map (λ (step : StepForm). step.condition) (map step_form path.now))) }
 {

@@ -14,7 +14,7 @@ use crate::sizes_of_operators::{
 };
 use sv_flat::{FExpr, FNode, SigId, Signal, is_constant};
 use sv_num::BinOp;
-use sv_obl::Step;
+use sv_obl::PathStep;
 
 /// The width of a signal, and 0 where there is no such signal.
 pub fn width_of(signals: &[Signal], signal: SigId) -> u8
@@ -136,7 +136,7 @@ pub fn truths_size(signals: &[Signal], exprs: &[FExpr]) -> u32
 }
 
 /// The gates of whether each condition of a path is not 0.
-pub fn conditions_size(signals: &[Signal], path: &[Step]) -> u32
+pub fn conditions_size(signals: &[Signal], path: &[PathStep]) -> u32
     ensures { result ≡ min (sum (map (truth_size (signal_forms signals.now))
         (map (λ (step : StepForm). step.condition) (map step_form path.now)))) 4194305 }
 {

@@ -9,7 +9,7 @@ ghost use Rattle.sv_blast.specs.Steps.{units_of};
 
 use std::alloc::AllocError;
 use sv_gates::{Gates, Literal};
-use sv_obl::Step;
+use sv_obl::PathStep;
 
 // Adds the clause of each literal alone.
 fn add_facts(gates: &mut Gates, facts: &[Literal]) -> Result<(), AllocError>
@@ -24,7 +24,7 @@ fn add_facts(gates: &mut Gates, facts: &[Literal]) -> Result<(), AllocError>
 }
 
 // A condition's literal, negated where the path has the condition as false.
-fn unit_of(step: &Step, literal: Literal) -> Literal
+fn unit_of(step: &PathStep, literal: Literal) -> Literal
     ensures { result ≡ (if step.now.truth then literal else neg_ℤ literal) }
 {
     if step.truth {
@@ -37,7 +37,7 @@ fn unit_of(step: &Step, literal: Literal) -> Literal
 // Adds the clause of each condition's literal alone, negated where the path has it as false.
 fn add_conditions(
     gates: &mut Gates,
-    path: &[Step],
+    path: &[PathStep],
     conditions: &[Literal],
 ) -> Result<(), AllocError>
     requires { All (IsLiteral gates.old.variables) conditions.now }
@@ -57,7 +57,7 @@ fn add_conditions(
 pub fn add_units(
     gates: &mut Gates,
     facts: &[Literal],
-    path: &[Step],
+    path: &[PathStep],
     conditions: &[Literal],
     fails: Literal,
 ) -> Result<(), AllocError>

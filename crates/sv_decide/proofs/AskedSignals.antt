@@ -13,7 +13,7 @@ use Rattle.sv_flat.specs.declared.signals.SigId.{SigId}
 use Rattle.sv_flat.specs.Soundness.{well_formed}
 use Rattle.sv_flat.specs.Views.{design_of, signal_form, typed_tree}
 use Rattle.sv_obl.specs.declared.queries.Query.{Query}
-use Rattle.sv_obl.specs.declared.queries.Step.{Step}
+use Rattle.sv_obl.specs.declared.queries.PathStep.{PathStep}
 use Rattle.sv_obl.specs.DesignQueries.{IsExpressionOf, IsStepOf, IsQueryOf}
 use Rattle.sv_obl.specs.Obligations.{GoalForm}
 use Rattle.sv_obl.specs.Paths.{StepForm}
@@ -45,8 +45,8 @@ module _ (flat : Flat) (query : Query)
       (kept_forms (IsExpressionOf (design_of flat)) typed_tree facts query.facts.items same is.facts
       k d inside).formed
 
-  pub path_formed : (path : List Step) → path ≡ query.path.items →
-      All (λ (step : Step).
+  pub path_formed : (path : List PathStep) → path ≡ query.path.items →
+      All (λ (step : PathStep).
       IsTrue (well_formed (design_of flat).signals (typed_tree step.cond))) path
   path_formed path same k d inside =
       (kept_forms (IsStepOf (design_of flat)) step_form path query.path.items same is.path k d
@@ -72,10 +72,10 @@ module _ (flat : Flat) (query : Query)
 
   -- the tests of the parts are those of the obligation
   pub shown_is : (now : Environment ℕ) (asked : EvaluatedGoal) (facts : List FExpr)
-      (path : List Step) (reads : List SigId) → facts ≡ query.facts.items →
+      (path : List PathStep) (reads : List SigId) → facts ≡ query.facts.items →
       path ≡ query.path.items → reads ≡ query.reads.items →
       (list_all (λ (fact : FExpr). is_true_in (design_of flat).signals now (typed_tree fact)) facts
-      && list_all (λ (step : Step).
+      && list_all (λ (step : PathStep).
       beq (is_true_in (design_of flat).signals now (typed_tree step.cond)) step.truth) path
       && fails_by (design_of flat) (map (λ (s : SigId). s.0) reads) now asked)
       ≡ shows_failing (design_of flat) (obligation_of query) now asked
@@ -83,7 +83,7 @@ module _ (flat : Flat) (query : Query)
       let met = ap (list_all (λ (fact : FExpr).
       is_true_in (design_of flat).signals now (typed_tree fact))) facts_are
       ∙ sym (list_all-map (is_true_in (design_of flat).signals now) typed_tree query.facts.items) in
-      let taken = ap (list_all (λ (step : Step).
+      let taken = ap (list_all (λ (step : PathStep).
       beq (is_true_in (design_of flat).signals now (typed_tree step.cond)) step.truth)) path_are
       ∙ sym (list_all-map (λ (step : StepForm).
       beq (is_true_in (design_of flat).signals now step.condition) step.truth) step_form

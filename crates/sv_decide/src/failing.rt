@@ -11,13 +11,13 @@ ghost use Rattle.sv_flat.specs.declared.signals.SigId.{SigId};
 ghost use Rattle.sv_obl.specs.DesignQueries.{IsQueryOf};
 ghost use Rattle.sv_obl.specs.PathValues.{is_true_in};
 ghost use Rattle.sv_obl.specs.Views.{obligation_of, goal_form};
-ghost use Rattle.sv_obl.specs.declared.queries.Step.{Step};
+ghost use Rattle.sv_obl.specs.declared.queries.PathStep.{PathStep};
 ghost use Rattle.sv_decide.specs.Simulating.{asked_in, IsAskable, fails_by, shows_failing};
 
 use sv_design::Design;
 use sv_flat::{FExpr, SigId, value_of};
 use sv_lattice::{Point, label_at};
-use sv_obl::{Goal, Query, Step};
+use sv_obl::{Goal, PathStep, Query};
 
 /// What a goal asks of the cycle of its frame.
 #[derive(Clone, Copy)]
@@ -79,11 +79,11 @@ fn meets_facts(design: &Design, values: &[u64], facts: &[FExpr]) -> bool
 }
 
 // Whether each condition has its truth.
-fn takes_path(design: &Design, values: &[u64], path: &[Step]) -> bool
-    requires formed { All (λ (step : Step).
+fn takes_path(design: &Design, values: &[u64], path: &[PathStep]) -> bool
+    requires formed { All (λ (step : PathStep).
         IsTrue (well_formed (design_of design.now).signals (typed_tree step.cond))) path.now }
     requires fit { FitSignals (design_of design.now).signals values.now }
-    ensures { result ≡ list_all (λ (step : Step). beq (is_true_in (design_of design.now).signals
+    ensures { result ≡ list_all (λ (step : PathStep). beq (is_true_in (design_of design.now).signals
         (by_number values.now) (typed_tree step.cond)) step.truth) path.now }
 {
     path.iter()
@@ -135,20 +135,20 @@ fn parts_fail(
     design: &Design,
     values: &[u64],
     facts: &[FExpr],
-    path: &[Step],
+    path: &[PathStep],
     reads: &[SigId],
     asked: EvaluatedGoal,
 ) -> bool
     requires facts { All (λ (fact : FExpr).
         IsTrue (well_formed (design_of design.now).signals (typed_tree fact))) facts.now }
-    requires path { All (λ (step : Step).
+    requires path { All (λ (step : PathStep).
         IsTrue (well_formed (design_of design.now).signals (typed_tree step.cond))) path.now }
     requires reads { All (λ (s : SigId). s.0 < length design.now.signals.items) reads.now }
     requires asked { IsAskable (design_of design.now) asked }
     requires fit { FitSignals (design_of design.now).signals values.now }
     ensures { result ≡ (list_all (λ (fact : FExpr). is_true_in (design_of design.now).signals
         (by_number values.now) (typed_tree fact)) facts.now
-        && list_all (λ (step : Step). beq (is_true_in (design_of design.now).signals
+        && list_all (λ (step : PathStep). beq (is_true_in (design_of design.now).signals
         (by_number values.now) (typed_tree step.cond)) step.truth) path.now
         && fails_by (design_of design.now) (map (λ (s : SigId). s.0) reads.now)
         (by_number values.now) asked) }

@@ -26,7 +26,7 @@ use Rattle.sv_design.specs.Numbers.{numbers}
 use Rattle.sv_design.specs.Orders.{AreReads}
 use Rattle.sv_graph.specs.Searches.{IsSearch, IsWayBack, LeadsDown, found_by, led_by, is_found}
 use Rattle.sv_graph.specs.Searches.{place_of}
-use Rattle.sv_design.specs.declared.orders.Reads.{Reads}
+use Rattle.sv_design.specs.declared.orders.SignalReads.{SignalReads}
 use Rattle.sv_graph.specs.declared.searches.Search.{Search}
 
 -- ---- small steps
@@ -72,10 +72,10 @@ circle_is_combinational design first signals circle =
     (circle_parts design first signals circle).1
 
 -- from a signal a search over readers goes to greater ones
-abbrev pub over : Reads → (first : ℕ) → ℕ → ℕ → Bool
+abbrev pub over : SignalReads → (first : ℕ) → ℕ → ℕ → Bool
 over reads first a b = has_edge reads.readers a b && nat_le (first + 1) b
 
-module _ (design : FlatDesign) (reads : Reads) (are : AreReads design reads) where
+module _ (design : FlatDesign) (reads : SignalReads) (are : AreReads design reads) where
   abbrev n : ℕ
   n = size reads.readers
 

@@ -16,7 +16,7 @@ use Rattle.sv_design.specs.Circles.{precedes}
 use Rattle.sv_graph.specs.Marks.{is_marked}
 use Rattle.sv_design.specs.Orders.{HasBegins}
 use Rattle.sv_design.specs.Orders.{AreReads}
-use Rattle.sv_design.specs.declared.orders.Reads.{Reads}
+use Rattle.sv_design.specs.declared.orders.SignalReads.{SignalReads}
 use Rattle.sv_flat.proofs.AdmittedFacts.{and_true}
 use Rattle.sv_flat.proofs.LeastSets.{either_way}
 use Rattle.sv_rules.specs.First.{breach_of, found_before}
@@ -45,7 +45,7 @@ module _ (circle : Circle)
       (then_by circle.first.place.column o.place.column (nat_lt k (first_signal o))))) begins
 
 -- no circle begins at a signal that a table of begins or that of combinational signals lacks
-pub not_begun : (design : FlatDesign) (reads : Reads) (are : AreReads design reads)
+pub not_begun : (design : FlatDesign) (reads : SignalReads) (are : AreReads design reads)
     (begins : List Bool) → HasBegins design begins → (s : ℕ) → s < length reads.combs.items
     → IsFalse (is_marked begins s && is_marked reads.combs.items s)
     → (signals : List ℕ) → IsTrue (is_circle design (s ∷ signals)) → ⊥

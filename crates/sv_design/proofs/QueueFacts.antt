@@ -21,7 +21,7 @@ use Rattle.sv_flat.proofs.Depths.{first_of, second_of, is_below}
 use Rattle.sv_flat.proofs.LeastSets.{holds-from_Contains}
 use Rattle.sv_flat.proofs.LeastSets.{range_has, those_below}
 use Rattle.sv_graph.specs.declared.queues.Queue.{Queue}
-use Rattle.sv_design.specs.declared.orders.Reads.{Reads}
+use Rattle.sv_design.specs.declared.orders.SignalReads.{SignalReads}
 use Rattle.sv_graph.specs.Graphs.{size, row, has_edge}
 use Rattle.sv_graph.specs.Marks.{is_marked}
 use Rattle.sv_design.specs.Numbers.{numbers}
@@ -39,7 +39,7 @@ use Rattle.sv_rules.proofs.TableFacts.{filter_within}
 
 -- ---- the tables
 
-module _ (design : FlatDesign) (reads : Reads) (are : AreReads design reads) where
+module _ (design : FlatDesign) (reads : SignalReads) (are : AreReads design reads) where
   abbrev n : ℕ
   n = length design.signals
 
@@ -124,7 +124,7 @@ fewer_unseen n done s below out =
 
 -- ---- the next signal of the order
 
-module _ (design : FlatDesign) (reads : Reads) (are : AreReads design reads) (old : Queue)
+module _ (design : FlatDesign) (reads : SignalReads) (are : AreReads design reads) (old : Queue)
     (next : ℕ) (queued : Queued design (take next (ordered old)) (ordered old) (open_at old))
     (inside : next < length (ordered old)) where
   abbrev pub now_done : List ℕ
@@ -195,7 +195,7 @@ module _ (design : FlatDesign) (reads : Reads) (are : AreReads design reads) (ol
         omega arith
 
 -- the signal at a place of the order, and those that it is read for
-module _ (reads : Reads) (queue : Queue) (next : ℕ) (s : SigId)
+module _ (reads : SignalReads) (queue : Queue) (next : ℕ) (s : SigId)
     (inside : next < length queue.order.items) (is : s ≡ get_or queue.order.items next s) where
   pub in_order : next < length (ordered queue)
   in_order = subst (λ n. next < n) (sym (length-map queue.order.items (λ (z : SigId). z.0))) inside

@@ -19,7 +19,7 @@ use Rattle.sv_flat.proofs.Depths.{first_of, second_of, is_below}
 use Rattle.sv_flat.proofs.LeastSets.{either_way, holds-from_Contains, Contains-from_holds}
 use Rattle.sv_flat.proofs.LeastSets.{those_below, those_pass, in_those}
 use Rattle.sv_graph.specs.declared.graphs.Graph.{Graph}
-use Rattle.sv_design.specs.declared.orders.Reads.{Reads}
+use Rattle.sv_design.specs.declared.orders.SignalReads.{SignalReads}
 use Rattle.sv_graph.specs.Graphs.{size, row, rows_of, has_edge}
 use Rattle.sv_graph.specs.Graphs.{AddsSources}
 use Rattle.sv_graph.specs.Marks.{is_marked, IsTable}
@@ -112,7 +112,7 @@ module _ (combs : List Bool) (reads : Graph) where
       in_turn false false false = refl
 
 -- the tables with all readers
-pub reads_are : (design : FlatDesign) (tables : Reads)
+pub reads_are : (design : FlatDesign) (tables : SignalReads)
     → IsTable (length design.signals) tables.combs.items (is_combinational design)
     → rows_of tables.reads ≡ map (reads_for design) (signal_numbers design)
     → size tables.readers ≡ size tables.reads → length tables.combs.items ≡ size tables.reads

@@ -13,7 +13,7 @@ use Rattle.sv_rules.specs.First.{found_before}
 use Rattle.sv_flat.specs.Processes.{declared_at}
 use Rattle.sv_graph.specs.Marks.{is_marked}
 use Rattle.sv_design.specs.Numbers.{numbers}
-use Rattle.sv_design.specs.declared.orders.Reads.{Reads}
+use Rattle.sv_design.specs.declared.orders.SignalReads.{SignalReads}
 
 -- the breach of a circle
 abbrev pub circle_breach : Circle → Breach
@@ -65,7 +65,7 @@ precedes here None = true
 precedes here (Some circle) = found_before here circle.first
 
 -- what was found is a combinational signal with its place, if there is one
-abbrev pub IsBegin : FlatDesign → Reads → Option Found → Type 0
+abbrev pub IsBegin : FlatDesign → SignalReads → Option Found → Type 0
 IsBegin design reads None = Unit {0}
 IsBegin design reads (Some here) =
     IsTrue (is_marked reads.combs.items here.signal.0)

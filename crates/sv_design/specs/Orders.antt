@@ -12,11 +12,11 @@ use Rattle.sv_graph.specs.declared.queues.Queue.{Queue}
 use Rattle.sv_graph.specs.Graphs.{size, row, rows_of, has_edge}
 use Rattle.sv_graph.specs.Marks.{is_marked, IsTable}
 use Rattle.sv_graph.specs.Queues.{ordered, open_at}
-use Rattle.sv_design.specs.declared.orders.Reads.{Reads}
+use Rattle.sv_design.specs.declared.orders.SignalReads.{SignalReads}
 
 -- the tables say which signals of the design are combinational, what is read for each signal, and
 -- which combinational signals a combinational one is read for, each of them once
-pub record AreReads (design : FlatDesign) (reads : Reads) : Type 0 where
+pub record AreReads (design : FlatDesign) (reads : SignalReads) : Type 0 where
   pub combs_are : IsTable (length design.signals) reads.combs.items (is_combinational design)
   pub few : length design.signals < 2 ^ 32
   pub reads_are : rows_of reads.reads ≡ map (reads_for design) (signal_numbers design)
@@ -26,7 +26,7 @@ pub record AreReads (design : FlatDesign) (reads : Reads) : Type 0 where
   pub once : (a : ℕ) → IsTrue (all_differ (row reads.readers a))
 
 -- they are those of some design
-abbrev pub HasDesign : Reads → Type 0
+abbrev pub HasDesign : SignalReads → Type 0
 HasDesign reads = (design : FlatDesign) × AreReads design reads
 
 -- combinational signals, none twice, each of which reads only earlier ones; and all of them, where
@@ -44,18 +44,18 @@ pub record IsWholeOrder (design : FlatDesign) (order : List ℕ) : Type 0 where
   pub differ : IsTrue (all_differ order)
 
 -- the order is such a one of some design with these tables
-abbrev pub HasWholeOrder : Reads → List ℕ → Type 0
+abbrev pub HasWholeOrder : SignalReads → List ℕ → Type 0
 HasWholeOrder reads order =
     (design : FlatDesign) × AreReads design reads × IsWholeOrder design order
 
 -- ---- signals that go into an order
 
 -- how many combinational signals are read for one
-abbrev pub comb_count : Reads → ℕ → ℕ
+abbrev pub comb_count : SignalReads → ℕ → ℕ
 comb_count reads s = length (filter (is_marked reads.combs.items) (row reads.reads s))
 
 -- all reads are open, and combinational signals with none are in the order
-pub record Begins (reads : Reads) (queue : Queue) : Type 0 where
+pub record Begins (reads : SignalReads) (queue : Queue) : Type 0 where
   pub count : length queue.counts.items ≡ size reads.reads
   pub open_is : (s : ℕ) → s < size reads.reads → open_at queue s ≡ comb_count reads s
   pub order_is : ordered queue ≡ filter (λ s.

@@ -19,7 +19,7 @@ ghost use Rattle.sv_design.specs.Tables.{AreTables};
 use crate::depths::by_depth;
 use crate::design::Design;
 use crate::loops::first_circle;
-use crate::orders::{Reads, read_order, reads_table};
+use crate::orders::{SignalReads, read_order, reads_table};
 use crate::processes::kept_processes;
 use crate::reads::{ReadGraphs, reads_of};
 use crate::registers::{clocked_count, comb_table, register_table};
@@ -39,7 +39,7 @@ fn read_tables(
     clocks: &[bool],
     processes: &[Process],
     registers: &[bool],
-) -> Result<(Reads, Graph), AllocError>
+) -> Result<(SignalReads, Graph), AllocError>
     requires sound { IsTrue (sound (design_of flat.now)) }
     requires clocks { AreClocks (design_of flat.now) clocks.now }
     requires processes { map process_form processes.now ≡ processes_of (design_of flat.now) }
@@ -63,7 +63,12 @@ fn comb_count(combs: &[bool]) -> usize
 }
 
 // Whether a longest order has all combinational signals: else there is a circle, and its fault.
-fn check_order(alloc: Global, flat: &Flat, reads: &Reads, order: &[SigId]) -> Result<(), Fault>
+fn check_order(
+    alloc: Global,
+    flat: &Flat,
+    reads: &SignalReads,
+    order: &[SigId],
+) -> Result<(), Fault>
     requires sound { IsTrue (sound (design_of flat.now)) }
     requires reads { AreReads (design_of flat.now) reads.now }
     requires unbroken { breaches (design_of flat.now) ≡ [] }
@@ -85,7 +90,7 @@ fn check_order(alloc: Global, flat: &Flat, reads: &Reads, order: &[SigId]) -> Re
 }
 
 // The combinational signals by depth, or the fault of the first circle.
-fn ordered(alloc: Global, flat: &Flat, reads: &Reads) -> Result<Vec<SigId>, Fault>
+fn ordered(alloc: Global, flat: &Flat, reads: &SignalReads) -> Result<Vec<SigId>, Fault>
     requires sound { IsTrue (sound (design_of flat.now)) }
     requires reads { AreReads (design_of flat.now) reads.now }
     requires unbroken { breaches (design_of flat.now) ≡ [] }

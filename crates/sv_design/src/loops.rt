@@ -11,7 +11,7 @@ ghost use Rattle.sv_design.specs.Numbers.{numbers};
 ghost use Rattle.sv_design.specs.Orders.{AreReads, HasDesign, HasBegins};
 ghost use Rattle.sv_graph.specs.Searches.{found_by, LeadsDown, IsWayBack};
 
-use crate::orders::Reads;
+use crate::orders::SignalReads;
 use std::alloc::{AllocError, Global};
 use sv_flat::{Flat, SigId};
 use sv_graph::{Search, begins_of, has_mark, search_from};
@@ -45,7 +45,11 @@ fn circle_of(
 
 // The signals of a circle from the signal on over greater ones, each reading the next and the last
 // the first.
-fn circle_from(alloc: Global, reads: &Reads, first: SigId) -> Result<Option<Vec<SigId>>, AllocError>
+fn circle_from(
+    alloc: Global,
+    reads: &SignalReads,
+    first: SigId,
+) -> Result<Option<Vec<SigId>>, AllocError>
     requires tables { HasDesign reads.now }
     requires first { IsTrue (is_marked reads.now.combs.items first.0) }
     ensures { IfOk result (λ circle. (design : FlatDesign) → AreReads design reads.now
@@ -61,7 +65,7 @@ fn circle_from(alloc: Global, reads: &Reads, first: SigId) -> Result<Option<Vec<
 }
 
 // For each signal, whether a circle of reads can begin at it: each at which one does is marked.
-fn begin_table(alloc: Global, reads: &Reads) -> Result<Vec<bool>, AllocError>
+fn begin_table(alloc: Global, reads: &SignalReads) -> Result<Vec<bool>, AllocError>
     ensures { IfOk result (λ table. (design : FlatDesign) → AreReads design reads.now
         → HasBegins design table.items) }
 {
@@ -70,7 +74,7 @@ fn begin_table(alloc: Global, reads: &Reads) -> Result<Vec<bool>, AllocError>
 }
 
 // Whether the signal is combinational and a circle can begin at it.
-fn can_begin(reads: &Reads, begins: &[bool], signal: SigId) -> bool
+fn can_begin(reads: &SignalReads, begins: &[bool], signal: SigId) -> bool
     ensures { result ≡ (is_marked begins.now signal.0 && is_marked reads.now.combs.items signal.0) }
 {
     has_mark(begins, signal) & has_mark(&reads.combs, signal)
@@ -90,7 +94,7 @@ fn precedes(here: Found, circle: &Option<Circle>) -> bool
 // far; else that one.
 fn earlier_circle(
     alloc: Global,
-    reads: &Reads,
+    reads: &SignalReads,
     begins: &[bool],
     here: Found,
     circle: Option<Circle>,
@@ -118,7 +122,7 @@ fn earlier_circle(
 }
 
 // The signal, where a circle can begin at it.
-fn begin_at(reads: &Reads, begins: &[bool], here: Found) -> Option<Found>
+fn begin_at(reads: &SignalReads, begins: &[bool], here: Found) -> Option<Found>
     ensures { (design : FlatDesign) → here.place ≡ declared_at design here.signal.0
         → IsBegin design reads.now result }
 {
@@ -130,7 +134,7 @@ fn begin_at(reads: &Reads, begins: &[bool], here: Found) -> Option<Found>
 }
 
 // The first of the combinational signals at which a circle can begin.
-fn first_begin(flat: &Flat, reads: &Reads, begins: &[bool]) -> Option<Found>
+fn first_begin(flat: &Flat, reads: &SignalReads, begins: &[bool]) -> Option<Found>
     requires sound { IsTrue (sound (design_of flat.now)) }
     ensures { IsBegin (design_of flat.now) reads.now result }
 {
@@ -151,7 +155,7 @@ fn first_begin(flat: &Flat, reads: &Reads, begins: &[bool]) -> Option<Found>
 fn likely_circle(
     alloc: Global,
     flat: &Flat,
-    reads: &Reads,
+    reads: &SignalReads,
     begins: &[bool],
 ) -> Result<Option<Circle>, AllocError>
     requires sound { IsTrue (sound (design_of flat.now)) }
@@ -168,7 +172,11 @@ fn likely_circle(
 }
 
 /// The first circle of reads. It fails where memory runs out.
-pub fn first_circle(alloc: Global, flat: &Flat, reads: &Reads) -> Result<Option<Circle>, AllocError>
+pub fn first_circle(
+    alloc: Global,
+    flat: &Flat,
+    reads: &SignalReads,
+) -> Result<Option<Circle>, AllocError>
     requires sound { IsTrue (sound (design_of flat.now)) }
     requires reads { AreReads (design_of flat.now) reads.now }
     ensures { IfOk result (FindsCircle (design_of flat.now)) }

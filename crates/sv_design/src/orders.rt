@@ -18,7 +18,7 @@ use sv_graph::{Graph, Queue, has_mark, push_if};
 /// Which signals are combinational; for each signal those that are read for it; and for each
 /// combinational signal the combinational ones that it is read for.
 #[derive(Drop)]
-pub struct Reads {
+pub struct SignalReads {
     pub combs: Vec<bool>,
     pub reads: Graph,
     pub readers: Graph,
@@ -63,7 +63,7 @@ fn comb_readers(alloc: Global, combs: &[bool], reads: &Graph) -> Result<Graph, A
 
 /// The tables that orders are found with, from the combinational signals and what is read for each
 /// signal. It fails where memory runs out.
-pub fn reads_table(alloc: Global, combs: Vec<bool>, reads: Graph) -> Result<Reads, AllocError>
+pub fn reads_table(alloc: Global, combs: Vec<bool>, reads: Graph) -> Result<SignalReads, AllocError>
     requires size { length combs.items ≡ size reads }
     requires whole { IsWhole reads }
     requires few { size reads < 2 ^ 32 }
@@ -73,7 +73,7 @@ pub fn reads_table(alloc: Global, combs: Vec<bool>, reads: Graph) -> Result<Read
         AreReads design tables) }
 {
     let readers = comb_readers(alloc, &combs, &reads)?;
-    Ok(Reads {
+    Ok(SignalReads {
         combs,
         reads,
         readers,
@@ -91,7 +91,7 @@ fn comb_count_among(combs: &[bool], signals: &[SigId]) -> usize
 }
 
 // The combinational signals that read no combinational one.
-fn first_queue(alloc: Global, reads: &Reads) -> Result<Queue, AllocError>
+fn first_queue(alloc: Global, reads: &SignalReads) -> Result<Queue, AllocError>
     requires { HasDesign reads.now }
     ensures { IfOk result (Begins reads.now) }
 {
@@ -108,7 +108,7 @@ fn first_queue(alloc: Global, reads: &Reads) -> Result<Queue, AllocError>
 
 /// Combinational signals in an order in which each reads only earlier ones: as many as can stand in
 /// one. It fails where memory runs out.
-pub fn read_order(alloc: Global, reads: &Reads) -> Result<Vec<SigId>, AllocError>
+pub fn read_order(alloc: Global, reads: &SignalReads) -> Result<Vec<SigId>, AllocError>
     requires { HasDesign reads.now }
     ensures { IfOk result (λ order. (design : FlatDesign) → AreReads design reads.now →
         IsLongestOrder design (numbers order.items)) }

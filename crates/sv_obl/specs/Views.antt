@@ -5,14 +5,14 @@ use Rattle.sv_flat.specs.declared.signals.SigId.{SigId}
 use Rattle.sv_flat.specs.declared.statements.Piece.{Piece}
 use Rattle.sv_flat.specs.Design.{PieceForm}
 use Rattle.sv_flat.specs.Views.{typed_tree, piece_form}
-use Rattle.sv_obl.specs.declared.queries.Step.{Step}
+use Rattle.sv_obl.specs.declared.queries.PathStep.{PathStep}
 use Rattle.sv_obl.specs.declared.queries.Goal.{Goal}
 use Rattle.sv_obl.specs.declared.queries.Goal.TheVariants as goal
 use Rattle.sv_obl.specs.declared.queries.Query.{Query}
 use Rattle.sv_obl.specs.Paths.{StepForm}
 use Rattle.sv_obl.specs.Obligations.{GoalForm, flow, holds, selector, Obligation}
 
-abbrev pub step_form : Step → StepForm
+abbrev pub step_form : PathStep → StepForm
 step_form s = record { place = s.place; condition = typed_tree s.cond; truth = s.truth }
 
 abbrev pub goal_form : Goal → GoalForm

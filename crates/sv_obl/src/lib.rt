@@ -51,6 +51,6 @@ pub use laws::{
 pub use marked::Marked;
 pub use names::names_of;
 pub use pieces::is_some_of;
-pub use queries::{Goal, Query, Step};
+pub use queries::{Goal, PathStep, Query};
 pub use std::alloc::AllocError as OutOfMemory;
 pub use valuations::Valuation;

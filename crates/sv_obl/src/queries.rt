@@ -5,7 +5,7 @@ use sv_num::Place;
 
 /// A condition on a path, with the place of its `if`, arm or `?`, and whether it holds there.
 #[derive(Debug, Drop)]
-pub struct Step {
+pub struct PathStep {
     pub place: Place,
     pub cond: FExpr,
     pub truth: bool,
@@ -28,7 +28,7 @@ pub enum Goal {
 pub struct Query {
     pub facts: Vec<FExpr>,
     /// In textual order.
-    pub path: Vec<Step>,
+    pub path: Vec<PathStep>,
     /// The place of the assignment that the path ends in, and none where the target is held.
     pub right: Option<Place>,
     /// In signal order.

@@ -11,7 +11,7 @@ use Rattle.sv_flat.specs.Design.{SignalForm, TypedTree, typed, choice, PieceForm
 use Rattle.sv_flat.specs.Design.{nothing, after, assign, branch}
 use Rattle.sv_flat.specs.Assigned.{assigns}
 use Rattle.sv_paths.specs.declared.conditions.Condition.{Condition}
-use Rattle.sv_obl.specs.declared.queries.Step.{Step}
+use Rattle.sv_obl.specs.declared.queries.PathStep.{PathStep}
 use Rattle.sv_paths.specs.declared.trails.Trail.{Trail}
 use Rattle.sv_paths.specs.Alongs.{WayForm, next_arm, later_arms, on_arm, with_step, along_ways}
 use Rattle.sv_paths.specs.Alongs.{along_own, along_assign, along, open_way}
@@ -226,8 +226,8 @@ module _ (f : StepForm → StepForm) where
       ∙ sym (more_changed condition_form f seen condition)
 
   -- one more of those that are left, behind the ones so far
-  pub closed_next : (closed more : List Step) (rest left : List Condition) (all : List StepForm)
-      (one : Step) (condition : Condition)
+  pub closed_next : (closed more : List PathStep) (rest left : List Condition) (all : List StepForm)
+      (one : PathStep) (condition : Condition)
       → more ≡ closed ++ one ∷ [] → rest ≡ left ++ condition ∷ []
       → step_form one ≡ f (condition_form condition)
       → map step_form closed ++ reverse (map f (map condition_form rest)) ≡ all

@@ -12,13 +12,13 @@ ghost use Rattle.sv_obl.specs.Wanted.{with_copies};
 use crate::exchange::{Put, with_put};
 use std::alloc::{AllocError, Global};
 use sv_flat::{SigId, Signal};
-use sv_obl::{Step, names_of};
+use sv_obl::{PathStep, names_of};
 
 /// A condition on the way, and the wanted names in it, where there are so many signals. They tell
 /// without a walk through it that an assignment changes nothing in it.
 #[derive(Drop)]
 pub struct Condition {
-    pub step: Step,
+    pub step: PathStep,
     pub count: u32,
     pub wanted: Vec<u32>,
     pub ghost named: { wanted.items ≡ filter (nat_le count) (names_in [] (typed_tree step.cond)) },
@@ -37,7 +37,7 @@ fn wanted_among(alloc: Global, count: u32, names: &[u32]) -> Result<Vec<u32>, Al
 
 impl Condition {
     /// A step with the wanted names in its condition; an error where memory runs out.
-    pub fn new(alloc: Global, count: u32, step: Step) -> Result<Condition, AllocError>
+    pub fn new(alloc: Global, count: u32, step: PathStep) -> Result<Condition, AllocError>
         ensures { IfOk result (λ made. made.step ≡ step) }
     {
         let names = names_of(alloc, &step.cond)?;
@@ -76,8 +76,8 @@ impl Condition {
         if self.count == count && !self.names_put(put) {
             return Ok(self);
         }
-        let Step { place, cond, truth } = self.step;
+        let PathStep { place, cond, truth } = self.step;
         let cond = with_put(cond, alloc, signals, put)?;
-        Condition::new(alloc, count, Step { place, cond, truth })
+        Condition::new(alloc, count, PathStep { place, cond, truth })
     }
 }

@@ -15,7 +15,7 @@ use std::alloc::{AllocError, Global};
 use sv_design::Design;
 use sv_flat::{Process, SigId, Signal};
 use sv_num::Place;
-use sv_obl::{Frame, Goal, Query, Step};
+use sv_obl::{Frame, Goal, PathStep, Query};
 use sv_texts::push_place;
 
 /// A condition as a line shows it: whether it holds, and its place.
@@ -127,7 +127,7 @@ fn push_query_path(
 }
 
 // The conditions as a line shows them.
-fn marks_of(alloc: Global, steps: &[Step]) -> Result<Vec<StepMark>, AllocError>
+fn marks_of(alloc: Global, steps: &[PathStep]) -> Result<Vec<StepMark>, AllocError>
     ensures { IfOk result (λ marks.
         map mark_word marks.items ≡ map step_word (map step_form steps.now)) }
 {

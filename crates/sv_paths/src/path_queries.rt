@@ -12,7 +12,7 @@ use crate::routes::{Route, StepRef};
 use std::alloc::{AllocError, Global};
 use sv_flat::{ProcKind, Process, SigId};
 use sv_num::Place;
-use sv_obl::{Frame, Goal, Query, Step};
+use sv_obl::{Frame, Goal, PathStep, Query};
 
 /// Whether a process of this kind is clocked.
 pub fn is_clocked(kind: ProcKind) -> bool
@@ -50,14 +50,14 @@ pub fn place_of(process: &Process, place: Option<Place>) -> Option<Place>
 }
 
 // The conditions in textual order, with expressions of their own.
-fn steps_of(alloc: Global, refs: &[StepRef]) -> Result<Vec<Step>, AllocError>
+fn steps_of(alloc: Global, refs: &[StepRef]) -> Result<Vec<PathStep>, AllocError>
     ensures { IfOk result (λ steps.
         map step_form steps.items ≡ reverse (map step_ref_form refs.now)) }
 {
     let mut steps = Vec::with_capacity(alloc, refs.len())?;
     for i in 0..refs.len() {
         let step = &refs[refs.len() - 1 - i];
-        steps.push(Step {
+        steps.push(PathStep {
             place: step.place,
             cond: step.cond.copy(alloc)?,
             truth: step.truth,

@@ -29,7 +29,7 @@ use crate::walks::TargetWalk;
 use std::alloc::{AllocError, Global};
 use std::mem;
 use sv_flat::{FExpr, FNode, Piece, Process, SigId, Signal};
-use sv_obl::{Goal, Marked, Query, Step};
+use sv_obl::{Goal, Marked, PathStep, Query};
 
 // A path on the way: what it wants, and its conditions, the last in the text first.
 #[derive(Drop)]
@@ -66,7 +66,7 @@ impl<'c> Making<'c> {
             place: step.place,
         };
         self.trail.add_mark(alloc, count, mark, step.cond)?;
-        let copy = Step {
+        let copy = PathStep {
             place: step.place,
             cond: step.cond.copy(alloc)?,
             truth: step.truth,
@@ -259,7 +259,7 @@ fn closed(
     alloc: Global,
     signals: &[Signal],
     conditions: Vec<Condition>,
-) -> Result<Vec<Step>, AllocError>
+) -> Result<Vec<PathStep>, AllocError>
     requires few { length signals.now < 4294967296 }
     ensures { IfOk result (λ steps. map step_form steps.items
         ≡ reverse (map (step_with (closed_tree (signal_forms signals.now) false))
@@ -268,8 +268,8 @@ fn closed(
     let mut rest = conditions;
     let mut closed = Vec::with_capacity(alloc, rest.len())?;
     while let Some(condition) = rest.pop() {
-        let Step { place, cond, truth } = condition.step;
-        closed.push(Step {
+        let PathStep { place, cond, truth } = condition.step;
+        closed.push(PathStep {
             place,
             cond: with_put(cond, alloc, signals, Put::Zero)?,
             truth,
@@ -279,7 +279,7 @@ fn closed(
 }
 
 // The conditions of the path, in textual order.
-fn steps_along(walk: TargetWalk, body: &Marked, trail: &Trail) -> Result<Vec<Step>, AllocError>
+fn steps_along(walk: TargetWalk, body: &Marked, trail: &Trail) -> Result<Vec<PathStep>, AllocError>
     requires known { walk.target.0 < length walk.signals.now }
     requires few { length walk.signals.now < 4294967296 }
     requires tells { TellsTargets body.now }

@@ -18,7 +18,7 @@ use Rattle.sv_solve.specs.Watching.{Watching, IsListed, IsPairOf, IsFitting, IsH
 use Rattle.sv_solve.specs.Watching.{IsSettledAt, UnitsTrue, pair_at}
 use Rattle.sv_solve.specs.States.{IsReasoned, IsLevel, SearchState, IsSearching}
 use Rattle.sv_solve.specs.declared.watches.Pair.{Pair}
-use Rattle.sv_solve.specs.declared.state.State.TheInside.{Inside}
+use Rattle.sv_solve.specs.declared.state.SolverState.TheInside.{Inside}
 use Rattle.sv_solve.proofs.Places.{stands_take}
 use Rattle.sv_solve.proofs.Trails.{at_rest}
 use Rattle.sv_solve.proofs.Ascending.{before_place, ascend_take}

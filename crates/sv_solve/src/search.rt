@@ -6,7 +6,7 @@ ghost use Rattle.sv_solve.specs.Outcomes.{IsSearchOutcome};
 
 use crate::lists::LiteralList;
 use crate::order::Order;
-use crate::state::State;
+use crate::state::SolverState;
 use crate::trail::AssignmentTrail;
 use std::alloc::{AllocError, Global};
 use sv_clause::Log;
@@ -19,14 +19,14 @@ pub enum SearchOutcome {
     /// The empty clause is derived.
     Refuted(Log),
     /// A conflict clause is learned.
-    Learned(State),
+    Learned(SolverState),
 }
 
 /// Decides and propagates until a clause is false, and learns from that, or until all variables are
 /// assigned.
 pub fn search(
     alloc: Global,
-    state: State,
+    state: SolverState,
     seen: &mut LiteralList,
     order: &mut Order,
 ) -> Result<SearchOutcome, AllocError>
@@ -50,7 +50,7 @@ pub fn search(
 // What a false clause shows.
 fn conclude(
     alloc: Global,
-    state: State,
+    state: SolverState,
     seen: &mut LiteralList,
     order: &mut Order,
     conflict: usize,

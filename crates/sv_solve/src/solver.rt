@@ -15,7 +15,7 @@ use crate::lists::LiteralList;
 use crate::literal::Literal;
 use crate::order::Order;
 use crate::search::{SearchOutcome, search};
-use crate::state::{Begun, State};
+use crate::state::{Begun, SolverState};
 use crate::trail::AssignmentTrail;
 use std::alloc::Global;
 use sv_clause::{Clause, Log};
@@ -55,7 +55,7 @@ fn values_under(
 // without decisions.
 fn spend(
     alloc: Global,
-    state: State,
+    state: SolverState,
     seen: &mut LiteralList,
     order: &mut Order,
 ) -> Result<Solved, OutOfMemory>
@@ -83,7 +83,7 @@ fn answer(
     let bound = variables.min(2_147_483_647);
     let mut seen = LiteralList::new(alloc, bound)?;
     let mut order = Order::new(alloc, bound)?;
-    match State::new(alloc, variables, clauses, &mut seen)? {
+    match SolverState::new(alloc, variables, clauses, &mut seen)? {
         Begun::Ready(state) => learn(alloc, variables, state, &mut seen, &mut order, budget),
         Begun::Refuted(log) => Ok(Solved::Refuted(log)),
     }
@@ -93,7 +93,7 @@ fn answer(
 fn learn(
     alloc: Global,
     variables: u32,
-    state: State,
+    state: SolverState,
     seen: &mut LiteralList,
     order: &mut Order,
     budget: u32,

@@ -32,7 +32,7 @@ use sv_clause::{Clause, Log};
 /// and the watched literals. A decision level is what stands on the trail from one decision to the
 /// next.
 #[derive(Drop)]
-pub struct State {
+pub struct SolverState {
     known: Knowledge,
     trail: AssignmentTrail,
     // one decision a level, the newest last
@@ -42,7 +42,7 @@ pub struct State {
     propagated: usize,
 }
 
-impl Model for State {
+impl Model for SolverState {
     ghost use Rattle.sv_solve.specs.States.{Searching, IsSearching};
 
     ghost Value = { Searching };
@@ -67,7 +67,7 @@ impl Model for State {
 #[derive(Drop)]
 pub enum Begun {
     /// No clause is empty, and the literal of each clause of one literal is true.
-    Ready(State),
+    Ready(SolverState),
     /// A clause is empty, or two of one literal contradict each other.
     Refuted(Log),
 }
@@ -171,7 +171,7 @@ fn first_from(decisions: &[usize], keep: usize) -> usize
     decisions.partition_point(|decision| *decision < keep)
 }
 
-impl State {
+impl SolverState {
     /// The state before any decision, where the literals of the clauses of one literal are true.
     pub fn new(
         alloc: Global,
@@ -190,7 +190,7 @@ impl State {
             let log = refute_known(alloc, known, &trail, seen, conflict)?;
             return Ok(Begun::Refuted(log));
         }
-        Ok(Begun::Ready(State::watching(alloc, known, trail)?))
+        Ok(Begun::Ready(SolverState::watching(alloc, known, trail)?))
     }
 
     // The state before any decision, where the first two literals of each clause are watched.
@@ -198,7 +198,7 @@ impl State {
         alloc: Global,
         known: Knowledge,
         trail: AssignmentTrail,
-    ) -> Result<State, AllocError>
+    ) -> Result<SolverState, AllocError>
         requires small { known.variables < 2 ^ 31 }
         requires variables { trail.variables ≡ known.variables }
         requires units { UnitsTrue (clauses_known known) trail.literals }
@@ -206,7 +206,7 @@ impl State {
         ensures { IfOk result (λ state. state.known ≡ known) }
     {
         let watches = watch_all(alloc, known.variables(), known.clauses())?;
-        Ok(State {
+        Ok(SolverState {
             known,
             trail,
             decisions: Vec::new(alloc),
@@ -242,7 +242,7 @@ impl State {
 
     /// Unit propagation until all literals of the trail are propagated, or a clause is false: gives
     /// its place.
-    pub fn propagate(mut self) -> Result<(State, Option<usize>), AllocError>
+    pub fn propagate(mut self) -> Result<(SolverState, Option<usize>), AllocError>
         ensures known { IfOk result (λ pair. pair.0.known ≡ self.known) }
         ensures decisions { IfOk result (λ pair. pair.0.decisions ≡ self.decisions) }
         ensures older { IfOk result (λ pair.
@@ -264,7 +264,7 @@ impl State {
     }
 
     /// Decision: makes an open literal true, at a new decision level.
-    pub fn decide(mut self, literal: &Literal) -> Result<State, AllocError>
+    pub fn decide(mut self, literal: &Literal) -> Result<SolverState, AllocError>
         requires of { IsOf self.trail.variables literal.now }
         requires new { IsOpen self.trail.literals literal.now }
         requires propagated { self.propagated ≡ length self.trail.literals }
@@ -280,7 +280,7 @@ impl State {
     }
 
     /// Backjump: takes the decision levels back whose decisions stand from a place of the trail on.
-    pub fn backjump(mut self, order: &mut Order, keep: usize) -> State
+    pub fn backjump(mut self, order: &mut Order, keep: usize) -> SolverState
         requires { keep ≤ length self.trail.literals }
         ensures known { result.known ≡ self.known }
         ensures trail_variables { result.trail.variables ≡ self.trail.variables }
@@ -304,7 +304,7 @@ impl State {
     }
 
     // Takes up a conflict clause, and makes its asserting literal true by it.
-    fn take_up(mut self, alloc: Global, learned: ConflictClause) -> Result<State, AllocError>
+    fn take_up(mut self, alloc: Global, learned: ConflictClause) -> Result<SolverState, AllocError>
         requires derived { IsDerived (clauses_known self.known) (plain_step learned.step) }
         requires new { IsNew (clauses_known self.known) learned.step.clause }
         requires of { IsClauseOf self.known.variables learned.step.clause }
@@ -337,7 +337,7 @@ impl State {
         seen: &mut LiteralList,
         order: &mut Order,
         conflict: usize,
-    ) -> Result<State, AllocError>
+    ) -> Result<SolverState, AllocError>
         requires decided { 0 < length self.decisions }
         requires conflict { IsConflict (clauses_known self.known) self.trail.literals conflict }
         requires variables { seen.old.variables ≡ self.known.variables }
@@ -373,7 +373,7 @@ impl State {
         ensures refutation { IfOk result (IsRefutation self.known) }
         ensures variables { OnOk result (seen.new.variables ≡ seen.old.variables) }
     {
-        let State { known, trail, .. } = self;
+        let SolverState { known, trail, .. } = self;
         refute_known(alloc, known, &trail, seen, conflict)
     }
 
@@ -389,7 +389,7 @@ impl State {
         requires { self.propagated ≡ length self.trail.literals }
         ensures { IsSpent self.known result }
     {
-        let State { known, trail, .. } = self;
+        let SolverState { known, trail, .. } = self;
         // brings that the trail is consistent
         let _len = trail.len();
         known.finish()

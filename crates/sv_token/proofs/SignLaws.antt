@@ -20,7 +20,7 @@ use Rattle.sv_token.specs.Signs.{longest, sign_spellings, sign_of, sign_text, si
 use Rattle.sv_token.specs.Signs.{left_out_signs, punctuation, binary_spellings, unary_spellings}
 use Rattle.sv_token.specs.Signs.{operator_of, row_of}
 use Rattle.sv_token.specs.Views.{spelled, front_of}
-use Rattle.sv_token.specs.declared.fronts.Breach.TheVariants.{BadByte}
+use Rattle.sv_token.specs.declared.fronts.TokenBreach.TheVariants.{BadByte}
 use Rattle.sv_token.specs.declared.fronts.Front.{Front as CodeFront}
 use Rattle.sv_token.specs.declared.fronts.Front.TheVariants as code_front
 

@@ -2,13 +2,15 @@
 use Rattle.std.specs.Prelude.{◌≡◌, ℕ, ◌+◌, ◌-◌, not, ◌||◌, nat_le, if◌then◌else◌, List, [], ◌∷◌}
 use Rattle.std.specs.Prelude.{length, drop, Option, Some, None, option_map, codes}
 use Rattle.std.specs.Option.{option_map_or}
-use Rattle.sv_token.specs.declared.fronts.Form.{Form}
-use Rattle.sv_token.specs.declared.fronts.Form.TheVariants.{SystemName, Directive, EscapedName}
-use Rattle.sv_token.specs.declared.fronts.Form.TheVariants.{Text, Real, FourState, CaseEquality}
-use Rattle.sv_token.specs.declared.fronts.Form.TheVariants.{Power, IndexedPart, Event}
-use Rattle.sv_token.specs.declared.fronts.Breach.{Breach}
-use Rattle.sv_token.specs.declared.fronts.Breach.TheVariants.{BadByte, BadNumber, OpenComment}
-use Rattle.sv_token.specs.declared.fronts.Breach.TheVariants.{LeftOut}
+use Rattle.sv_token.specs.declared.fronts.OmittedForm.{OmittedForm}
+use Rattle.sv_token.specs.declared.fronts.OmittedForm.TheVariants.{SystemName, Directive}
+use Rattle.sv_token.specs.declared.fronts.OmittedForm.TheVariants.{EscapedName}
+use Rattle.sv_token.specs.declared.fronts.OmittedForm.TheVariants.{Text, Real, FourState}
+use Rattle.sv_token.specs.declared.fronts.OmittedForm.TheVariants.{CaseEquality}
+use Rattle.sv_token.specs.declared.fronts.OmittedForm.TheVariants.{Power, IndexedPart, Event}
+use Rattle.sv_token.specs.declared.fronts.TokenBreach.{TokenBreach}
+use Rattle.sv_token.specs.declared.fronts.TokenBreach.TheVariants.{BadByte, BadNumber, OpenComment}
+use Rattle.sv_token.specs.declared.fronts.TokenBreach.TheVariants.{LeftOut}
 use Rattle.sv_token.specs.declared.fronts.Front.{Front as CodeFront}
 use Rattle.sv_token.specs.declared.fronts.Front.TheVariants as code_front
 use Rattle.sv_token.specs.Bytes.{entry}
@@ -21,7 +23,7 @@ use Rattle.sv_token.specs.Signs.{left_out_signs, sign_of}
 use Rattle.sv_token.specs.Words.{word_of}
 
 -- the word for a form that is left out
-abbrev pub form_word : Form → List ℕ
+abbrev pub form_word : OmittedForm → List ℕ
 form_word SystemName = codes "system-name"
 form_word Directive = codes "directive"
 form_word EscapedName = codes "escaped-name"
@@ -34,14 +36,14 @@ form_word IndexedPart = codes "indexed-part"
 form_word Event = codes "event"
 
 -- the number of the rule that is broken
-abbrev pub rule_number : Breach → ℕ
+abbrev pub rule_number : TokenBreach → ℕ
 rule_number BadByte = 101
 rule_number BadNumber = 102
 rule_number OpenComment = 103
 rule_number (LeftOut form) = 104
 
 -- the names that go with it
-abbrev pub rule_names : Breach → List (List ℕ)
+abbrev pub rule_names : TokenBreach → List (List ℕ)
 rule_names BadByte = []
 rule_names BadNumber = []
 rule_names OpenComment = []

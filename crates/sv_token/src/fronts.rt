@@ -10,7 +10,7 @@ use sv_num::{Fault, Name, Place, Rule};
 
 /// A form of the standard that is left out.
 #[derive(Clone, Copy, Debug, PartialEq, Eq)]
-pub enum Form {
+pub enum OmittedForm {
     /// A name of the system that is no word of the grammar.
     SystemName,
     /// A directive whose line is not skipped.
@@ -33,29 +33,29 @@ pub enum Form {
     Event,
 }
 
-impl Form {
+impl OmittedForm {
     // The word that a refusal of the form gives.
     fn word(self) -> &'static [u8]
         ensures { result.now ≡ form_word self }
     {
         match self {
-            Form::SystemName => b"system-name",
-            Form::Directive => b"directive",
-            Form::EscapedName => b"escaped-name",
-            Form::Text => b"string",
-            Form::Real => b"real",
-            Form::FourState => b"four-state",
-            Form::CaseEquality => b"case-equality",
-            Form::Power => b"power",
-            Form::IndexedPart => b"indexed-part",
-            Form::Event => b"event",
+            OmittedForm::SystemName => b"system-name",
+            OmittedForm::Directive => b"directive",
+            OmittedForm::EscapedName => b"escaped-name",
+            OmittedForm::Text => b"string",
+            OmittedForm::Real => b"real",
+            OmittedForm::FourState => b"four-state",
+            OmittedForm::CaseEquality => b"case-equality",
+            OmittedForm::Power => b"power",
+            OmittedForm::IndexedPart => b"indexed-part",
+            OmittedForm::Event => b"event",
         }
     }
 }
 
 /// How the bytes break a rule on tokens.
 #[derive(Clone, Copy, Debug, PartialEq, Eq)]
-pub enum Breach {
+pub enum TokenBreach {
     /// The first byte begins no token.
     BadByte,
     /// A number is no number of its base, or too large.
@@ -63,19 +63,19 @@ pub enum Breach {
     /// A comment has no end.
     OpenComment,
     /// A form of the standard is left out.
-    LeftOut(Form),
+    LeftOut(OmittedForm),
 }
 
-impl Breach {
+impl TokenBreach {
     // The rule.
     fn rule(self) -> Rule
         ensures { number_in result ≡ rule_number self }
     {
         match self {
-            Breach::BadByte => Rule::BadByte,
-            Breach::BadNumber => Rule::BadNumber,
-            Breach::OpenComment => Rule::OpenComment,
-            Breach::LeftOut(_) => Rule::UnsupportedForm,
+            TokenBreach::BadByte => Rule::BadByte,
+            TokenBreach::BadNumber => Rule::BadNumber,
+            TokenBreach::OpenComment => Rule::OpenComment,
+            TokenBreach::LeftOut(_) => Rule::UnsupportedForm,
         }
     }
 
@@ -84,7 +84,7 @@ impl Breach {
         ensures { IfOk result (λ names. names.items ≡ rule_names self) }
     {
         let mut names = Vec::new(alloc);
-        if let Breach::LeftOut(form) = self {
+        if let TokenBreach::LeftOut(form) = self {
             names.push(Name::new(alloc, form.word())?)?;
         }
         Ok(names)
@@ -106,14 +106,14 @@ pub enum Front {
     /// A token, with so many bytes behind the first.
     Token(TokenKind, usize),
     /// A broken rule.
-    Broken(Breach),
+    Broken(TokenBreach),
 }
 
 impl Front {
     /// A form that is left out.
-    pub const fn left_out(form: Form) -> Front
-        ensures { result ≡ Front.Broken (Breach.LeftOut form) }
+    pub const fn left_out(form: OmittedForm) -> Front
+        ensures { result ≡ Front.Broken (TokenBreach.LeftOut form) }
     {
-        Front::Broken(Breach::LeftOut(form))
+        Front::Broken(TokenBreach::LeftOut(form))
     }
 }

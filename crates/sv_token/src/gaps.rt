@@ -7,7 +7,7 @@ ghost use Rattle.sv_token.specs.Gaps.{directive_at};
 ghost use Rattle.sv_token.specs.Views.{front_of};
 
 use crate::bytes::{name_is_next, name_length, rest_of_line};
-use crate::fronts::{Breach, Form, Front};
+use crate::fronts::{Front, OmittedForm, TokenBreach};
 use memchr::memmem;
 
 // The number of bytes up to the first `*/` and with it.
@@ -26,7 +26,7 @@ pub fn block_comment_at(bytes: &[u8]) -> Front
 {
     match close_length(&bytes[2..]) {
         Some(length) => Front::Gap(length + 1),
-        None => Front::Broken(Breach::OpenComment),
+        None => Front::Broken(TokenBreach::OpenComment),
     }
 }
 
@@ -47,8 +47,8 @@ pub fn directive_at(bytes: &[u8]) -> Front
     if is_skipped(name) {
         Front::Gap(rest_of_line(rest))
     } else if name_is_next(rest) {
-        Front::left_out(Form::Directive)
+        Front::left_out(OmittedForm::Directive)
     } else {
-        Front::Broken(Breach::BadByte)
+        Front::Broken(TokenBreach::BadByte)
     }
 }

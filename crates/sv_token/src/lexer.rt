@@ -8,7 +8,7 @@ ghost use Rattle.sv_token.specs.Faults.{IsFaultOf};
 ghost use Rattle.sv_token.specs.Views.{front_of};
 
 use crate::bytes::{begins_name, is_blank, is_digit, rest_of_line};
-use crate::fronts::{Form, Front};
+use crate::fronts::{Front, OmittedForm};
 use crate::gaps::{block_comment_at, directive_at};
 use crate::numerals::{number_at, unsized_number_at};
 use crate::operators::sign_at;
@@ -34,8 +34,8 @@ fn front_at(bytes: &[u8]) -> Front
     }
     match first {
         b'`' => directive_at(bytes),
-        b'\\' => Front::left_out(Form::EscapedName),
-        b'"' => Front::left_out(Form::Text),
+        b'\\' => Front::left_out(OmittedForm::EscapedName),
+        b'"' => Front::left_out(OmittedForm::Text),
         b'$' => system_name_at(bytes),
         b'\'' => unsized_number_at(bytes),
         _ if is_digit(first) => number_at(bytes),

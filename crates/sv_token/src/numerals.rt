@@ -12,7 +12,7 @@ ghost use Rattle.sv_token.specs.Numerals.{value_bound, based_literal, plain_lite
 ghost use Rattle.sv_token.specs.Numerals.{decimal_at, number_at, unsized_number_at};
 ghost use Rattle.sv_token.specs.Views.{front_of, head_behind, literal_value};
 
-use crate::fronts::{Breach, Form, Front};
+use crate::fronts::{Front, OmittedForm, TokenBreach};
 use crate::tokens::{Lit, TokenKind};
 use sv_num::Bits;
 
@@ -111,14 +111,14 @@ fn decimal_at(bytes: &[u8], count: usize) -> Front
 {
     let rest = &bytes[count..];
     if begins_fraction(rest) {
-        return Front::left_out(Form::Real);
+        return Front::left_out(OmittedForm::Real);
     }
     match value_in(10, &bytes[..count]) {
         Some(value) if value < 1 << 32 && !is_spoiled(rest) => {
             let bits = Bits::of_type(32, true, value as u64);
             Front::Token(TokenKind::Number(Lit { bits, sized: false }), count - 1)
         }
-        _ => Front::Broken(Breach::BadNumber),
+        _ => Front::Broken(TokenBreach::BadNumber),
     }
 }
 
@@ -260,17 +260,17 @@ fn based_at(bytes: &[u8], quote: usize, size: Option<u8>, head: Head) -> Front
     let rest = &bytes[start..];
     let digits = &rest[..digits_length(rest)];
     if underscore_is_next(digits) {
-        return Front::Broken(Breach::BadNumber);
+        return Front::Broken(TokenBreach::BadNumber);
     }
     if has_four_state(digits) {
-        return Front::left_out(Form::FourState);
+        return Front::left_out(OmittedForm::FourState);
     }
     match checked_value(size, head.base, digits) {
         Some(value) => Front::Token(
             TokenKind::Number(based_literal(size, head.signed, value)),
             start + digits.len() - 1,
         ),
-        None => Front::Broken(Breach::BadNumber),
+        None => Front::Broken(TokenBreach::BadNumber),
     }
 }
 
@@ -298,7 +298,7 @@ pub fn number_at(bytes: &[u8]) -> Front
     };
     match size_in(&bytes[..count]) {
         Some(size) => based_at(bytes, count, Some(size), head),
-        None => Front::Broken(Breach::BadNumber),
+        None => Front::Broken(TokenBreach::BadNumber),
     }
 }
 
@@ -309,6 +309,6 @@ pub fn unsized_number_at(bytes: &[u8]) -> Front
 {
     match head_at(&bytes[1..]) {
         Some(head) => based_at(bytes, 0, None, head),
-        None => Front::Broken(Breach::BadByte),
+        None => Front::Broken(TokenBreach::BadByte),
     }
 }

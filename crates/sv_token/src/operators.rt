@@ -6,7 +6,7 @@ ghost use Rattle.sv_token.specs.Signs.{punctuation, row_of, binary_spellings, un
 ghost use Rattle.sv_token.specs.Signs.{operator_of, left_out_signs, sign_of, sign_at};
 ghost use Rattle.sv_token.specs.Views.{form_word, front_of, spelled};
 
-use crate::fronts::{Breach, Form, Front};
+use crate::fronts::{Front, OmittedForm, TokenBreach};
 use crate::signs::{Operator, SignKind};
 use crate::tokens::TokenKind;
 use sv_num::{BINARY, UNARY, find, find_unary};
@@ -75,17 +75,17 @@ fn sign_of(text: &[u8]) -> Option<SignKind>
 }
 
 // The form that is left out whose sign the text is.
-fn form_of(text: &[u8]) -> Option<Form>
+fn form_of(text: &[u8]) -> Option<OmittedForm>
     ensures { option_map form_word result ≡ entry left_out_signs text.now }
 {
     if text == b"===".as_slice() || text == b"!==".as_slice() {
-        Some(Form::CaseEquality)
+        Some(OmittedForm::CaseEquality)
     } else if text == b"**".as_slice() {
-        Some(Form::Power)
+        Some(OmittedForm::Power)
     } else if text == b"+:".as_slice() || text == b"-:".as_slice() {
-        Some(Form::IndexedPart)
+        Some(OmittedForm::IndexedPart)
     } else if text == b"->".as_slice() {
-        Some(Form::Event)
+        Some(OmittedForm::Event)
     } else {
         None
     }
@@ -113,5 +113,5 @@ pub fn sign_at(bytes: &[u8]) -> Front
     spelled(bytes, 3)
         .or_else(|| spelled(bytes, 2))
         .or_else(|| spelled(bytes, 1))
-        .unwrap_or(Front::Broken(Breach::BadByte))
+        .unwrap_or(Front::Broken(TokenBreach::BadByte))
 }

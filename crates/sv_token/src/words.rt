@@ -6,7 +6,7 @@ ghost use Rattle.sv_token.specs.Words.{word_of, name_at, system_name_at};
 ghost use Rattle.sv_token.specs.Views.{front_of, HasWordsFrom};
 
 use crate::bytes::{name_is_next, name_length};
-use crate::fronts::{Breach, Form, Front};
+use crate::fronts::{Front, OmittedForm, TokenBreach};
 use crate::keywords::WordKind;
 use crate::tokens::TokenKind;
 
@@ -102,7 +102,7 @@ pub fn system_name_at(bytes: &[u8]) -> Front
     let more = name_length(&bytes[1..]);
     match word_of(&bytes[..more + 1]) {
         Some(word) => Front::Token(TokenKind::Word(word), more),
-        None if name_is_next(&bytes[1..more + 1]) => Front::left_out(Form::SystemName),
-        None => Front::Broken(Breach::BadByte),
+        None if name_is_next(&bytes[1..more + 1]) => Front::left_out(OmittedForm::SystemName),
+        None => Front::Broken(TokenBreach::BadByte),
     }
 }

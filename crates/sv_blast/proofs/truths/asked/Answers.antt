@@ -1,6 +1,6 @@
 use Rattle.std.proofs.Common.{◌≡◌, ◌-◌, ◌<◌, List, length, get_or, Some, sym, ap, ◌∙◌, arith}
 use Rattle.sv_flat.specs.Views.{typed_tree}
-use Rattle.sv_obl.specs.declared.queries.Step.{Step}
+use Rattle.sv_obl.specs.declared.queries.PathStep.{PathStep}
 use Rattle.sv_blast.proofs.KeptTruths.{get_right, get_none}
 use Rattle.sv_blast.proofs.truths.asked.Goals as goal
 
@@ -14,9 +14,10 @@ returns-then-behind-path c =
     let inside : behind < length path = omega (arith, all) in
     let found : c.index-path-behind.result ≡ get_or path behind c.index-path-behind.result =
     c.index-path-behind.is
-    ∙ ap (λ (z : List Step). get_or z behind c.index-path-behind.result) c.as_slice-path.ensures.value
+    ∙ ap (λ (z : List PathStep). get_or z behind c.index-path-behind.result)
+    c.as_slice-path.ensures.value
     in
-    ap (λ (step : Step). Some (typed_tree step.cond)) (sym c.index-path-behind.is)
+    ap (λ (step : PathStep). Some (typed_tree step.cond)) (sym c.index-path-behind.is)
     ∙ get_right facts path c.args.place behind c.index-path-behind.result (omega (arith, count))
     inside found
 

@@ -12,7 +12,7 @@ use Rattle.sv_system.proofs.Lists.{Contains-map, Contains-from_map}
 use Rattle.sv_flat.specs.declared.signals.SigId.{SigId}
 use Rattle.sv_flat.specs.Design.{FlatDesign}
 use Rattle.sv_flat.specs.Reads.{is_read_for, reads_for}
-use Rattle.sv_design.specs.declared.orders.Reads.{Reads}
+use Rattle.sv_design.specs.declared.orders.SignalReads.{SignalReads}
 use Rattle.sv_graph.specs.declared.searches.Search.{Search}
 use Rattle.sv_graph.specs.Graphs.{size}
 use Rattle.sv_graph.specs.Marks.{is_marked}
@@ -36,7 +36,7 @@ Tells design first readers (Some place) =
     × IsTrue (is_read_for design first (get_or (found_by readers) place 0))
 
 -- the reads of the first signal, as a row of the table has them
-module _ (design : FlatDesign) (reads : Reads) (are : AreReads design reads) (first : ℕ)
+module _ (design : FlatDesign) (reads : SignalReads) (are : AreReads design reads) (first : ℕ)
     (marked : IsTrue (is_marked reads.combs.items first)) where
   reads_inside : first < size reads.reads
   reads_inside =

@@ -7,7 +7,7 @@ use Rattle.sv_flat.specs.Design.{FlatDesign}
 use Rattle.sv_flat.specs.declared.signals.SigId.{SigId}
 use Rattle.sv_graph.specs.Graphs.{size}
 use Rattle.sv_graph.specs.Marks.{is_marked}
-use Rattle.sv_design.specs.declared.orders.Reads.{Reads}
+use Rattle.sv_design.specs.declared.orders.SignalReads.{SignalReads}
 use Rattle.sv_design.specs.Orders.{AreReads, comb_count}
 use Rattle.sv_graph.proofs.ListFacts.{filter_more}
 use Rattle.sv_graph.proofs.GraphFacts.{row_reached}
@@ -15,7 +15,7 @@ use Rattle.sv_design.proofs.QueueFacts.{reads_size, counts_more}
 use Rattle.sv_design.proofs.orders.first_queue.Goals as goal
 
 -- a row is that of a signal
-place_below : (design : FlatDesign) (reads : Reads) → AreReads design reads
+place_below : (design : FlatDesign) (reads : SignalReads) → AreReads design reads
     → (rows : List (Vec SigId Global)) (s : ℕ) → rows ≡ reads.reads.rows.items → s < length rows
     → s < length design.signals
 place_below design reads are rows s same inside =

@@ -2,7 +2,7 @@ use Rattle.std.proofs.Common.{◌≡◌, ◌∷◌, ◌++◌, List, ℕ, map, On
 use Rattle.std.specs.Prelude.{codes}
 use Rattle.sv_flat.specs.ByNumber.{signal_forms}
 use Rattle.sv_flat.specs.declared.signals.SigId.{SigId}
-use Rattle.sv_obl.specs.declared.queries.Step.{Step}
+use Rattle.sv_obl.specs.declared.queries.PathStep.{PathStep}
 use Rattle.sv_paths.specs.ListLines.{blanked, frame_word, step_word, right_word}
 use Rattle.sv_obl.specs.SignalNames.{name_of}
 use Rattle.sv_obl.specs.Views.{step_form, number_of}
@@ -20,6 +20,6 @@ returns c =
     subst (λ z. OnOk c.push_flow.result (c.push_flow.new.line.items ≡ z))
     (ap₂ words
     (ap (map mark_word) c.deref.ensures.value ∙ c.in_ok-marks.ensures
-    ∙ ap (λ (steps : List Step). map step_word (map step_form steps)) c.as_slice.ensures.value)
+    ∙ ap (λ (steps : List PathStep). map step_word (map step_form steps)) c.as_slice.ensures.value)
     c.as_slice-2.ensures.value)
     c.push_flow.ensures

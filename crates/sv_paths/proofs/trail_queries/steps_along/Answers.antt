@@ -1,6 +1,6 @@
 use Rattle.std.proofs.Common.{◌≡◌, false, map, reverse, ap, ◌∙◌, Vec, Global}
 use Rattle.sv_flat.specs.ByNumber.{signal_forms}
-use Rattle.sv_obl.specs.declared.queries.Step.{Step}
+use Rattle.sv_obl.specs.declared.queries.PathStep.{PathStep}
 use Rattle.sv_paths.specs.Alongs.{WayForm, along, open_way, conditions_along}
 use Rattle.sv_paths.specs.AlongViews.{way_form}
 use Rattle.sv_obl.specs.MarkedBodies.{marked_statement}
@@ -24,8 +24,8 @@ returns c =
     ∙ ap (along forms s body) (begins s (trail_form c.open.result) c.new.result.items
     c.as_slice.result.now trail.choices c.open.ensures c.new.ensures.items
     c.as_slice.ensures.value) in
-    on_ok c.closed.result (λ (v : Vec Step Global). map step_form v.items
+    on_ok c.closed.result (λ (v : Vec PathStep Global). map step_form v.items
     ≡ reverse (map close (way_form c.along.new.making).steps))
-    (λ (v : Vec Step Global). map step_form v.items ≡ conditions_along forms s body trail)
+    (λ (v : Vec PathStep Global). map step_form v.items ≡ conditions_along forms s body trail)
     (λ v is. is ∙ ap (λ (w : WayForm). reverse (map close w.steps)) way)
     c.closed.ensures

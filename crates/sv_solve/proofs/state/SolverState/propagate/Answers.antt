@@ -3,8 +3,8 @@ use Rattle.std.proofs.lemmas.List.{take_all}
 use Rattle.sv_solve.specs.Watching.{AllHeld}
 use Rattle.sv_solve.specs.States.{IsSearching}
 use Rattle.sv_solve.proofs.Levels.{after_propagate, when_none, state_of}
-use Rattle.sv_solve.proofs.state.State.propagate.Goals as goal
-use Rattle.sv_solve.proofs.state.State.propagate.Goals.{After-is_none}
+use Rattle.sv_solve.proofs.state.SolverState.propagate.Goals as goal
+use Rattle.sv_solve.proofs.state.SolverState.propagate.Goals.{After-is_none}
 
 after : (c : After-is_none) (upto : ℕ) → c.self.inside.propagated ≤ upto
     → upto ≤ length c.propagate.new.trail.literals

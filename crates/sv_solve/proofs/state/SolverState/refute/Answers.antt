@@ -1,7 +1,7 @@
 use Rattle.std.proofs.Common.{subst}
 use Rattle.std.specs.Prelude.{IfOk}
 use Rattle.sv_solve.specs.Outcomes.{IsRefutation}
-use Rattle.sv_solve.proofs.state.State.refute.Goals as goal
+use Rattle.sv_solve.proofs.state.SolverState.refute.Goals as goal
 
 pub returns-clause-refutation : goal.returns-clause-refutation
 returns-clause-refutation c =

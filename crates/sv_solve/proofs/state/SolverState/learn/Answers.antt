@@ -6,8 +6,8 @@ use Rattle.sv_clause.specs.Units.{IsAtRest}
 use Rattle.sv_solve.specs.Search.{ImpliedFrom}
 use Rattle.sv_solve.proofs.Levels.{implied_above, rest_below, state_of}
 use Rattle.sv_solve.proofs.TakenUp.{asserting_back}
-use Rattle.sv_solve.proofs.state.State.learn.Goals as goal
-use Rattle.sv_solve.proofs.state.State.learn.Goals.{After-index-mark}
+use Rattle.sv_solve.proofs.state.SolverState.learn.Goals as goal
+use Rattle.sv_solve.proofs.state.SolverState.learn.Goals.{After-index-mark}
 
 some : (c : After-index-mark) → 0 < length c.self.inside.decisions.items
 some c =

@@ -2,7 +2,7 @@ use Rattle.std.proofs.Common.{subst, ap, ◌∙◌, sym, length}
 use Rattle.sv_clause.specs.Units.{IsAtRest}
 use Rattle.sv_solve.specs.Known.{clauses_known}
 use Rattle.sv_solve.proofs.Levels.{rest_here, state_of}
-use Rattle.sv_solve.proofs.state.State.trail.Goals as goal
+use Rattle.sv_solve.proofs.state.SolverState.trail.Goals as goal
 
 pub returns-clause-rest : goal.returns-clause-rest
 returns-clause-rest c =

@@ -1,6 +1,6 @@
 use Rattle.std.proofs.Common.{ap, ◌∙◌, sym, ◌++◌, ◌∷◌, [], length}
 use Rattle.sv_solve.proofs.Levels.{after_decide, state_of}
-use Rattle.sv_solve.proofs.state.State.decide.Goals as goal
+use Rattle.sv_solve.proofs.state.SolverState.decide.Goals as goal
 
 pub invariant_of-self : goal.invariant_of-self
 invariant_of-self c =

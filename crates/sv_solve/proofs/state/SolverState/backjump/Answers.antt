@@ -6,8 +6,8 @@ use Rattle.std.proofs.lemmas.List.{take_all, length-take, get_or_read}
 use Rattle.sv_solve.specs.States.{IsSearching}
 use Rattle.sv_solve.proofs.Ascending.{from_place}
 use Rattle.sv_solve.proofs.Levels.{keep_below, state_of}
-use Rattle.sv_solve.proofs.state.State.backjump.Goals as goal
-use Rattle.sv_solve.proofs.state.State.backjump.Goals.{After-len}
+use Rattle.sv_solve.proofs.state.SolverState.backjump.Goals as goal
+use Rattle.sv_solve.proofs.state.SolverState.backjump.Goals.{After-len}
 
 below : (c : After-len) →
     All (λ d. d < c.args.keep) (take c.first_from-first.result c.self.inside.decisions.items)

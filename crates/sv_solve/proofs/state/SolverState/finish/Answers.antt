@@ -3,7 +3,7 @@ use Rattle.sv_clause.specs.Logs.{plain_log}
 use Rattle.sv_solve.specs.Outcomes.{IsSpent}
 use Rattle.sv_solve.proofs.Levels.{rest_here, state_of}
 use Rattle.sv_solve.proofs.Ends.{spent_known}
-use Rattle.sv_solve.proofs.state.State.finish.Goals as goal
+use Rattle.sv_solve.proofs.state.SolverState.finish.Goals as goal
 
 pub returns : goal.returns
 returns c =

@@ -11,8 +11,8 @@ use Rattle.sv_solve.proofs.Clauses.{of_member}
 use Rattle.sv_solve.proofs.Levels.{state_of}
 use Rattle.sv_solve.proofs.TakenUp.{after_take_up, pair_within, new_pair_of, pair_with, pair_is}
 use Rattle.sv_solve.proofs.Ends.{known_more}
-use Rattle.sv_solve.proofs.state.State.take_up.Goals as goal
-use Rattle.sv_solve.proofs.state.State.take_up.Goals.{After-pair_of}
+use Rattle.sv_solve.proofs.state.SolverState.take_up.Goals as goal
+use Rattle.sv_solve.proofs.state.SolverState.take_up.Goals.{After-pair_of}
 
 of_it : (c : After-pair_of) → IsClauseOf c.self.inside.known.variables c.args.learned.step.clause
 of_it c =

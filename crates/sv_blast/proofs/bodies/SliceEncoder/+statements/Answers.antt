@@ -139,7 +139,7 @@ after_slice-loop-rest-preserved t c =
     c.loop-rest.gates c.loop-rest.arms.items r c.args.word.items)
     (ap slice_statement c.in-Branch.is) c.loop-rest.invariant.0 in
     let arm : TargetArm =
-      record { condition = c.in_ok-condition.condition; word = c.in_ok-word.word } in
+    record { condition = c.in_ok-condition.condition; word = c.in_ok-word.word } in
     let made : target_word forms words s x c.args.word.items mid ≡ (later, arm.word.items) =
     sym (ap₂ (λ z w. target_word forms words s (slice_statement z) w mid) c.deref-in-Branch.ensures
     (c.in_ok-before.ensures ∙ c.deref.ensures.value))

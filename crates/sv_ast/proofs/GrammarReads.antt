@@ -129,9 +129,9 @@ read_exact x test (t ∷ ts) = do
   e ← test t.lexeme
   Some (t.place, ts, at_lexeme t ts e)
 
-abbrev pub without_place : {P : Place → Form} (ts : List Placed) → Reads P ts →
+abbrev pub without_place : (P : Place → Form) (ts : List Placed) → Reads P ts →
     Stands (somewhere P) ts
-without_place ts read = do
+without_place P ts read = do
   r ← read
   Some (r.1, (r.0, r.2))
 
@@ -139,13 +139,13 @@ abbrev pub read_word_at : (w : WordKind) (ts : List Placed) → Reads (word_at w
 read_word_at w ts = read_exact (word w) (as_word w) ts
 
 abbrev pub read_word : (w : WordKind) (ts : List Placed) → Stands (a_word w) ts
-read_word w ts = without_place {P = word_at w} ts (read_word_at w ts)
+read_word w ts = without_place (word_at w) ts (read_word_at w ts)
 
 abbrev pub read_sign_at : (s : SignKind) (ts : List Placed) → Reads (sign_at s) ts
 read_sign_at s ts = read_exact (sign s) (as_sign s) ts
 
 abbrev pub read_sign : (s : SignKind) (ts : List Placed) → Stands (a_sign s) ts
-read_sign s ts = without_place {P = sign_at s} ts (read_sign_at s ts)
+read_sign s ts = without_place (sign_at s) ts (read_sign_at s ts)
 
 abbrev pub read_number_at : (ts : List Placed) →
     Option ((v : Literal) × (p : Place) × (rest : List Placed) × number_at v p ts rest)

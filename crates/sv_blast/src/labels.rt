@@ -251,7 +251,8 @@ fn append_label(
 ) -> Result<(), AllocError>
     ensures { OnOk result (labels.new.items ≡ labels.old.items ++ label ∷ []) }
 {
-    labels.push(label)
+    labels.push(label)?;
+    Ok(())
 }
 
 /// The literals of the labels of signals, one after the other.

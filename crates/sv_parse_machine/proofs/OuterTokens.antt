@@ -122,8 +122,8 @@ pub f_perhaps_either : (on : Lexeme → OuterReaction) (x : Lexeme) (ys : List O
     (zs : List Outer) → on x ≡ takes_all ys → on y ≡ takes_all zs
     → StepsBy on (λ l. skip_form on or (somewhere (lexeme_at x) ⨾ outer_forms l ys)
     or (somewhere (lexeme_at y) ⨾ outer_forms l zs))
-f_perhaps_either on x ys y zs first second l t ts rest (inl (over, same)) =
-    skipped l t ts rest (on t.lexeme) over same
+f_perhaps_either on x ys y zs first second l t ts rest (inl (ends, same)) =
+    skipped l t ts rest (on t.lexeme) ends same
 f_perhaps_either on x ys y zs first second l t ts rest (inr is) =
     f_either on x ys y zs first second l t ts rest is
 

@@ -8,7 +8,7 @@ use Rattle.sv_event.proofs.event.Event.value.Goals as goal
 pub bounds-values-s : goal.bounds-values-s
 bounds-values-s c =
     let design = design_of c.args.self.now.design in
-    subst (λ n. s < n)
+    subst (λ n. c.args.s.0 < n)
     (ap (λ (v : EventState). length (design_of v.design).signals) (sym c.self.view_is)
     ∙ sym c.self.invariant.fit.count
     ∙ ap length (sym c.as_slice-values.ensures.value))

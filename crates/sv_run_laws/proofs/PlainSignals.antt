@@ -240,9 +240,10 @@ module _ (tables : SharedTables) where
     unfolding plain_from
     module_adds site built after h =
         let m = site.master in
+        let base = length built.signals in
         let o = opened tables inside site built after h in
         let w = o.declared_all in
-        let names : Names = names_of (length built.signals) w.bindings in
+        let names : Names = names_of base w.bindings in
         let own = o.signals in
         let middle : Built = record built { signals = built.signals ++ own } in
         let kept : map plain_form own ≡ map (plain_of site.path) (declarations m) =

@@ -81,13 +81,14 @@ mapped_start (Err s) = refl
 breach_two : {Y : Type 0} (v w : Steps) (more : Unit {0} → Walk Y) (f : Fault)
     → IsBreach (v >>= λ _. w).end f
     → IsBreach (v >>= λ _. w >>= more).end f
-breach_two {Y} v w more f h = by_first v.end h
+breach_two {Y} v w more (Rule r) h = by_first v.end h
   where
     by_first : (first : Result (Unit {0}) WalkStep)
-        → IsBreach (then_walk v.passed first (λ _. w)).end f
-        → IsBreach (then_walk v.passed first (λ _. w >>= more)).end f
-    by_first (Ok x) h = breach_first w more f h
-    by_first (Err s) h = h
+        → (then_walk v.passed first (λ _. w)).end ≡ Err (step_of r)
+        → (then_walk v.passed first (λ _. w >>= more)).end ≡ Err (step_of r)
+    by_first (Ok x) h = end_broken w more (step_of r) h
+    by_first (Err s) h = cc h
+breach_two v w more OutOfMemory h = tt
 
 -- what a `?` hands on is refused as what it was handed
 pub handed_on : {T E : Type 0} (r : Result T E) (e : E) (P : E → Type 0) → IsErrAnd r (λ x. x ≡ e)

@@ -1,4 +1,5 @@
 // What is said to a person on standard error. Where it cannot be said nothing else changes.
+use crate::HELP;
 use std::alloc::Global;
 use std::io::{self, Stderr};
 use sv_cli::{Broken, Outcome, UsageKind, file_in, top_in};
@@ -126,23 +127,23 @@ fn say(person: Person, lines: Result<String, OutOfMemory>) {
     }
 }
 
-// The words that a command takes behind its name.
+// The words that a command takes behind its name, as its line of the help text has them.
 fn usage_of(command: &str) -> &'static str {
-    if command == "check" {
-        "FILE [--proof NAME] [--budget NUMBER] [--json] [--top MODULE]"
-    } else if command == "compare" {
-        "FILE A B --level POINT [--top MODULE]"
-    } else if command == "gen" {
-        "LANES [--check]"
-    } else if command == "verify" {
-        "FILE PROOF [--top MODULE]"
-    } else if command == "sim" {
-        "FILE [--level POINT] [--order NUMBER] [--top MODULE]"
-    } else if command == "cnf" {
-        "FILE NUMBER [--top MODULE]"
-    } else {
-        "FILE [--top MODULE]"
+    for line in HELP.lines() {
+        if let Some(words) = words_behind(line, command) {
+            return words;
+        }
     }
+    "[OPTIONS]"
+}
+
+// What a line of the help text has behind this command, up to what it says of it.
+fn words_behind(line: &'static str, command: &str) -> Option<&'static str> {
+    let words = line
+        .strip_prefix("  secv ")?
+        .strip_prefix(command)?
+        .strip_prefix(' ')?;
+    Some(words.split_once("  ").map_or(words, |(words, _)| words))
 }
 
 fn explain_usage(person: Person, words: &[String], kind: UsageKind) {
